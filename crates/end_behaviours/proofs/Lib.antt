@@ -4,3 +4,4 @@ pub mod StepLemmas
 pub mod FoundLemmas
 pub mod FromLemmas
 pub mod TreatmentLemmas
+pub mod LengthLemmas

@@ -25,7 +25,7 @@ cut-long a n xs within =
     let whole = length-append (take a xs) (drop (a + n) xs) in
     omega arith
 
-without-long : (p : Packet) (h : Header) → header_len ≤ h.place.at → h.place.at + length h.bytes ≤ header_len + length p.payload
+pub without-long : (p : Packet) (h : Header) → header_len ≤ h.place.at → h.place.at + length h.bytes ≤ header_len + length p.payload
     → length (without p h).payload + length h.bytes ≡ length p.payload
 without-long p h start within = elim (cases_Bool (is_first h.place)) [
   | inl first ↦ rw first (cut-long (h.place.at - header_len) (length h.bytes) p.payload (omega arith))

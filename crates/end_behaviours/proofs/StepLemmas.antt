@@ -138,7 +138,7 @@ step-rewritten old new at left destination alone behind small below is =
     lent-spells old new (moved p at m) alone (moved-spellable p at m (alone-spellable old alone) small below)
     (is ∙ move-written old at m alone behind) (length-set p.payload (at + 3 - 40) left)
 
-none-is : (left n : ℕ) → n ≡ left + 1 → (left == 0) ≡ (n == 1)
+pub none-is : (left n : ℕ) → n ≡ left + 1 → (left == 0) ≡ (n == 1)
 none-is left n is = elim (cases_Bool (left == 0)) [
   | inl none ↦ let zero = eqb-true left 0 none in none ∙ sym (eq-eqb n 1 (omega arith))
   | inr some ↦ let more = eqb-false left 0 some in some ∙ sym (ne_eqb n 1 (λ one. more (omega arith)))

@@ -8,8 +8,10 @@
 
 mod finding;
 mod headers;
+mod lengths;
 mod stepping;
 mod treatment;
 mod writing;
 
+pub use lengths::onward_len;
 pub use treatment::end_step;

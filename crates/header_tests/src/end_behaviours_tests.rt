@@ -5,7 +5,7 @@ ghost use Rattle.srv6_rules.specs.Behaviours.{goes_on};
 ghost use Rattle.srv6_rules.specs.CompressedSteps.{SuitsCompression};
 
 use crate::packets::is_whole;
-use end_behaviours::end_step;
+use end_behaviours::{end_step, onward_len};
 use endpoint_chain::EndOutcome;
 use pkt_buf::PktBuf;
 use srv6_rules::{Behaviour, Csid, Family, LinkSet, Reason, SidEntry};
@@ -167,7 +167,15 @@ fn step(
     let prefix = Prefix::new(address, 64).expect(rt, "a prefix");
     assert_eq!(rt; prefix.len(), 64);
     let sid = end(alloc, prefix, csid, flavours);
-    end_step(&sid, &[0x11], buf)
+    let len = onward_len(&sid, &[0x11], buf.view());
+    let outcome = end_step(&sid, &[0x11], buf);
+    // How long the packet that goes on would be was known before.
+    let wanted = match outcome {
+        EndOutcome::On => Some(buf.len()),
+        EndOutcome::Hand { .. } | EndOutcome::Local | EndOutcome::Drop { .. } => None,
+    };
+    assert_eq!(rt; len, wanted);
+    outcome
 }
 
 #[test]

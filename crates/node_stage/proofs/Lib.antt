@@ -1,3 +1,4 @@
+pub mod BindingLemmas
 pub mod ReadingLemmas
 pub mod ReadingLemmas4
 pub mod EndpointLemmas

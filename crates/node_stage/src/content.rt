@@ -69,14 +69,10 @@ impl Content {
     }
 
     /// Takes the content out without taking memory; what is left is no use.
-    pub(crate) fn take(&mut self) -> Content
+    pub(crate) fn take(&mut self, alloc: Global) -> Content
         ensures { result ≡ self.old }
     {
-        let empty = match &self.held {
-            Held::V6(packet) => packet.no_bytes(),
-            Held::V4(packet) => packet.no_bytes(),
-            Held::Unreadable(bytes, _) => bytes.no_bytes(),
-        };
+        let empty = PktBuf::of(Vec::new(alloc));
         mem::replace(self, Content::unreadable(empty, Reason::Truncated))
     }
 

@@ -1,36 +1,35 @@
 //! A packet at the node's own address and at its SIDs.
 
-ghost use Rattle.std.specs.Prelude.{◌≡◌, ℕ, true, false, ◌<◌, List, Some, None, length, slice_get};
-ghost use Rattle.srv6_rules.specs.Behaviours.{behaviour_policy, goes_on};
+ghost use Rattle.std.specs.Prelude.{◌≡◌, ℕ, true, false, ◌<◌, ◌≤◌, ◌-◌, List, Some, None, length, slice_get};
+ghost use Rattle.srv6_rules.specs.Behaviours.{behaviour_policy, behaviour_reduces, goes_on};
 ghost use Rattle.srv6_rules.specs.CompressedSteps.{SuitsCompression, is_next};
 ghost use Rattle.srv6_rules.specs.Endpoint.{at_address, at_sid};
-ghost use Rattle.srv6_rules.specs.Packet.{V6, content_of, packet_at};
-ghost use Rattle.srv6_rules.specs.Policies.{IsPolicy};
+ghost use Rattle.srv6_rules.specs.Packet.{Packet as PacketValue, V6, content_of, packet_at};
+ghost use Rattle.srv6_rules.specs.Encapsulation.{header_bytes};
+ghost use Rattle.srv6_rules.specs.declared.sid.Family.TheVariants.{V6 as V6Family};
+ghost use Rattle.srv6_rules.specs.Policies.{IsPolicy, Outer, pushed_by};
 ghost use Rattle.net_model.specs.Network.{Network};
 ghost use Rattle.net_model.specs.declared.parts.NamedPolicy.{NamedPolicy};
-ghost use Rattle.walk_rules.specs.Treatment.{goes, onward_from, treated_at_address, treated_at_sid, treated_in};
+ghost use Rattle.walk_rules.specs.Treatment.{dropped, goes, onward_from, treated_at_address, treated_at_sid, treated_in};
 ghost use Rattle.walk_rules.specs.declared.place.Outcome.TheVariants.{Again};
 ghost use Rattle.endpoint_chain.specs.declared.outcome.EndOutcome.TheVariants.{On};
 ghost use Rattle.endpoint_chain.specs.Outcomes.{ComesOf, HoldsAlone};
-ghost use Rattle.node_stage.specs.Staging.{Stages, gave_of};
+ghost use Rattle.policy_encap.specs.Answers.{Makes};
+ghost use Rattle.node_stage.specs.Staging.{IsBigAfter, Stages, gave_of};
 
 use crate::content::Content;
 use crate::packet::Packet;
 use crate::staged::{Staged, dropped_for, refused};
+use base::NoMemory;
 use decap_behaviours::decap_step;
-use end_behaviours::end_step;
+use end_behaviours::{end_step, onward_len};
 use endpoint_chain::{EndOutcome, fault_at_address};
 use net_model::Net;
 use pkt_buf::PktBuf;
-use policy_encap::{PushFault, push};
+use policy_encap::{MAX_FRONT, is_too_big, push};
+use srv6_rules::numbers::MAX_PACKET_LEN;
 use srv6_rules::{Family, Policy, Reason, SidEntry};
-use std::alloc::Global;
 use walk_rules::{Outcome, exposed_from, onward_from};
-
-/// The longest header that a policy puts in front of a packet, in bytes: an IPv6 header of 40, and a
-/// segment routing header of 8 and 127 entries of 16 (RFC 8200 section 3, RFC 8754 section 2; that a
-/// policy has at most 127 segments is an own rule).
-const MAX_OUTER_LEN: usize = 2080;
 
 /// At the node's own address.
 pub(crate) fn treated_at_address(packet: Packet) -> Staged
@@ -125,12 +124,90 @@ fn treated_at_sid(sid: u32, entry: &SidEntry, allow: &[u8], packet: Packet) -> S
     given(sid, entry, outcome, bytes)
 }
 
+/// Whether a policy's header would make the packet in these bytes too long after the step of a SID
+/// that binds the policy; known before anything is written.
+fn is_too_big_after(entry: &SidEntry, policy: &Policy, allow: &[u8], bytes: &[u8]) -> bool
+    requires goes_on { goes_on entry.now ≡ true }
+    requires suits { SuitsCompression entry.now }
+    requires policy { IsPolicy policy.now }
+    requires packet { HoldsAlone bytes.now }
+    ensures { IsBigAfter (at_sid entry.now allow.now (packet_at bytes.now)) policy.now
+        (behaviour_reduces entry.now.behaviour) result }
+{
+    match onward_len(entry, allow, bytes) {
+        Some(len) => is_too_big(policy, entry.behaviour.reduces(), len),
+        None => false,
+    }
+}
+
+/// Puts a policy's header in front of an IPv6 packet's bytes, for which there is room and which it does
+/// not make too long; so it takes no memory.
+fn push_in_room(policy: &Policy, reduced: bool, bytes: &mut PktBuf)
+    requires policy { IsPolicy policy.now }
+    requires packet { length bytes.old.bytes ≤ MAX_PACKET_LEN }
+    requires room { MAX_FRONT ≤ bytes.old.front }
+    requires fits { (outer : PacketValue)
+        × (pushed_by policy.now reduced V6Family bytes.old.bytes ≡ Outer outer) }
+    ensures packet { Makes (pushed_by policy.now reduced V6Family bytes.old.bytes) bytes.new.bytes }
+    ensures front { bytes.new.front
+        ≡ bytes.old.front - header_bytes reduced (length policy.now.segments) }
+{
+    match push(policy, reduced, Family::V6, bytes) {
+        Ok(()) => {}
+        Err(_) => unreachable!(),
+    }
+}
+
+/// A packet is dropped as it came, since a policy's header would make it too long.
+fn too_big(packet: Packet) -> Staged
+    ensures { (net : Network) (node : ℕ)
+        → gave_of net node result ≡ dropped net node Reason.TooBig 0 (V6 packet) }
+{
+    dropped_for(Reason::TooBig, Content::of(packet))
+}
+
+/// At a SID with a number that binds a policy, in bytes with room for the policy's header, which does
+/// not make the packet too long after the SID's step.
+fn bound_in_room(
+    sid: u32,
+    entry: &SidEntry,
+    policy: &Policy,
+    allow: &[u8],
+    mut bytes: PktBuf,
+) -> Staged
+    requires goes_on { goes_on entry.now ≡ true }
+    requires suits { SuitsCompression entry.now }
+    requires policy { IsPolicy policy.now }
+    requires packet { HoldsAlone bytes.bytes }
+    requires room { MAX_FRONT ≤ bytes.front }
+    requires fits { IsBigAfter (at_sid entry.now allow.now (packet_at bytes.bytes)) policy.now
+        (behaviour_reduces entry.now.behaviour) false }
+    ensures { (net : Network) (node number : ℕ) (named : NamedPolicy)
+        → behaviour_policy entry.now.behaviour ≡ Some number
+        → slice_get net.policies number ≡ Some named → policy.now ≡ named.policy
+        → gave_of net node result
+        ≡ treated_at_sid net node sid entry.now.behaviour (packet_at bytes.bytes)
+        (at_sid entry.now allow.now (packet_at bytes.bytes)) }
+{
+    let outcome = end_step(entry, allow, &mut bytes);
+    match outcome {
+        EndOutcome::On => {
+            push_in_room(policy, entry.behaviour.reduces(), &mut bytes);
+            again(sid, entry, bytes)
+        }
+        EndOutcome::Hand { .. } | EndOutcome::Local | EndOutcome::Drop { .. } => {
+            given(sid, entry, outcome, bytes)
+        }
+    }
+}
+
 /// At a SID with a number that binds a policy: after the SID's own step the policy's header is put in
 /// front, in the form of the SID's behaviour, and a packet for which it would be too long is dropped
-/// as it came (RFC 8986 sections 4.13 and 4.14). The packet is worked on in a copy with room for the
-/// header; for want of memory it is given back.
+/// as it came (RFC 8986 sections 4.13 and 4.14). All is done in the packet's own bytes: that the header
+/// would be too long is known before the step, and room in front of the packet is made before it. For
+/// want of memory, which comes only where there is less room than the longest header has, the packet
+/// is given back as it was.
 fn bound_at_sid(
-    alloc: Global,
     sid: u32,
     entry: &SidEntry,
     policy: &Policy,
@@ -147,31 +224,18 @@ fn bound_at_sid(
         (treated_at_sid net node sid entry.now.behaviour packet
         (at_sid entry.now allow.now packet)) }
 {
-    packet.keeps_rules();
-    let Ok(mut bytes) = PktBuf::new(alloc, MAX_OUTER_LEN, packet.bytes()) else {
-        return Err(Content::of(packet));
-    };
-    let outcome = end_step(entry, allow, &mut bytes);
-    match outcome {
-        EndOutcome::On => match push(policy, entry.behaviour.reduces(), Family::V6, &mut bytes) {
-            Ok(()) => Ok(again(sid, entry, bytes)),
-            Err(PushFault::TooBig { .. }) => Ok(dropped_for(Reason::TooBig, Content::of(packet))),
-            Err(PushFault::NoMemory) => Err(Content::of(packet)),
-        },
-        EndOutcome::Hand { .. } | EndOutcome::Local | EndOutcome::Drop { .. } => {
-            Ok(given(sid, entry, outcome, bytes))
-        }
+    if is_too_big_after(entry, policy, allow, packet.bytes()) {
+        return Ok(too_big(packet));
+    }
+    let mut bytes = packet.into_bytes();
+    match bytes.reserve_front(MAX_FRONT) {
+        Ok(()) => Ok(bound_in_room(sid, entry, policy, allow, bytes)),
+        Err(NoMemory) => Err(Content::of(Packet::alone(bytes))),
     }
 }
 
 /// At a SID of a node of the network.
-pub(crate) fn treated_in(
-    alloc: Global,
-    net: &Net,
-    node: u32,
-    sid: u32,
-    packet: Packet,
-) -> Result<Staged, Content>
+pub(crate) fn treated_in(net: &Net, node: u32, sid: u32, packet: Packet) -> Result<Staged, Content>
     requires node { node < length net.now.nodes }
     requires sid { sid < length net.now.sids }
     ensures { Stages net.now node (V6 packet) result
@@ -181,7 +245,7 @@ pub(crate) fn treated_in(
     let entry = net.sid(sid);
     let allow = net.node(node).allow.as_slice();
     match entry.behaviour.policy() {
-        Some(policy) => { bound_at_sid(alloc, sid, entry, net.policy(policy), allow, packet) }
+        Some(policy) => { bound_at_sid(sid, entry, net.policy(policy), allow, packet) }
         None => Ok(treated_at_sid(sid, entry, allow, packet)),
     }
 }

@@ -40,6 +40,14 @@ impl Packet {
         Packet { bytes }
     }
 
+    /// The packet in bytes that hold it alone.
+    pub(crate) fn alone(bytes: PktBuf) -> Packet
+        requires { HoldsAlone bytes.bytes }
+        ensures { result ≡ packet_at bytes.bytes }
+    {
+        Packet { bytes }
+    }
+
     /// The packet as a view of its bytes.
     pub(crate) fn view(&self) -> Ip6View<'_>
         ensures { result ≡ self.now }
@@ -93,11 +101,6 @@ impl Packet {
         Ok(Packet {
             bytes: PktBuf::of(bytes),
         })
-    }
-
-    /// No bytes, of the same allocator; takes no memory.
-    pub(crate) fn no_bytes(&self) -> PktBuf {
-        self.bytes.no_bytes()
     }
 
     /// The fields fit their widths, so that bytes can spell the packet. For the callers' proofs.

@@ -94,11 +94,6 @@ impl Packet4 {
         })
     }
 
-    /// No bytes, of the same allocator; takes no memory.
-    pub(crate) fn no_bytes(&self) -> PktBuf {
-        self.bytes.no_bytes()
-    }
-
     /// Bytes can spell the packet: its header is as long as it states, and states the packet's
     /// length. For the callers' proofs.
     pub(crate) fn keeps_rules(&self)

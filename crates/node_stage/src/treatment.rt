@@ -26,7 +26,6 @@ use walk_rules::{Outcome, Place, Way, way_of};
 
 /// An IPv6 packet on a way.
 fn treated(
-    alloc: Global,
     net: &Net,
     node: u32,
     way: Way<'_>,
@@ -42,7 +41,7 @@ fn treated(
         Way::Away { reason } => Ok(dropped_for(reason, Content::of(packet))),
         Way::Over { links, lower } => Ok(sent(net, links, lower, packet, choice)),
         Way::Own => Ok(treated_at_address(packet)),
-        Way::Into { sid } => treated_in(alloc, net, node, sid, packet),
+        Way::Into { sid } => treated_in(net, node, sid, packet),
     }
 }
 
@@ -61,13 +60,7 @@ fn treated4(net: &Net, node: u32, way: Way<'_>, packet: Packet4, choice: u32) ->
 }
 
 /// What stands at a place, treated; for want of memory it is given back.
-fn treat(
-    alloc: Global,
-    net: &Net,
-    place: &Place,
-    content: Content,
-    choice: u32,
-) -> Result<Staged, Content>
+fn treat(net: &Net, place: &Place, content: Content, choice: u32) -> Result<Staged, Content>
     requires { IsPlace net.now place.now }
     ensures { Stages net.now place.now.node content result
         (step_of net.now place.now content choice) }
@@ -75,7 +68,7 @@ fn treat(
     match content.held {
         Held::V6(packet) => {
             let way = way_of(net, place, packet.destination());
-            treated(alloc, net, place.node, way, packet, choice)
+            treated(net, place.node, way, packet, choice)
         }
         Held::V4(packet) => {
             let way = way_of(net, place, packet.destination());
@@ -88,22 +81,22 @@ fn treat(
     }
 }
 
-/// What a stage gives, with the error about what it drops in an empty slot; for want of memory what
-/// stands there is given back.
+/// What a stage gives, with the error about what it drops in the slot, whose bytes go; for want of
+/// memory what stands there is given back, and the slot stays.
 fn told(
-    alloc: Global,
     net: &Net,
     place: &Place,
     content: Content,
     choice: u32,
     slot: &mut IcmpSlot,
 ) -> Result<Told, Content>
-    requires place { IsPlace net.now place.now }
-    requires empty { slot.old.items ≡ [] }
-    ensures { TellsOrKeeps content result slot.new.items
+    requires { IsPlace net.now place.now }
+    ensures { TellsOrKeeps content slot.old.items result slot.new.items
         (step_of net.now place.now content choice) }
 {
-    match treat(alloc, net, place, content, choice)? {
+    let staged = treat(net, place, content, choice)?;
+    slot.clear();
+    match staged {
         Staged::Goes { outcome, after } => Ok(Told { outcome, after }),
         Staged::Drops {
             reason,
@@ -119,8 +112,9 @@ fn told(
 /// set at `choice` modulo the number of members. The slot holds the ICMPv6 error that the node sends about what it drops, from
 /// its own address, exactly where the outcome says so, and else nothing; what it held is gone. The
 /// error's pointer counts in bytes from the first of the packet as it was (RFC 4443 section 3). By
-/// its code, and by no clause, it takes memory only at a SID that binds a policy. `NoMemory` leaves
-/// what stands there as it was.
+/// its code, and by no clause, it takes memory only at a SID that binds a policy, for a packet with
+/// fewer bytes spare in front than the longest header of a policy has. `NoMemory` leaves what stands
+/// there as it was, and the slot too.
 pub fn stage(
     alloc: Global,
     net: &Net,
@@ -147,11 +141,10 @@ pub fn stage(
     ensures next { IfOk result (λ outcome.
         IfSome (next_place net.now place.now outcome) (IsPlace net.now)) }
     ensures kept { OnErr result (content.new ≡ content.old) }
-    ensures empty { OnErr result (error.new.items ≡ []) }
+    ensures last { OnErr result (error.new.items ≡ error.old.items) }
 {
     net.keeps_rules();
-    error.clear();
-    match told(alloc, net, place, content.take(), choice, error) {
+    match told(net, place, content.take(alloc), choice, error) {
         Ok(Told { outcome, after }) => {
             *content = after;
             Ok(outcome)

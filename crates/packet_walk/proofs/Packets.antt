@@ -173,7 +173,7 @@ module _ (number : ℕ) (f : Flight) (q : InFlight) (given : IsGiven f number) (
   abbrev left : List ℕ → InFlight → Flight
   left slot new = record { net = f.net; error = slot; packets = slice_set f.packets (number - 1) new }
 
-  left-stage : (result : Result Outcome NoMemory) (new : InFlight) (slot : List ℕ) → StagesAs f.net q result new slot
+  left-stage : (result : Result Outcome NoMemory) (new : InFlight) (slot : List ℕ) → StagesAs f.net q f.error result new slot
       → StagesIn number f q result (left slot new)
   left-stage (Ok outcome) new slot h = (
     h.0,
@@ -185,10 +185,11 @@ module _ (number : ℕ) (f : Flight) (q : InFlight) (given : IsGiven f number) (
   )
   left-stage (Err why) new slot h =
       ap (λ (e : List ℕ). left e new) h.1
-      ∙ (ap (left []) h.0
-      ∙ ap (λ (packets : List InFlight). record { net = f.net; error = []; packets = packets }) (place-same f.packets (number - 1) q is))
+      ∙ (ap (left f.error) h.0
+      ∙ ap (λ (packets : List InFlight). record { net = f.net; error = f.error; packets = packets })
+      (place-same f.packets (number - 1) q is))
 
-  pub stages-in : (result : Result Outcome NoMemory) (new : InFlight) (slot : List ℕ) → StagesAs f.net q result new slot
+  pub stages-in : (result : Result Outcome NoMemory) (new : InFlight) (slot : List ℕ) → StagesAs f.net q f.error result new slot
       → IfSome (packet_of f number) (λ p. StagesIn number f p result (left slot new))
   stages-in result new slot h =
       let there : packet_of f number ≡ Some q = place-packet f.packets number q given.first given.last is in

@@ -103,10 +103,6 @@ turned number f = turned_by number f (packet_of f number)
 abbrev pub entered : Flight → InFlight → Flight
 entered f p = record { net = f.net; error = f.error; packets = f.packets ++ p ∷ [] }
 
--- a flight without the last error
-abbrev pub without_error : Flight → Flight
-without_error f = record { net = f.net; error = []; packets = f.packets }
-
 -- the number is one that was given
 pub record IsGiven (f : Flight) (number : ℕ) : Type 0 where
   pub first : 1 ≤ number
@@ -124,14 +120,14 @@ Enters old p (Err why) new = new ≡ old
 -- what the next stage of the packet of a number answers and leaves
 abbrev pub StagesIn : ℕ → Flight → InFlight → Result Outcome NoMemory → Flight → Type 0
 StagesIn number old p (Ok outcome) new = (outcome ≡ (stage_in old.net p).gave.outcome) × (new ≡ after_stage number old p)
-StagesIn number old p (Err why) new = new ≡ without_error old
+StagesIn number old p (Err why) new = new ≡ old
 
 -- what a turn of a packet answers and leaves
 abbrev pub Turns : ℕ → Flight → InFlight → Result (Option Event) NoMemory → Flight → Type 0
 Turns number old p (Ok None) new = IsSome p.ended × (new ≡ old)
 Turns number old p (Ok (Some event)) new =
     (p.ended ≡ None) × (event ≡ event_of number (stage_in old.net p)) × (new ≡ after_stage number old p)
-Turns number old p (Err why) new = (p.ended ≡ None) × (new ≡ without_error old)
+Turns number old p (Err why) new = (p.ended ≡ None) × (new ≡ old)
 
 -- what is so of a packet's counts: it has choices, at most as many decisions as stages, and no more stages than it may have; one
 -- that has not ended has stages left
@@ -157,8 +153,8 @@ abbrev pub packet_value : Content → Place → List ℕ → ℕ → ℕ → Opt
 packet_value content place choices decisions stages ended =
     record { content = content; place = place; choices = choices; decisions = decisions; stages = stages; ended = ended }
 
--- what the next stage of a packet answers and leaves, of the packet and in the slot
-abbrev pub StagesAs : Network → InFlight → Result Outcome NoMemory → InFlight → List ℕ → Type 0
-StagesAs net old (Ok outcome) new slot =
+-- what the next stage of a packet answers and leaves, of the packet and in the slot with what it held
+abbrev pub StagesAs : Network → InFlight → List ℕ → Result Outcome NoMemory → InFlight → List ℕ → Type 0
+StagesAs net old held (Ok outcome) new slot =
     let s = stage_in net old in (outcome ≡ s.gave.outcome) × (new ≡ staged net old) × (slot ≡ error_bytes s.gave.error)
-StagesAs net old (Err why) new slot = (new ≡ old) × (slot ≡ [])
+StagesAs net old held (Err why) new slot = (new ≡ old) × (slot ≡ held)

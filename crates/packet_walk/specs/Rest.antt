@@ -6,7 +6,7 @@ use Rattle.walk_rules.specs.declared.place.Ended.{Ended}
 use Rattle.walk_rules.specs.declared.place.Place.{Place}
 use Rattle.walk_rules.specs.Walk.{Stage, walk_of, choice_at, end_of}
 use Rattle.walk_rules.specs.declared.limits.TheConstants.{MAX_STAGES}
-use Rattle.packet_walk.specs.Flight.{InFlight, Flight, stage_in, packet_of, turned, entered, without_error}
+use Rattle.packet_walk.specs.Flight.{InFlight, Flight, stage_in, packet_of, turned, entered}
 
 -- where a packet goes on, if it has not ended
 abbrev pub place_where : Place → Option Ended → Option Place
@@ -80,15 +80,15 @@ pub record HasTurned (number : ℕ) (old new : Flight) : Type 0 where
   pub few : times ≤ MAX_STAGES
   pub is : new ≡ turned_times number times old
 
--- a flight is so but for the last error, which is gone, and the packet is in flight yet
+-- a flight is so, and the packet is in flight yet
 pub record HasWanted (number : ℕ) (old new : Flight) : Type 0 where
   pub before : Flight
   pub turns : HasTurned number old before
   pub going : IfSome (packet_of before number) (λ q. q.ended ≡ None)
-  pub is : new ≡ without_error before
+  pub is : new ≡ before
 
 -- what walking a packet to its end answers and leaves: all is as after so many turns that it has ended; for want of memory, the
--- turns before that stand, and there is no last error
+-- turns before that stand
 abbrev pub Walks : ℕ → Flight → InFlight → Result Ended NoMemory → Flight → Type 0
 Walks number old p (Ok end) new =
     (end ≡ end_from old.net p) × HasTurned number old new × IfSome (packet_of new number) (λ q. q.ended ≡ Some end)

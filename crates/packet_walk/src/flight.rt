@@ -127,8 +127,7 @@ impl<'a> Flight<'a> {
 
     /// The next stage of a packet, unless it has ended: then there is none, and nothing changes (own
     /// rule). A stage changes this packet and the last error alone. `NoMemory`, which by the code
-    /// of stages, and by no clause, comes only at a SID that binds a policy, leaves all packets as they
-    /// were, and no last error.
+    /// of stages, and by no clause, comes only at a SID that binds a policy, leaves the flight as it was.
     pub fn turn(&mut self, number: u32) -> Result<Option<Event>, NoMemory>
         requires { IsGiven self.old number }
         ensures { IfSome (packet_of self.old number) (λ p.
@@ -172,7 +171,8 @@ impl<'a> Flight<'a> {
     }
 
     /// Takes a packet to its end, which is that of its walk of at most 10,000 stages, and gives it;
-    /// where it has ended nothing changes. After `NoMemory` the turns before it stand (own rule).
+    /// where it has ended nothing changes. After `NoMemory` the turns before it stand, and the last error is
+    /// that of the last of them (own rule).
     pub fn walk(&mut self, number: u32) -> Result<Ended, NoMemory>
         requires { IsGiven self.old number }
         ensures { IfSome (packet_of self.old number) (λ p.

@@ -151,7 +151,7 @@ impl<'a> InFlight<'a> {
     }
 
     /// The next stage of a packet that has not ended; the slot has the ICMPv6 error about what it
-    /// drops. `NoMemory` leaves the packet as it was.
+    /// drops. `NoMemory` leaves the packet and the slot as they were.
     pub(crate) fn take_stage(
         &mut self,
         alloc: Global,
@@ -160,7 +160,7 @@ impl<'a> InFlight<'a> {
     ) -> Result<Outcome, NoMemory>
         requires place { IsPlace net.now self.old.place }
         requires going { self.old.ended ≡ None }
-        ensures stage { StagesAs net.now self.old result self.new error.new.items }
+        ensures stage { StagesAs net.now self.old error.old.items result self.new error.new.items }
         ensures place { IsPlace net.now self.new.place }
     {
         let choice = self.choice();

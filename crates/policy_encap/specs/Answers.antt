@@ -1,5 +1,5 @@
 -- What is answered where a policy's header is put in front of a packet, by what comes of it.
-use Rattle.std.specs.Prelude.{◌≡◌, ℕ, List, Option, Some, None, Result, Ok, Err}
+use Rattle.std.specs.Prelude.{◌≡◌, ℕ, Bool, if◌then◌else◌, List, length, Option, Some, None, Result, Ok, Err}
 use Rattle.srv6_rules.specs.Packet.{Packet, Spells}
 use Rattle.srv6_rules.specs.Policies.{Encapsulating, Outer, TooBig, InnerHop}
 use Rattle.policy_encap.specs.declared.faults.PushFault.{PushFault}
@@ -41,3 +41,7 @@ IsFaultOf wanted None = (p : Packet) × (wanted ≡ Outer p)
 IsFaultOf wanted (Some encapsulating.InnerHop) = wanted ≡ InnerHop
 IsFaultOf wanted (Some (encapsulating.TooBig length)) = wanted ≡ TooBig length
 IsFaultOf wanted (Some encapsulating.NoMemory) = ⊥
+
+-- what comes of it by whether the outer packet's payload is too long
+abbrev pub judged_by : Bool → Packet → Encapsulating
+judged_by big outer = if big then TooBig (length outer.payload) else Outer outer

@@ -1,9 +1,10 @@
 //! Headers of policies put in front of packets (RFC 8986 sections 4.13, 4.14, 5.1 and 5.2).
 
-ghost use Rattle.std.specs.Prelude.{◌≡◌, ◌-◌, ◌<◌, ◌≤◌, length, IfErr, OnErr, OnOk};
+ghost use Rattle.std.specs.Prelude.{◌≡◌, ◌-◌, ◌<◌, ◌≤◌, ℕ, List, nat_lt, length, IfErr, OnErr, OnOk};
 ghost use Rattle.srv6_rules.specs.Encapsulation.{header_bytes};
-ghost use Rattle.srv6_rules.specs.Policies.{IsPolicy, pushed_by, encapsulated_by};
-ghost use Rattle.policy_encap.specs.Answers.{IsPushed, IsEncapsulated, IsFaultOf};
+ghost use Rattle.srv6_rules.specs.Policies.{IsPolicy, most_payload, outer_by, pushed_by, encapsulated_by};
+ghost use Rattle.srv6_rules.specs.declared.sid.Family.{Family as FamilyValue};
+ghost use Rattle.policy_encap.specs.Answers.{IsPushed, IsEncapsulated, IsFaultOf, judged_by};
 ghost use Rattle.policy_encap.specs.Inner.{HoldsInner};
 ghost use Rattle.policy_encap.specs.declared.faults.PushFault.TheVariants as pushing;
 ghost use Rattle.policy_encap.specs.declared.faults.EncapFault.TheVariants as encapsulating;
@@ -51,6 +52,25 @@ pub fn push(
     outer_fits(policy);
     bytes_fit(buf.view());
     Ok(())
+}
+
+/// Whether a payload length is more than a header can state.
+fn passes_most(len: usize) -> bool
+    ensures { result ≡ nat_lt most_payload len }
+{
+    len > MAX_PAYLOAD_LEN
+}
+
+/// Whether `push` would answer `TooBig` for a packet of so many bytes: the outer packet's payload would
+/// pass 65,535 bytes. No memory is taken (RFC 8986 sections 4.13 and 4.14).
+pub fn is_too_big(policy: &Policy, reduced: bool, len: usize) -> bool
+    requires policy { IsPolicy policy.now }
+    requires packet { len ≤ MAX_PACKET_LEN }
+    ensures { (inner : FamilyValue) (bytes : List ℕ) → length bytes ≡ len
+        → pushed_by policy.now reduced inner bytes
+        ≡ judged_by result (outer_by policy.now reduced inner bytes) }
+{
+    passes_most(payload_len(policy, reduced, len))
 }
 
 /// Why `encap` would answer a fault of the packet of a family that bytes hold, if it would: `InnerHop`

@@ -10,6 +10,6 @@ mod faults;
 mod headers;
 mod inner;
 
-pub use encapsulation::{encap, encap_fault, push};
+pub use encapsulation::{encap, encap_fault, is_too_big, push};
 pub use faults::{EncapFault, PushFault};
 pub use headers::MAX_FRONT;

@@ -88,7 +88,7 @@ pub(crate) fn write_sent<O: Sink>(
 }
 
 /// One stage, of which what it sends can be written; the slot has the error about what it drops.
-/// `NoMemory` leaves what stands there as it was, and the slot empty. (own rule)
+/// `NoMemory` leaves what stands there as it was, and the slot too. (own rule)
 pub fn staged(
     alloc: Global,
     net: &Net,
@@ -111,7 +111,7 @@ pub fn staged(
     ensures ends { IfOk result (λ outcome. IsEnd net.now (end_by net.now place.now outcome)) }
     ensures numbered { IfOk result (IsNumbered net.now) }
     ensures kept { OnErr result (content.new ≡ content.old) }
-    ensures empty { OnErr result (error.new.items ≡ []) }
+    ensures last { OnErr result (error.new.items ≡ error.old.items) }
 {
     net.keeps_rules();
     an_outcome_names_what_is_there();

@@ -1,31 +1,56 @@
-use Rattle.std.proofs.Common.{◌≡◌, ℕ, Bool, List, ap, subst, ◌∙◌, arith}
+use Rattle.std.proofs.Common.{◌≡◌, ◌∙◌, Bool, true, false, ap, sym, subst}
 use Rattle.pkt_buf.specs.BufferView.{Buffer}
-use Rattle.srv6_rules.specs.declared.sid.Family.TheVariants as families
+use Rattle.srv6_rules.specs.Behaviours.{behaviour_reduces}
 use Rattle.srv6_rules.specs.Endpoint.{at_sid}
-use Rattle.srv6_rules.specs.Packet.{Packet, packet_at}
-use Rattle.srv6_rules.specs.Policies.{pushed_by}
-use Rattle.policy_encap.specs.Answers.{Makes}
+use Rattle.srv6_rules.specs.Packet.{Packet, V6, packet_at}
 use Rattle.walk_rules.specs.Treatment.{treated_at_sid}
-use Rattle.endpoint_chain.proofs.PublicLaws.{alone-most}
-use Rattle.node_stage.specs.Staging.{gave_of}
-use Rattle.node_stage.proofs.EndpointLemmas.{pushed-on, spells-most}
+use Rattle.endpoint_chain.specs.Outcomes.{HoldsAlone}
+use Rattle.node_stage.specs.Staging.{IsBigAfter, gave_of}
+use Rattle.node_stage.proofs.BindingLemmas.{dropped-big}
 use Rattle.node_stage.proofs.endpoint.bound_at_sid.Goals as goal
 
-pub new-requires : goal.new-requires
-new-requires c = let most = alone-most c.bytes.result.now c.bytes.ensures.alone in omega arith
-
-pub push-requires-clause-packet : goal.push-requires-clause-packet
-push-requires-clause-packet c = spells-most c.end_step-outcome.new.buf.bytes c.in-On.ensures.outcome.packet c.in-On.ensures.outcome.spelled
-
-pub returns-in-Ok-push : goal.returns-in-Ok-push
-returns-in-Ok-push c = λ net node number named binds there is.
+pub returns-then-is_too_big_after : goal.returns-then-is_too_big_after
+returns-then-is_too_big_after c = λ net node number named binds there is.
     let s = c.args.entry.now in
     let allow = c.args.allow.now in
-    let old : List ℕ = c.in-Ok.bytes.bytes in
-    let mid : List ℕ = c.end_step-outcome.new.buf.bytes in
-    let gave = gave_of net node c.again.result in
-    let P : Bool → Type 0 = λ b. Makes (pushed_by c.args.policy.now b families.V6 mid) c.push.new.buf.bytes in
-    let same : packet_at old ≡ c.args.packet = ap (λ (b : Buffer). packet_at b.bytes) c.in-Ok.ensures ∙ c.bytes.ensures.packet in
+    let policy = c.args.policy.now in
+    let P : Bool → Type 0 =
+    λ b. IsBigAfter (at_sid s allow (packet_at c.bytes.result.now)) policy (behaviour_reduces s.behaviour) b in
+    let Q : Packet → Type 0 = λ p. IsBigAfter (at_sid s allow p) policy (behaviour_reduces s.behaviour) true in
+    let big = subst Q c.bytes.ensures.packet (subst P c.if-is_too_big_after.true c.is_too_big_after.ensures) in
+    c.too_big.ensures net node ∙ dropped-big net node c.args.sid s allow c.args.packet number named policy binds there is big
+
+pub bound_in_room-requires-clause-packet : goal.bound_in_room-requires-clause-packet
+bound_in_room-requires-clause-packet c = subst HoldsAlone (sym c.in-Ok.ensures.bytes) c.into_bytes-bytes.ensures.alone
+
+pub bound_in_room-requires-clause-fits : goal.bound_in_room-requires-clause-fits
+bound_in_room-requires-clause-fits c =
+    let s = c.args.entry.now in
+    let allow = c.args.allow.now in
+    let policy = c.args.policy.now in
+    let P : Bool → Type 0 =
+    λ b. IsBigAfter (at_sid s allow (packet_at c.bytes.result.now)) policy (behaviour_reduces s.behaviour) b in
+    let Q : Packet → Type 0 = λ p. IsBigAfter (at_sid s allow p) policy (behaviour_reduces s.behaviour) false in
+    let same : packet_at c.reserve_front.new.self.bytes ≡ c.args.packet =
+    ap packet_at c.in-Ok.ensures.bytes ∙ c.into_bytes-bytes.ensures.packet in
+    subst Q (sym same) (subst Q c.bytes.ensures.packet (subst P c.if-is_too_big_after.false c.is_too_big_after.ensures))
+
+pub alone-requires : goal.alone-requires
+alone-requires c =
+    subst (λ (b : Buffer). HoldsAlone b.bytes) (sym c.in-Err.ensures.err) c.into_bytes-bytes.ensures.alone
+
+pub returns-in-Ok : goal.returns-in-Ok
+returns-in-Ok c = λ net node number named binds there is.
+    let s = c.args.entry.now in
+    let allow = c.args.allow.now in
+    let gave = gave_of net node c.bound_in_room.result in
+    let same : packet_at c.reserve_front.new.self.bytes ≡ c.args.packet =
+    ap packet_at c.in-Ok.ensures.bytes ∙ c.into_bytes-bytes.ensures.packet in
     subst (λ (p : Packet). gave ≡ treated_at_sid net node c.args.sid s.behaviour p (at_sid s allow p)) same
-    (pushed-on net node c.args.sid s allow old number named c.args.policy.now binds there is mid c.in-On.ensures.outcome gave
-    c.push.new.buf.bytes (c.again.ensures net node) (subst P c.reduces.ensures c.in-Ok-push.ensures.answer))
+    (c.bound_in_room.ensures net node number named binds there is)
+
+pub returns-in-Err : goal.returns-in-Err
+returns-in-Err c = λ net node number named binds there is.
+    c.of.ensures
+    ∙ ap V6
+    (c.alone.ensures ∙ ap (λ (b : Buffer). packet_at b.bytes) c.in-Err.ensures.err ∙ c.into_bytes-bytes.ensures.packet)

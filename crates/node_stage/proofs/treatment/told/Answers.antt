@@ -10,4 +10,4 @@ returns-in-Drops c =
     let node = c.args.place.now.node in
     let from = drops_from net node c.node.result.now c.in-Drops.reason c.in-Drops.detail c.in-Drops.content c.node.ensures in
     let drops = sym (ap (λ (s : Staged). gave_of net node s) c.in-Drops.is) in
-    tells_same c.dropped.result c.dropped.new.slot.items _ _ (from ∙ drops ∙ c.in_ok-outcome.ensures) c.dropped.ensures
+    tells_same c.dropped.result c.dropped.new.slot.items _ _ (from ∙ drops ∙ c.in_ok-staged.ensures) c.dropped.ensures
