@@ -6,6 +6,6 @@ unreachable-requires c =
     let room = header-fits c.args.policy.now c.args.reduced c.args.bytes.now.front c.requires.policy c.requires.room in
     never-refused _ _ _ _ _ _ room c.requires.fits c.in-Err.ensures.answer c.in-Err.ensures.memory
 
-pub returns-in-Ok-clause-front : goal.returns-in-Ok-clause-front
-returns-in-Ok-clause-front c =
+pub returns-clause-front : goal.returns-clause-front
+returns-clause-front c =
     c.in-Ok.ensures.front (header-fits c.args.policy.now c.args.reduced c.args.bytes.now.front c.requires.policy c.requires.room)
