@@ -208,7 +208,7 @@ def head_changed(draw, text, kind, others):
 
 
 def sid_added(draw, text, kind, others):
-    """One more SID: at a prefix of the text, or one that is longer or shorter, or with nothing behind a block; the text stays TOML."""
+    """One more SID: at a prefix of the text, or one that is longer or shorter, or with nothing after a block; the text stays TOML."""
     places = list(PREFIX_IN_TEXT.finditer(text))
     names = re.findall(rb'(?m)^node = "([^"\n]*)"$', text)
     if not places or not names:
@@ -311,7 +311,7 @@ def filled(draw, text, kind):
 
 
 def full_of_frames(draw, text, kind):
-    """As many frames as a capture may have, none with a byte, and what stands behind them."""
+    """As many frames as a capture may have, none with a byte, and what follows them."""
     head = struct.pack("<IHHiIII", 0xA1B2C3D4, 2, 4, 0, 0, 0, draw.choice((1, 101)))
     return head + bytes(16) * FRAMES + draw.choice((b"", b"\0", b"\0", bytes(16)))
 
@@ -329,7 +329,7 @@ def at_one_prefix(draw, text, kind):
 
 
 def without_number(draw, text, kind):
-    """A SID more whose bits behind a block are all 0."""
+    """A SID more whose bits after a block are all 0."""
     places = re.findall(rb'(?m)^\[\[block\]\]\nprefix = "([0-9a-f:]+)/([0-9]+)"\nkind = "next"\ncsid = ([0-9]+)$', text)
     nodes = re.findall(rb'(?m)^\[\[node\]\]\nname = "([^"\n]+)"', text)
     if not places or not nodes:
