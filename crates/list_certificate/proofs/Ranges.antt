@@ -7,9 +7,10 @@ use Rattle.list_pack.specs.declared.types.State.{State}
 use Rattle.list_pack.specs.Order.{lex_before}
 use Rattle.list_pack.specs.Value.{LegsValue, KeepsLaws, sid_key, sid_before, ascends}
 use Rattle.list_pack.specs.Costs.{start, IsState, IsStateBy}
-use Rattle.list_pack.specs.Least.{IsBefore, state_key, state_key_by}
+use Rattle.list_pack.specs.Least.{IsBefore, IsGoodAt, state_key, state_key_by}
 use Rattle.list_certificate.specs.declared.types.PotentialLine.{PotentialLine}
-use Rattle.list_certificate.specs.Tests.{PassesUnlisted, FirstFailing, FirstFailure, OfSid, OfPosition, OfAll}
+use Rattle.list_certificate.specs.Certs.{potential_at}
+use Rattle.list_certificate.specs.Tests.{PassesUnlisted, FirstFailing, FirstFailure, LinesPass, OfSid, OfPosition, OfAll}
 use Rattle.list_pack.proofs.Orders.{head-less, head-same, lex-longer, lex-not-both, lex-trans}
 use Rattle.list_certificate.proofs.Passing.{place-in}
 
@@ -200,3 +201,17 @@ module _ (v : LegsValue) (laws : KeepsLaws v) (lines : List PotentialLine) where
         fails = found.fails;
         first = λ t is_t of before. position-found-by count s begin found so t is_t t.via s.via refl refl found.among.1 before;
       }
+
+-- ---- lines
+
+-- one line more whose state passes
+pub line-more : (v : LegsValue) (lines : List PotentialLine) (count : ℕ) (line : PotentialLine) → slice_get lines count ≡ Some line
+    → IsGoodAt v (potential_at lines) line.potential.state → LinesPass v lines count → LinesPass v lines (count + 1)
+line-more v lines count line here good so i l less e =
+    elim (cases_lt i count) as (λ w. IsGoodAt v (potential_at lines) l.potential.state) [
+      | inl low ↦ so i l low e
+      | inr high ↦
+          let same : i ≡ count = omega (arith, less, high) in
+          subst (λ (x : PotentialLine). IsGoodAt v (potential_at lines) x.potential.state)
+          (same_Some line l (sym here ∙ ap (slice_get lines) (sym same) ∙ e)) good
+    ]

@@ -11,7 +11,6 @@ use list_certificate::{
     CertFault, Verdict, Why, a_certificate_that_is_least_is_least, a_solution_is_good,
     append_state, check, print, read,
 };
-use list_encoder::solve;
 use list_pack::{Solution, State};
 use net_model::{MAX_TEXT_BYTES, Name, Net, NetParts, Node, TypeList, are_in_range};
 use srv6_rules::{Behaviour, Csid, LinkSet, SidEntry};
@@ -199,42 +198,6 @@ fn verdicts(rt: HostRuntime) -> Result<(), Fail> {
     }
     let none = "srv6 certificate 1\nnone\nend\n";
     assert_verdict(&rt, judged(&rt, alloc, &net, false, none), Verdict::NoList);
-    Ok(())
-}
-
-/// a path stays after a SID that its next one may follow, and not where it may not
-#[test]
-fn nested_sids(rt: HostRuntime) -> Result<(), Fail> {
-    let alloc = rt.alloc();
-    let net = grid_net(&rt, alloc)?;
-    let grid = Grid {
-        csid: Csid::Next,
-        steps: 2,
-        is_open: true,
-        is_nested: true,
-    };
-    let solution = solve(alloc, &grid)?;
-    let mut text = Vec::new(alloc);
-    print(alloc, &net, &solution, &mut text)?;
-    let least = Verdict::Least {
-        containers: 1,
-        hops: 5,
-    };
-    assert_verdict(
-        &rt,
-        judged_by(&rt, alloc, &net, &grid, text.as_slice()),
-        least,
-    );
-    let end = b"path new 0:0:4::/48\npath stay 0:0:8::/48\npath stay 0:0:6::/48\nend\n";
-    let other = b"path new 0:0:4::/48\npath stay 0:0:7::/48\npath stay 0:0:6::/48\nend\n";
-    assert!(&rt; text.as_slice().ends_with(end.as_slice()));
-    text.truncate(text.len() - end.len());
-    text.extend_from_slice(other.as_slice())?;
-    let lines = u32::try_from(solution.potentials.as_slice().len())
-        .ok()
-        .expect(&rt, "few");
-    let answer = judged_by(&rt, alloc, &net, &grid, text.as_slice());
-    assert_verdict(&rt, answer, no(lines + 4, Why::Path));
     Ok(())
 }
 
