@@ -50,3 +50,4 @@ pub record FilesState : Type 0 where
   pub asked : List (List ℕ)  -- the names asked for, oldest first: one for each read so far but for those that answered NoMemory
   pub fails : List ℕ  -- the numbers of the reads that fail, counted from 1
   pub faults : ℕ  -- the reads that failed
+  pub stopped : Bool  -- whether the last read but for those that answered NoMemory failed

@@ -1,5 +1,5 @@
 -- What a read of files in memory does.
-use Rattle.std.specs.Prelude.{◌≡◌, ◌==◌, ℕ, ◌+◌, ◌<◌, ◌≤◌, ◌++◌, ◌∷◌, [], List, length, Bool, Contains, None, Some, IsSomeAnd, Result, Ok, Err}
+use Rattle.std.specs.Prelude.{◌≡◌, ◌==◌, ℕ, ◌+◌, ◌<◌, ◌≤◌, ◌++◌, ◌∷◌, [], List, length, Bool, true, false, Contains, None, Some, IsSomeAnd, Result, Ok, Err}
 use Rattle.std.specs.Global.{Vec}
 use Rattle.srx_edge.specs.Edge.{next_count, file_named}
 use Rattle.srx_edge.specs.Fakes.{FilesState}
@@ -17,15 +17,21 @@ is_sure files = length files.fails == 0
 
 -- what is seen of files in memory
 abbrev pub files_seen : FilesState → FilesSeen
-files_seen files = record { told = Some files.files; asked = Some files.asked; faults = files.faults; sure = is_sure files }
+files_seen files = record {
+  told = Some files.files;
+  asked = Some files.asked;
+  faults = files.faults;
+  stopped = files.stopped;
+  sure = is_sure files;
+}
 
 -- the files after a read that gave the bytes, or refused too many
 abbrev pub after_read : List ℕ → FilesState → FilesState
-after_read name files = record files { asked = files.asked ++ name ∷ [] }
+after_read name files = record files { asked = files.asked ++ name ∷ []; stopped = false }
 
 -- the files after a read that failed
 abbrev pub after_fault : List ℕ → FilesState → FilesState
-after_fault name files = record files { asked = files.asked ++ name ∷ []; faults = next_count files.faults }
+after_fault name files = record files { asked = files.asked ++ name ∷ []; faults = next_count files.faults; stopped = true }
 
 -- the answer to a read of this name: a fault only at a read that fails or a name that isn't held
 abbrev pub Answers : List ℕ → ℕ → Result (Vec ℕ) FileFault → FilesState → Type 0

@@ -13,7 +13,7 @@ use Rattle.srx_edge.specs.declared.host_source.HostSource.{HostSource}
 use Rattle.srx_edge.specs.declared.host_sink.HostSink.{HostSink}
 
 abbrev pub host_files_seen : {R : Type 0} → HostFiles R → FilesSeen
-host_files_seen files = record { told = None; asked = None; faults = files.faults; sure = false }
+host_files_seen files = record { told = None; asked = None; faults = files.faults; stopped = files.stopped; sure = false }
 
 abbrev pub reader_of : {R : Type 0} → HostSource R → R
 reader_of source = source.reader

@@ -19,13 +19,14 @@ pub enum FileFault {
 
 /// Files that are read whole, by name. (own rule)
 pub trait Files {
-    /// What is seen of them: the files and the names asked for, where they are told, and the
-    /// faults.
+    /// What is seen of them: the files and the names asked for, where they are told, the faults,
+    /// and whether they are stopped.
     ghost seen: { Self → FilesSeen };
 
     /// The bytes of the file of this name, at most `limit` of them. TooBig comes exactly where the
     /// file has more and the answer isn't another fault, Failed only where the count of faults
-    /// rose, by one. A call that answers NoMemory isn't counted among those that asked.
+    /// rose, by one; it stops the files until a read passes. A call that answers NoMemory isn't
+    /// counted among those that asked, and changes nothing.
     fn read(&mut self, alloc: Global, name: &str, limit: usize) -> Result<Vec<u8>, FileFault>
         ensures { ReadsFile name.now limit result (seen self.old) (seen self.new) };
 }

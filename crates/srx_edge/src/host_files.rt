@@ -13,15 +13,20 @@ use std::fs;
 pub struct HostFiles<'a, R> {
     rt: &'a R,
     faults: u64,
+    stopped: bool,
 }
 
 impl<'a, R> HostFiles<'a, R> {
     /// No read has failed yet. (own rule)
     pub fn new(rt: &'a R) -> HostFiles<'a, R>
         ensures { host_files_seen result
-            ≡ record { told = None; asked = None; faults = 0; sure = false } }
+            ≡ record { told = None; asked = None; faults = 0; stopped = false; sure = false } }
     {
-        HostFiles { rt, faults: 0 }
+        HostFiles {
+            rt,
+            faults: 0,
+            stopped: false,
+        }
     }
 }
 
@@ -51,8 +56,13 @@ impl<R: fs::Files> Files for HostFiles<'_, R> {
 
     fn read(&mut self, alloc: Global, name: &str, limit: usize) -> Result<Vec<u8>, FileFault> {
         let answer = fetch(self.rt, alloc, name, limit);
-        if let Err(FileFault::Failed) = answer {
-            self.faults = self.faults.saturating_add(1);
+        match answer {
+            Err(FileFault::Failed) => {
+                self.faults = self.faults.saturating_add(1);
+                self.stopped = true;
+            }
+            Err(FileFault::NoMemory) => {}
+            _ => self.stopped = false,
         }
         answer
     }

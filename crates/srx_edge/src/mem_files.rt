@@ -1,5 +1,5 @@
 //! Files in memory whose reads fail where they are told to.
-ghost use Rattle.std.specs.Prelude.{◌≡◌, ◌↔◌, ◌++◌, ◌∷◌, [], None, IfOk, OnOk, OnErr, IsTrue, IsSome};
+ghost use Rattle.std.specs.Prelude.{◌≡◌, ◌↔◌, ◌++◌, ◌∷◌, [], false, None, IfOk, OnOk, OnErr, IsTrue, IsSome};
 ghost use Rattle.std.specs.Option.{option_map};
 ghost use Rattle.srx_edge.specs.Edge.{file_named};
 ghost use Rattle.srx_edge.specs.FilesFake.{Answers, Leaves, after_read, files_seen};
@@ -33,6 +33,7 @@ pub struct MemFiles {
     asked: Vec<Seq<u8>>,
     fails: Vec<u64>,
     faults: u64,
+    stopped: bool,
 }
 
 impl Model for MemFiles {
@@ -45,6 +46,7 @@ impl Model for MemFiles {
       asked = f.asked.items;
       fails = f.fails.items;
       faults = f.faults;
+      stopped = f.stopped;
     } };
 }
 
@@ -65,7 +67,13 @@ impl MemFiles {
     /// counted from 1. (own rule)
     pub fn new(alloc: Global, fails: &[u64]) -> Result<MemFiles, NoMemory>
         ensures { IfOk result (λ files. files
-            ≡ record { files = []; asked = []; fails = fails.now; faults = 0 }) }
+            ≡ record {
+              files = [];
+              asked = [];
+              fails = fails.now;
+              faults = 0;
+              stopped = false;
+            }) }
     {
         Ok(MemFiles {
             alloc,
@@ -73,6 +81,7 @@ impl MemFiles {
             asked: Vec::new(alloc),
             fails: Vec::from_slice(alloc, fails)?,
             faults: 0,
+            stopped: false,
         })
     }
 
@@ -120,6 +129,7 @@ impl MemFiles {
     {
         let asked = Seq::new(Vec::from_slice(self.alloc, name.as_bytes())?);
         self.asked.push(asked)?;
+        self.stopped = false;
         Ok(())
     }
 }
@@ -140,6 +150,7 @@ impl Files for MemFiles {
         }
         if let Err(FileFault::Failed) = answer {
             self.faults = self.faults.saturating_add(1);
+            self.stopped = true;
         }
         answer
     }
