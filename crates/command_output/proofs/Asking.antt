@@ -1,10 +1,12 @@
 -- Which files were asked for, by how far the files were judged.
-use Rattle.std.proofs.Common.{◌≡◌, ℕ, List, [], ◌∷◌, ◌++◌, Option, None, Some, IfSome, sym, ap, ◌∙◌, append-nil, append_assoc}
-use Rattle.std.specs.Prelude.{IsSomeAnd}
+use Rattle.std.proofs.Common.{◌≡◌, inl, inr, ℕ, Bool, true, false, List, [], ◌∷◌, ◌++◌, length, Option, None, Some, IfSome, refl, sym, ap, ◌∙◌, append-nil, append_assoc}
+use Rattle.std.specs.Prelude.{IsSomeAnd, ◌==◌, not}
 use Rattle.srx_edge.specs.FilesRead.{FilesSeen}
-use Rattle.command_output.specs.Outside.{HasName, IsFrontOf, Asks, AsksAs, asked_for_all, files_left_by}
+use Rattle.srx_edge.specs.Sources.{SourceSeen}
+use Rattle.command_output.specs.Endings.{ReadsIts}
+use Rattle.command_output.specs.Outside.{FailsAtLast, FailsBy, IsFrontOf, Asks, AsksAs, Reads, ReadsAs, asked_for_all, files_left_by}
 use Rattle.command_output.specs.Pieces.{Stop, Never, AtFiles, AtInput, At, Elsewhere}
-use Rattle.command_output.specs.Shape.{Held, Shape, names_of}
+use Rattle.command_output.specs.Shape.{Held, IfTold, Shape, names_of}
 
 -- what holds of all files holds of those that are told
 pub each : (told : Option Held) (P : Held → Type 0) → ((held : Held) → P held) → IfSome told P
@@ -35,36 +37,80 @@ front_after name wanted names front = record { rest = front.rest; whole = ap (λ
 
 -- all names that are come to were asked for
 
-asks-all : (stop : Stop) (wanted names : List (List ℕ)) → names ≡ wanted → HasName names → AsksAs stop wanted names
-asks-all Never wanted names e some = e
-asks-all AtFiles wanted names e some = (record { rest = []; whole = append-nil names ∙ e }, some)
-asks-all AtInput wanted names e some = e
-asks-all (At sink how) wanted names e some = e
-asks-all Elsewhere wanted names e some = record { rest = []; whole = append-nil names ∙ e }
+asks-all : (stop : Stop) (wanted names : List (List ℕ)) → names ≡ wanted → AsksAs stop wanted names
+asks-all Never wanted names e = e
+asks-all AtFiles wanted names e = record { rest = []; whole = append-nil names ∙ e }
+asks-all AtInput wanted names e = e
+asks-all (At sink how) wanted names e = e
+asks-all Elsewhere wanted names e = record { rest = []; whole = append-nil names ∙ e }
 
-pub asks_all : (shape : Shape) (stop : Stop) (names : List (List ℕ)) (old new : FilesSeen) → IsFrontOf shape.files names → HasName names
+pub asks_all : (shape : Shape) (stop : Stop) (names : List (List ℕ)) (old new : FilesSeen) → IsFrontOf shape.files names
+    → FailsBy stop names old
     → IfSome old.told (λ held. names_of shape held ≡ names) → new ≡ files_left_by stop (asked_for_all names old) → Asks shape stop old new
-asks_all shape stop names old new front some those seen = record {
+asks_all shape stop names old new front fails those seen = record {
   names = names;
   in_order = front;
   those = each-map old.told (λ held. names_of shape held ≡ names) (λ held. AsksAs stop (names_of shape held) names)
-      (λ held e. asks-all stop (names_of shape held) names (sym e) some) those;
+      (λ held e. asks-all stop (names_of shape held) names (sym e)) those;
+  fails = fails;
   seen = seen;
 }
 
 -- the last of the names that were asked for failed, or memory was wanting
 
-pub asks_fault : (shape : Shape) (names : List (List ℕ)) (old new : FilesSeen) → IsFrontOf shape.files names → HasName names
+pub asks_fault : (shape : Shape) (names : List (List ℕ)) (old new : FilesSeen) → IsFrontOf shape.files names → FailsAtLast names old
     → IfSome old.told (λ held. IsFrontOf (names_of shape held) names) → new ≡ files_left_by AtFiles (asked_for_all names old)
     → Asks shape AtFiles old new
-asks_fault shape names old new front some those seen = record {
-  names = names;
-  in_order = front;
-  those = each-map old.told (λ held. IsFrontOf (names_of shape held) names) (λ held. AsksAs AtFiles (names_of shape held) names)
-      (λ held f. (f, some)) those;
-  seen = seen;
-}
+asks_fault shape names old new front fails those seen =
+    record { names = names; in_order = front; those = those; fails = fails; seen = seen }
 
 pub asks_front : (shape : Shape) (names : List (List ℕ)) (old new : FilesSeen) → IsFrontOf shape.files names
     → IfSome old.told (λ held. IsFrontOf (names_of shape held) names) → new ≡ asked_for_all names old → Asks shape Elsewhere old new
-asks_front shape names old new front those seen = record { names = names; in_order = front; those = those; seen = seen }
+asks_front shape names old new front those seen = record { names = names; in_order = front; those = those; fails = tt; seen = seen }
+
+-- what is read of the input
+
+abbrev pub is_at_input : Stop → Bool
+is_at_input Never = false
+is_at_input AtFiles = false
+is_at_input AtInput = true
+is_at_input (At sink how) = false
+is_at_input Elsewhere = false
+
+-- nothing is
+pub reads_nothing : (stop : Stop) (s : SourceSeen) → is_at_input stop ≡ false → Reads stop s s
+reads_nothing Never s e = inl refl
+reads_nothing AtFiles s e = refl
+reads_nothing AtInput s e = cc
+reads_nothing (At sink how) s e = inl refl
+reads_nothing Elsewhere s e = inl refl
+
+pub each_told : (some : Bool) (none : Held) (told : Option Held) (P : Held → Type 0) → ((held : Held) → P held) → IfTold some none told P
+each_told false none told P f = f none
+each_told true none None P f = tt
+each_told true none (Some held) P f = f held
+
+told-map : (some : Bool) (none : Held) (told : Option Held) (P Q : Held → Type 0) → some ≡ true → ((held : Held) → P held → Q held)
+    → IfSome told P → IfTold some none told Q
+told-map false none told P Q e f p = cc
+told-map true none None P Q e f p = tt
+told-map true none (Some held) P Q e f p = f held p
+
+-- a command that reads none
+pub reads_its_none : (shape : Shape) (told : Option Held) (stop : Stop) (old new : SourceSeen) → shape.reads ≡ false
+    → ReadsIts shape told stop old new
+reads_its_none shape told stop old new none = each_told (not (length shape.files == 0)) [] told
+    (λ held. (¬ shape.leaves_input held) → shape.reads ≡ true → ReadsAs stop old new) (λ held comes reads. cc)
+
+-- one that comes to it
+pub reads_its_whole : (shape : Shape) (told : Option Held) (stop : Stop) (old new : SourceSeen) → ReadsAs stop old new
+    → ReadsIts shape told stop old new
+reads_its_whole shape told stop old new read = each_told (not (length shape.files == 0)) [] told
+    (λ held. (¬ shape.leaves_input held) → shape.reads ≡ true → ReadsAs stop old new) (λ held comes reads. read)
+
+-- one that has files, and ends before
+pub reads_its_early : (shape : Shape) (told : Option Held) (stop : Stop) (old new : SourceSeen) → not (length shape.files == 0) ≡ true
+    → IfSome told shape.leaves_input → ReadsIts shape told stop old new
+reads_its_early shape told stop old new files early = told-map (not (length shape.files == 0)) [] told shape.leaves_input
+    (λ held. (¬ shape.leaves_input held) → shape.reads ≡ true → ReadsAs stop old new) files
+    (λ held leaves comes. absurd (comes leaves)) early

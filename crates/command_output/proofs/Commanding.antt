@@ -13,14 +13,15 @@ use Rattle.command_output.specs.declared.status.Status.TheVariants as statuses
 use Rattle.command_output.specs.declared.told.Told.{Told}
 use Rattle.command_output.specs.Answers.{ending_of_failure, Commands, CommandsOut}
 use Rattle.command_output.specs.Outputs.{refused}
+use Rattle.command_output.specs.Gathered.{StopsInGroups, WroteInGroups}
 use Rattle.command_output.specs.Lines.{bytes_of_text, refusal_line}
 use Rattle.command_output.specs.Outside.{Outside, IsFrontOf}
-use Rattle.command_output.specs.Pieces.{Piece, ForOut, ForErr, Which, ToOut, Output, Never, AtFiles, AtInput, Elsewhere, gone, stop_at, StopsIn, WroteAll}
+use Rattle.command_output.specs.Pieces.{Piece, ForOut, ForErr, Which, ToOut, Output, Never, AtFiles, AtInput, Elsewhere, gone, sinks_of, stop_at}
 use Rattle.command_output.specs.Endings.{ending_of_status, OrNothing, LinesLast, Takes}
 use Rattle.command_output.specs.Shape.{Shape, names_of, WantedOf, IsOneOf}
-use Rattle.command_output.proofs.Asking.{each}
+use Rattle.command_output.proofs.Asking.{each, reads_its_whole}
 use Rattle.command_output.proofs.PieceLemmas.{ending_by-stop_at, went_cut}
-use Rattle.command_output.proofs.PieceSteps.{all_longer}
+use Rattle.command_output.proofs.Gathering.{in_groups, stopped_longer}
 
 -- nothing is written
 
@@ -52,7 +53,7 @@ files_fault shape f g s o takes = λ err. record {
   ending = refl;
   output = nothing;
   wanted = inl refl;
-  went = refl;
+  went = in_groups AtFiles [] (sinks_of o err) (sinks_of o err) refl;
   lines_last = λ _. tt;
   status_own = tt;
   takes = takes;
@@ -66,7 +67,7 @@ input_fault shape f g s t o takes = λ err. record {
   ending = refl;
   output = nothing;
   wanted = inl refl;
-  went = refl;
+  went = in_groups AtInput [] (sinks_of o err) (sinks_of o err) refl;
   lines_last = λ _. tt;
   status_own = tt;
   takes = takes;
@@ -80,7 +81,7 @@ memory_wants shape f g s t o takes = λ err. record {
   ending = refl;
   output = nothing;
   wanted = inl refl;
-  went = record { first = []; rest = []; whole = refl; sinks = refl };
+  went = in_groups Elsewhere [] (sinks_of o err) (sinks_of o err) (record { first = []; rest = []; whole = refl; sinks = refl });
   lines_last = λ _. tt;
   status_own = tt;
   takes = takes;
@@ -96,11 +97,13 @@ memory_first shape f s o = memory_wants shape f f s s o (record {
     in_order = record { rest = shape.files; whole = refl };
     those = each f.told (λ held. IsFrontOf (names_of shape held) [])
         (λ held. record { rest = names_of shape held; whole = refl });
+    fails = tt;
     seen = refl;
   };
-  reads = refl;
+  reads = inl refl;
   unread = each f.told (λ held. shape.leaves_input held → s ≡ s) (λ held _. refl);
   reads_none = λ _. refl;
+  reads_its = reads_its_whole shape f.told Elsewhere s s tt;
 })
 
 -- a command that writes bytes on `out`, and then a line
@@ -148,8 +151,8 @@ written-cut shape failure bytes last status f g s t o p cut wanted takes = λ er
   ending = ending_by-stop_at ToOut cut.how ∙ cut.ends;
   output = written bytes last status;
   wanted = out-wanted cut.how (written bytes last status) (WantedOf shape f.told s.left (written bytes last status)) wanted;
-  went = went_cut ToOut (ending_of_failure failure) [] (ForErr last ∷ []) bytes
-      (record { out = o; err = err }) (record { out = o; err = err }) p refl cut;
+  went = in_groups (stop_at ToOut cut.how) (ForOut bytes ∷ ForErr last ∷ []) (sinks_of o err) (sinks_of p err)
+      (went_cut ToOut (ending_of_failure failure) [] (ForErr last ∷ []) bytes (sinks_of o err) (sinks_of o err) p refl cut);
   lines_last = λ _. out-last cut.how err o p;
   status_own = tt;
   takes = takes cut.how;
@@ -215,7 +218,7 @@ module _ (shape : Shape) (before : List Piece) (old new : Outside) where
 
   -- only a front of them went out
   pieces-cut : (failure : Failure) (last : List ℕ) (status : Status) → shape.lines_last ≡ false
-      → StopsIn (ending_of_failure failure) (before ++ ForErr last ∷ []) old.sinks new.sinks
+      → StopsInGroups (ending_of_failure failure) (before ++ ForErr last ∷ []) old.sinks new.sinks
       → WantedOf shape old.files.told old.input.left (with_last last status)
       → ((sink : Which) (how : Option How) → Takes shape (stop_at sink how) old.files new.files old.input new.input)
       → Commands shape (Err (halts.Failed failure)) old new
@@ -233,11 +236,11 @@ module _ (shape : Shape) (before : List Piece) (old new : Outside) where
   }
 
   pub pieces_cut : (failure : Failure) (last : List ℕ) (status : Status) → shape.lines_last ≡ false
-      → WroteAll (ending_of_failure failure) before old.sinks new.sinks
+      → WroteInGroups (ending_of_failure failure) before old.sinks new.sinks
       → WantedOf shape old.files.told old.input.left (with_last last status)
       → ((sink : Which) (how : Option How) → Takes shape (stop_at sink how) old.files new.files old.input new.input)
       → Commands shape (Err (halts.Failed failure)) old new
   pieces_cut failures.Fault last status between wrote wanted takes = pieces-cut failures.Fault last status between
-      (all_longer failures.Fault before (ForErr last ∷ []) old.sinks new.sinks wrote) wanted takes
+      (stopped_longer before (ForErr last ∷ []) failures.Fault old.sinks new.sinks wrote) wanted takes
   pieces_cut failures.NoMemory last status between wrote wanted takes = pieces-cut failures.NoMemory last status between
-      (all_longer failures.NoMemory before (ForErr last ∷ []) old.sinks new.sinks wrote) wanted takes
+      (stopped_longer before (ForErr last ∷ []) failures.NoMemory old.sinks new.sinks wrote) wanted takes

@@ -1,9 +1,12 @@
 pub mod Asking
 pub mod Commanding
 pub mod Endings
+pub mod Gathering
 pub mod NodeNames
 pub mod PieceLemmas
 pub mod PieceSteps
+pub mod Pooling
+pub mod Standing
 pub mod PublicLaws
 pub mod Writing
 pub mod PieceBytes

@@ -8,11 +8,11 @@ use Rattle.command_output.proofs.PieceLemmas.{marked}
 
 -- the sinks once bytes have gone out to one of them
 
-abbrev sent_to : Which → List ℕ → Sinks → Sinks
+abbrev pub sent_to : Which → List ℕ → Sinks → Sinks
 sent_to ToOut bytes sinks = record sinks { out = sent bytes sinks.out }
 sent_to ToErr bytes sinks = record sinks { err = sent bytes sinks.err }
 
-abbrev gone_bytes : List (Which × ℕ) → Sinks → Sinks
+abbrev pub gone_bytes : List (Which × ℕ) → Sinks → Sinks
 gone_bytes [] sinks = sinks
 gone_bytes (b ∷ more) sinks = gone_bytes more (sent_to b.0 (b.1 ∷ []) sinks)
 
@@ -30,7 +30,7 @@ gone-marked sink [] more sinks = ap (gone_bytes more) (sym (sent-none sink sinks
 gone-marked sink (byte ∷ bytes) more sinks =
     gone-marked sink bytes more (sent_to sink (byte ∷ []) sinks) ∙ ap (gone_bytes more) (sent-both sink (byte ∷ []) bytes sinks)
 
-gone-bytes : (pieces : List Piece) (sinks : Sinks) → gone pieces sinks ≡ gone_bytes (bytes_in_order pieces) sinks
+pub gone-bytes : (pieces : List Piece) (sinks : Sinks) → gone pieces sinks ≡ gone_bytes (bytes_in_order pieces) sinks
 gone-bytes [] sinks = refl
 gone-bytes (ForOut bytes ∷ more) sinks =
     gone-bytes more (record sinks { out = sent bytes sinks.out }) ∙ sym (gone-marked ToOut bytes (bytes_in_order more) sinks)
@@ -38,10 +38,10 @@ gone-bytes (ForErr bytes ∷ more) sinks =
     gone-bytes more (record sinks { err = sent bytes sinks.err }) ∙ sym (gone-marked ToErr bytes (bytes_in_order more) sinks)
 
 module _ (one other : List Piece) (old new : Sinks) (same : bytes_in_order one ≡ bytes_in_order other) where
-  gone-same : gone one old ≡ gone other old
+  pub gone-same : gone one old ≡ gone other old
   gone-same = gone-bytes one old ∙ (ap (λ (bytes : List (Which × ℕ)). gone_bytes bytes old) same ∙ sym (gone-bytes other old))
 
-  went-same : (sink : Which) (how : Option How) → Went (stop_at sink how) one old new → Went (stop_at sink how) other old new
+  pub went-same : (sink : Which) (how : Option How) → Went (stop_at sink how) one old new → Went (stop_at sink how) other old new
   went-same sink None w = record { first = w.first; rest = w.rest; whole = w.whole ∙ same; sinks = w.sinks }
   went-same sink (Some how) w =
       record { first = w.first; rest = w.rest; whole = w.whole ∙ same; next = w.next; sinks = w.sinks }

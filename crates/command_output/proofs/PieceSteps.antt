@@ -20,7 +20,7 @@ next-longer : (sink : Which) (rest more : List (Which × ℕ)) → IsNextFor sin
 next-longer sink [] more h = absurd h
 next-longer sink (b ∷ rest) more h = h
 
-went-longer : (sink : Which) (how : Option How) (first more : List Piece) (old new : Sinks) → Went (stop_at sink how) first old new
+pub went-longer : (sink : Which) (how : Option How) (first more : List Piece) (old new : Sinks) → Went (stop_at sink how) first old new
     → Went (stop_at sink how) (first ++ more) old new
 went-longer sink None first more old new w = record {
   first = w.first;
@@ -48,7 +48,7 @@ bytes-behind before more front rest whole =
 gone-behind : (before front : List Piece) (old mid : Sinks) → mid ≡ gone before old → gone front mid ≡ gone (before ++ front) old
 gone-behind before front old mid went = ap (gone front) went ∙ sym (gone-append before front old)
 
-went-behind : (sink : Which) (how : Option How) (before more : List Piece) (old mid new : Sinks) → mid ≡ gone before old
+pub went-behind : (sink : Which) (how : Option How) (before more : List Piece) (old mid new : Sinks) → mid ≡ gone before old
     → Went (stop_at sink how) more mid new → Went (stop_at sink how) (before ++ more) old new
 went-behind sink None before more old mid new went w = record {
   first = before ++ w.first;

@@ -1,20 +1,22 @@
 -- What the steps of a command answer, by cases.
-use Rattle.std.specs.Prelude.{◌≡◌, ℕ, IsTrue, true, List, [], ◌∷◌, ◌++◌, IfSome, IsSomeAnd, Result, Ok, Err, ⊤}
-use Rattle.srx_edge.specs.Edge.{next_count, file_named}
-use Rattle.srx_edge.specs.FilesRead.{FilesSeen, asked_for, failed}
-use Rattle.srx_edge.specs.Sources.{SourceSeen, drained}
+use Rattle.std.specs.Prelude.{◌≡◌, ℕ, true, List, [], ◌∷◌, ◌++◌, IfSome, IsSomeAnd, Result, Ok, Err, ⊤}
+use Rattle.srx_edge.specs.Edge.{file_named}
+use Rattle.srx_edge.specs.FilesRead.{FilesSeen, FailsAt, asked_for, failed}
+use Rattle.srx_edge.specs.Sources.{SourceSeen, DrawnUpTo, drained, failed as input_failed}
 use Rattle.srx_edge.specs.Sinks.{SinkSeen}
 use Rattle.srx_edge.specs.Steps.{Ending, Whole, Fault, Memory, Wrote}
 use Rattle.command_output.specs.declared.halt.Failure.{Failure}
 use Rattle.command_output.specs.declared.halt.Failure.TheVariants as failures
 use Rattle.command_output.specs.declared.halt.Halt.{Halt}
 use Rattle.command_output.specs.declared.halt.Halt.TheVariants as halts
+use Rattle.command_output.specs.declared.limits.TheConstants.{MAX_INPUT_BYTES}
 use Rattle.command_output.specs.declared.refusal.Refusal.{Refusal}
 use Rattle.command_output.specs.declared.status.Status.{Status}
 use Rattle.command_output.specs.declared.status.Status.TheVariants as statuses
 use Rattle.command_output.specs.declared.told.Told.{Told}
 use Rattle.command_output.specs.Lines.{bytes_of_text, refusal_line}
-use Rattle.command_output.specs.Outside.{Outside, outside, AsksForFront}
+use Rattle.command_output.specs.Outside.{Outside, outside, AsksForFront, ReadsToEnd, ReadsWhole}
+use Rattle.command_output.specs.Gathered.{InGroups}
 use Rattle.command_output.specs.Pieces.{ForErr, Piece, Output, Sinks, Stop, ending_by, gone, Went}
 use Rattle.command_output.specs.Endings.{ending_of_status, OnWhole, OrNothing, LinesLast, Takes}
 use Rattle.command_output.specs.Shape.{Shape, WantedOf, IsOneOf}
@@ -42,7 +44,7 @@ FileGives judge name judged files = IfSome files.told (λ held. IsSomeAnd (file_
 abbrev pub JudgesFile : {A : Type 0} → (List ℕ → Result A Refusal) → List ℕ → Result A Halt → FilesSeen → FilesSeen → Type 0
 JudgesFile judge name (Ok a) old new = FileGives judge name (Ok a) old × (new ≡ asked_for name old)
 JudgesFile judge name (Err (halts.Refused refusal)) old new = FileGives judge name (Err refusal) old × (new ≡ asked_for name old)
-JudgesFile judge name (Err (halts.Failed failures.Fault)) old new = new ≡ failed (asked_for name old)
+JudgesFile judge name (Err (halts.Failed failures.Fault)) old new = FailsAt name old × (new ≡ failed (asked_for name old))
 JudgesFile judge name (Err (halts.Failed failures.NoMemory)) old new = AsksForFront (name ∷ []) old new
 
 -- what a judgement of a text gives; with want of memory it says nothing
@@ -52,12 +54,12 @@ JudgesText judge text (Err (halts.Refused refusal)) = judge text ≡ Err refusal
 JudgesText judge text (Err (halts.Failed failures.Fault)) = ⊥
 JudgesText judge text (Err (halts.Failed failures.NoMemory)) = ⊤
 
--- what a read of the input to its end and a judgement of it give
+-- what a read of the input to its end and a judgement of it give; an input that has too many bytes is read one byte past the limit
 abbrev pub JudgesInput : {A : Type 0} → (List ℕ → Result A Refusal) → Result A Halt → SourceSeen → SourceSeen → Type 0
-JudgesInput judge (Ok a) old new = IfSome old.left (λ input. judge input ≡ Ok a) × (new ≡ drained old)
-JudgesInput judge (Err (halts.Refused refusal)) old new = IfSome old.left (λ input. judge input ≡ Err refusal) × (new.faults ≡ old.faults)
-JudgesInput judge (Err (halts.Failed failures.Fault)) old new = (new.faults ≡ next_count old.faults) × IsTrue new.stopped
-JudgesInput judge (Err (halts.Failed failures.NoMemory)) old new = new.faults ≡ old.faults
+JudgesInput judge (Ok a) old new = IfSome old.left (λ input. judge input ≡ Ok a) × ReadsToEnd old new
+JudgesInput judge (Err (halts.Refused refusal)) old new = IfSome old.left (λ input. judge input ≡ Err refusal) × ReadsWhole old new
+JudgesInput judge (Err (halts.Failed failures.Fault)) old new = DrawnUpTo MAX_INPUT_BYTES input_failed old new
+JudgesInput judge (Err (halts.Failed failures.NoMemory)) old new = DrawnUpTo MAX_INPUT_BYTES (λ source. source) old new
 
 -- a command's pieces went out but for its last line, which goes with this status
 pub record EndsWith (last : List ℕ) (status : Status) (output : Output) (old new : Sinks) : Type 0 where
@@ -70,7 +72,7 @@ pub record EndsWith (last : List ℕ) (status : Status) (output : Output) (old n
 abbrev pub CommandWent : Result Told Halt → Stop → Output → Sinks → Sinks → Type 0
 CommandWent (Ok told) stop output old new = EndsWith (bytes_of_text told.line) told.status output old new
 CommandWent (Err (halts.Refused refusal)) stop output old new = EndsWith (refusal_line refusal) statuses.Refused output old new
-CommandWent (Err (halts.Failed failure)) stop output old new = Went stop output.pieces old new
+CommandWent (Err (halts.Failed failure)) stop output old new = InGroups stop output.pieces old new
 
 -- P of the status with which the answer goes, if it is one
 abbrev pub IfEnds : Result Told Halt → (Status → Type 0) → Type 0

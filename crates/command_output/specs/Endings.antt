@@ -1,13 +1,13 @@
 -- How a call ended, and what it took of the files and of the input.
-use Rattle.std.specs.Prelude.{◌≡◌, ◌⊎◌, false, [], IfSome, ⊤}
+use Rattle.std.specs.Prelude.{◌≡◌, ◌⊎◌, ◌==◌, true, false, not, [], length, Option, IfSome, ⊤}
 use Rattle.srx_edge.specs.FilesRead.{FilesSeen}
 use Rattle.srx_edge.specs.Sources.{SourceSeen}
 use Rattle.srx_edge.specs.Steps.{Ending, Whole, Fault, Memory}
 use Rattle.command_output.specs.declared.status.Status.{Status}
 use Rattle.command_output.specs.declared.status.Status.TheVariants as statuses
-use Rattle.command_output.specs.Outside.{Asks, Reads}
+use Rattle.command_output.specs.Outside.{Asks, Reads, ReadsAs}
 use Rattle.command_output.specs.Pieces.{Output, Sinks, ToOut, ToErr, Stop, Never, AtFiles, AtInput, At, Elsewhere}
-use Rattle.command_output.specs.Shape.{Shape}
+use Rattle.command_output.specs.Shape.{Held, Shape, IfTold}
 
 -- how a call ended, by its status
 abbrev pub ending_of_status : Status → Ending
@@ -42,6 +42,11 @@ LinesLast (At ToOut how) old new = new.err ≡ old.err
 LinesLast (At ToErr how) old new = ⊤
 LinesLast Elsewhere old new = ⊤
 
+-- an input that the command reads, and doesn't end before, is read whole, unless the call stopped before or within that
+abbrev pub ReadsIts : Shape → Option Held → Stop → SourceSeen → SourceSeen → Type 0
+ReadsIts shape told stop old new = IfTold (not (length shape.files == 0)) [] told
+    (λ held. (¬ shape.leaves_input held) → shape.reads ≡ true → ReadsAs stop old new)
+
 -- what a call takes of the files and of the input
 pub record Takes (shape : Shape) (stop : Stop) (files_old files_new : FilesSeen) (input_old input_new : SourceSeen) : Type 0 where
   pub asks : Asks shape stop files_old files_new
@@ -49,3 +54,5 @@ pub record Takes (shape : Shape) (stop : Stop) (files_old files_new : FilesSeen)
   -- The input stays as it was where the command ends before it is read, or reads none.
   pub unread : IfSome files_old.told (λ held. shape.leaves_input held → input_new ≡ input_old)
   pub reads_none : shape.reads ≡ false → input_new ≡ input_old
+  -- An input that it comes to is read to its end, or one byte past the limit, also where it is refused then.
+  pub reads_its : ReadsIts shape files_old.told stop input_old input_new

@@ -1,5 +1,6 @@
 pub mod Answers
 pub mod Endings
+pub mod Gathered
 pub mod Halts
 pub mod Lines
 pub mod Outputs

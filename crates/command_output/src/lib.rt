@@ -9,8 +9,11 @@
 #![tactic(auto)]
 
 mod halt;
+pub mod laws;
+mod limits;
 mod lines;
 mod node_name;
+mod pool;
 mod refusal;
 mod sinks;
 mod status;
@@ -19,8 +22,10 @@ mod unread;
 mod verbs;
 
 pub use halt::{Failure, Halt};
+pub use limits::{MAX_INPUT_BYTES, MOST_WAITING};
 pub use lines::{line_of_packet, line_of_refusal, line_of_unread};
 pub use node_name::NodeName;
+pub use pool::Pool;
 pub use refusal::{Refusal, refusal_of_not_flat};
 pub use sinks::write_all;
 pub use status::Status;
