@@ -4,14 +4,15 @@ use Rattle.std.specs.List.{flat_map}
 use Rattle.std.proofs.lemmas.Grind.{flat_map-append}
 use Rattle.pcap_io.specs.declared.frame.Frame.{Frame}
 use Rattle.srx_edge.specs.Sinks.{SinkSeen, sent}
-use Rattle.srx_edge.specs.Steps.{Memory, Wrote}
+use Rattle.srx_edge.specs.Steps.{Whole, Memory, Wrote}
 use Rattle.srx_edge.proofs.PublicLaws.{sent_both, cut_whole}
 use Rattle.command_output.specs.declared.halt.Failure.{Failure}
 use Rattle.command_output.specs.declared.halt.Failure.TheVariants as failures
 use Rattle.command_output.specs.Answers.{ending_of_failure}
 use Rattle.command_inputs.specs.Frames.{FramesSeen, FindsFrame}
-use Rattle.command_output.specs.Pieces.{Piece, Sinks, gone, WroteAll}
-use Rattle.command_output.proofs.PublicLaws.{all_longer, all_behind, all_both, all_wanting}
+use Rattle.command_output.specs.Gathered.{Goes, Pooled}
+use Rattle.command_output.specs.Pieces.{Piece}
+use Rattle.command_output.proofs.PublicLaws.{goes_behind, goes_both, goes_kept, goes_longer, goes_nowhere}
 use Rattle.command_output.proofs.PublicLaws.{wrote_longer, wrote_after}
 
 -- of the frames that were to come some are done, and the others are still to come
@@ -89,37 +90,41 @@ told_in_part f whole now first sink p = subst (λ (bytes : List ℕ). Wrote Memo
     (wrote_longer failures.NoMemory (flat_map f p.left.done) (flat_map f now.frames) first sink
     (cut_whole (flat_map f p.left.done) first sink p.went))
 
--- the same of pieces for both sinks
+-- the same of pieces for both sinks, by the pool
 
-pub record FramesWalked (f : Frame → List Piece) (whole now : FramesSeen) (first sinks : Sinks) : Type 0 where
+pub record FramesPut (f : Frame → List Piece) (whole now : FramesSeen) (first pool : Pooled) : Type 0 where
   pub left : FramesLeft whole now
-  pub went : sinks ≡ gone (flat_map f left.done) first
+  pub went : Goes Whole (flat_map f left.done) first pool
 
-module _ (f : Frame → List Piece) (whole old new : FramesSeen) (first mid sinks : Sinks)
-    (p : FramesWalked f whole old first mid) (h : FindsFrame old new) where
-  pub walked_one : IfSome new.at (λ frame. sinks ≡ gone (f frame) mid) → FramesWalked f whole new first sinks
-  walked_one next = record {
+abbrev pub none_put : (f : Frame → List Piece) (whole : FramesSeen) (pool : Pooled) → FramesPut f whole whole pool pool
+none_put f whole pool = record { left = all_left whole; went = goes_nowhere pool }
+
+module _ (f : Frame → List Piece) (whole old new : FramesSeen) (first mid pool : Pooled)
+    (p : FramesPut f whole old first mid) (h : FindsFrame old new) where
+  pub put_one : IfSome new.at (λ frame. Goes Whole (f frame) mid pool) → FramesPut f whole new first pool
+  put_one next = record {
     left = one_done whole old new p.left h;
-    went = all_both (flat_map f p.left.done) (f h.frame) first mid sinks p.went
-        (at_hand whole old new p.left h (λ frame. sinks ≡ gone (f frame) mid) next)
-        ∙ ap (λ (pieces : List Piece). gone pieces first) (sym (flat_one whole old new p.left h f));
+    went = subst (λ (pieces : List Piece). Goes Whole pieces first pool) (sym (flat_one whole old new p.left h f))
+        (goes_both (flat_map f p.left.done) (f h.frame) first mid pool p.went
+        (at_hand whole old new p.left h (λ frame. Goes Whole (f frame) mid pool) next));
   }
 
-  pub walk_cut : (failure : Failure) → IfSome new.at (λ frame. WroteAll (ending_of_failure failure) (f frame) mid sinks)
-      → WroteAll (ending_of_failure failure) (flat_map f whole.frames) first sinks
-  walk_cut failure wrote = subst (λ (pieces : List Piece). WroteAll (ending_of_failure failure) pieces first sinks)
+  pub put_cut : (failure : Failure) → IfSome new.at (λ frame. Goes (ending_of_failure failure) (f frame) mid pool)
+      → Goes (ending_of_failure failure) (flat_map f whole.frames) first pool
+  put_cut failure wrote = subst (λ (pieces : List Piece). Goes (ending_of_failure failure) pieces first pool)
       (flat-each whole old new p.left h f)
-      (all_longer failure (flat_map f p.left.done ++ f h.frame) (flat_map f new.frames) first sinks
-      (all_behind failure (flat_map f p.left.done) (f h.frame) first mid sinks p.went
-      (at_hand whole old new p.left h (λ frame. WroteAll (ending_of_failure failure) (f frame) mid sinks) wrote)))
+      (goes_longer failure (flat_map f p.left.done ++ f h.frame) (flat_map f new.frames) first pool
+      (goes_behind failure (flat_map f p.left.done) (f h.frame) first mid pool p.went
+      (at_hand whole old new p.left h (λ frame. Goes (ending_of_failure failure) (f frame) mid pool) wrote)))
 
-pub walked_to_the_end : (f : Frame → List Piece) (whole now : FramesSeen) (first sinks : Sinks)
-    → FramesWalked f whole now first sinks → now.frames ≡ [] → sinks ≡ gone (flat_map f whole.frames) first
-walked_to_the_end f whole now first sinks p none =
-    p.went ∙ ap (λ (frames : List Frame). gone (flat_map f frames) first) (frames_done whole now p.left none)
+pub put_to_the_end : (f : Frame → List Piece) (whole now : FramesSeen) (first pool : Pooled)
+    → FramesPut f whole now first pool → now.frames ≡ [] → Goes Whole (flat_map f whole.frames) first pool
+put_to_the_end f whole now first pool p none =
+    subst (λ (frames : List Frame). Goes Whole (flat_map f frames) first pool) (frames_done whole now p.left none) p.went
 
-pub walked_in_part : (f : Frame → List Piece) (whole now : FramesSeen) (first sinks : Sinks) → FramesWalked f whole now first sinks
-    → WroteAll Memory (flat_map f whole.frames) first sinks
-walked_in_part f whole now first sinks p = subst (λ (pieces : List Piece). WroteAll Memory pieces first sinks)
+pub put_in_part : (f : Frame → List Piece) (whole now : FramesSeen) (first pool : Pooled) → FramesPut f whole now first pool
+    → Goes Memory (flat_map f whole.frames) first pool
+put_in_part f whole now first pool p = subst (λ (pieces : List Piece). Goes Memory pieces first pool)
     (flat-left f whole now p.left)
-    (all_wanting (flat_map f p.left.done) (flat_map f now.frames) first sinks p.went)
+    (goes_behind failures.NoMemory (flat_map f p.left.done) (flat_map f now.frames) first pool pool p.went
+    (goes_kept (flat_map f now.frames) pool))

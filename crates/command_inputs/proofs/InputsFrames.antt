@@ -23,7 +23,7 @@ use Rattle.pcapng_io.specs.Reading as ng
 use Rattle.pcapng_io.proofs.PublicLaws.{each-held, numbered-file}
 use Rattle.command_output.specs.declared.refusal.Refusal.{Refusal}
 use Rattle.command_output.specs.declared.refusal.Refusal.TheVariants as refusals
-use Rattle.command_inputs.specs.declared.limits.TheConstants.{MAX_INPUT_BYTES}
+use Rattle.command_output.specs.declared.limits.TheConstants.{MAX_INPUT_BYTES}
 use Rattle.command_inputs.specs.declared.packets.Packets.{Packets}
 use Rattle.command_inputs.specs.declared.packets.Packets.TheVariants.{Bare, Capture, Ng}
 use Rattle.command_inputs.specs.Frames.{AreFrom}

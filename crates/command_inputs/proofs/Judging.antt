@@ -1,5 +1,5 @@
 -- What files and the input give, as they were judged.
-use Rattle.std.proofs.Common.{◌≡◌, ◌∙◌, ℕ, ◌<◌, ◌≤◌, Bool, true, false, if◌then◌else◌, List, [], ◌∷◌, length, nat_lt, Option, None, Some, IfSome, Result, Ok, Err, refl, sym, ap, subst, rules}
+use Rattle.std.proofs.Common.{◌≡◌, inl, inr, ◌∙◌, ℕ, ◌<◌, ◌≤◌, Bool, true, false, if◌then◌else◌, List, [], ◌∷◌, length, nat_lt, Option, None, Some, IfSome, Result, Ok, Err, refl, sym, ap, subst, rules}
 use Rattle.std.proofs.lemmas.Bool.{le-ltb}
 use Rattle.std.specs.Prelude.{IsSomeAnd}
 use Rattle.srx_edge.specs.Edge.{file_named}
@@ -21,7 +21,7 @@ use Rattle.net_reader.specs.Reading.{net_in}
 use Rattle.intent_reader.specs.declared.intent.Intent.{Intent}
 use Rattle.intent_reader.specs.declared.fault.IntentFault.{IntentFault}
 use Rattle.intent_reader.specs.Judging.{intent_of_text}
-use Rattle.command_inputs.specs.declared.limits.TheConstants.{MAX_INPUT_BYTES}
+use Rattle.command_output.specs.declared.limits.TheConstants.{MAX_INPUT_BYTES}
 use Rattle.net_model.specs.declared.limits.TheConstants.{MAX_TEXT_BYTES}
 use Rattle.command_inputs.specs.declared.packets.Packets.{Packets}
 use Rattle.command_inputs.specs.declared.packets.Packets.TheVariants.{Bare, Capture}
@@ -33,7 +33,7 @@ use Rattle.command_output.specs.declared.refusal.Refusal.TheVariants as refusals
 use Rattle.command_output.specs.Answers.{JudgesFile, JudgesText, JudgesInput}
 use Rattle.command_output.specs.Halts.{halt_of_net, halt_of_intent, halt_of_draw, halt_of_refusal}
 use Rattle.command_inputs.specs.Judgements.{network_by, network_in, intent_by, intent_in}
-use Rattle.command_output.specs.Outside.{AsksForFront}
+use Rattle.command_output.specs.Outside.{AsksForFront, ReadsToEnd}
 use Rattle.command_inputs.specs.Packets.{capture_by, ng_in, packets_in, is_bare}
 
 -- what is told of a text that was read is told of the judgement of it
@@ -166,15 +166,25 @@ drawn : (judged : Result Packets Refusal) (bytes : List ℕ) (left : Option (Lis
 drawn judged bytes None all is = tt
 drawn judged bytes (Some input) all is = subst (λ (b : List ℕ). packets_in b ≡ judged) all is
 
-pub packets_judged : (packets : Packets) (bytes : List ℕ) (old new : SourceSeen) → IfSome old.left (λ input. bytes ≡ input)
-    → new ≡ drained old
-    → packets_in bytes ≡ Ok packets → JudgesInput packets_in (Ok packets) old new
-packets_judged packets bytes old new all seen is = (drawn (Ok packets) bytes old.left all is, seen)
+drawn-fits : (bytes : List ℕ) (left : Option (List ℕ)) → length bytes ≤ MAX_INPUT_BYTES → IfSome left (λ input. bytes ≡ input)
+    → IfSome left (λ input. length input ≤ MAX_INPUT_BYTES)
+drawn-fits bytes None fits all = tt
+drawn-fits bytes (Some input) fits all = subst (λ (b : List ℕ). length b ≤ MAX_INPUT_BYTES) all fits
 
-pub packets_refused : (refusal : Refusal) (bytes : List ℕ) (old new : SourceSeen) → IfSome old.left (λ input. bytes ≡ input)
-    → new ≡ drained old
+to-end : (bytes : List ℕ) (old new : SourceSeen) → length bytes ≤ MAX_INPUT_BYTES → IfSome old.left (λ input. bytes ≡ input)
+    → new ≡ drained old → ReadsToEnd old new
+to-end bytes old new fits all seen = (drawn-fits bytes old.left fits all, seen)
+
+pub packets_judged : (packets : Packets) (bytes : List ℕ) (old new : SourceSeen) → length bytes ≤ MAX_INPUT_BYTES
+    → IfSome old.left (λ input. bytes ≡ input) → new ≡ drained old
+    → packets_in bytes ≡ Ok packets → JudgesInput packets_in (Ok packets) old new
+packets_judged packets bytes old new fits all seen is = (drawn (Ok packets) bytes old.left all is, to-end bytes old new fits all seen)
+
+pub packets_refused : (refusal : Refusal) (bytes : List ℕ) (old new : SourceSeen) → length bytes ≤ MAX_INPUT_BYTES
+    → IfSome old.left (λ input. bytes ≡ input) → new ≡ drained old
     → packets_in bytes ≡ Err refusal → JudgesInput packets_in (Err (halt_of_refusal refusal)) old new
-packets_refused refusal bytes old new all seen is = (drawn (Err refusal) bytes old.left all is, ap (λ (s : SourceSeen). s.faults) seen)
+packets_refused refusal bytes old new fits all seen is =
+    (drawn (Err refusal) bytes old.left all is, inl (to-end bytes old new fits all seen))
 
 too-much : (left : Option (List ℕ)) → IfSome left (λ input. MAX_INPUT_BYTES < length input)
     → IfSome left (λ input. packets_in input ≡ Err (refusals.TooBig MAX_INPUT_BYTES))
@@ -183,10 +193,10 @@ too-much (Some input) more = let many : nat_lt MAX_INPUT_BYTES (length input) �
 
 pub input_not_drawn : (fault : DrawFault) (old new : SourceSeen) → Draws MAX_INPUT_BYTES (Err fault) old new
     → JudgesInput packets_in (Err (halt_of_draw fault)) old new
-input_not_drawn draws.Failed old new h = (ap (λ (s : SourceSeen). s.faults) h.seen, ap (λ (s : SourceSeen). s.stopped) h.seen)
+input_not_drawn draws.Failed old new h = h
 input_not_drawn (draws.TooBig most) old new h =
     subst (λ (n : ℕ). JudgesInput packets_in (Err (halt_of_draw (draws.TooBig n))) old new) (sym h.0)
-    (too-much old.left h.1, ap (λ (s : SourceSeen). s.faults) h.2)
-input_not_drawn draws.NoMemory old new h = ap (λ (s : SourceSeen). s.faults) h.seen
+    (too-much old.left h.1, inr (h.1, h.2))
+input_not_drawn draws.NoMemory old new h = h
 
 pub ruleset inputs = (packets_judged, packets_refused, input_not_drawn)

@@ -18,7 +18,7 @@ use Rattle.pcapng_io.specs.declared.end.NgEnd.TheVariants as ends
 use Rattle.pcapng_io.specs.declared.fault.NgFault.TheVariants as ng
 use Rattle.pcapng_io.specs.declared.numbers.TheConstants.{MAX_INPUT}
 use Rattle.pcapng_io.specs.Reading.{NgReading, end_at_start, ng_capture_of}
-use Rattle.command_inputs.specs.declared.limits.TheConstants.{MAX_INPUT_BYTES}
+use Rattle.command_output.specs.declared.limits.TheConstants.{MAX_INPUT_BYTES}
 use Rattle.command_inputs.specs.declared.packets.Packets.{Packets}
 use Rattle.command_inputs.specs.declared.packets.Packets.TheVariants.{Bare, Capture, Ng}
 use Rattle.command_output.specs.declared.unread.Unread.{Unread}

@@ -5,10 +5,12 @@ ghost use Rattle.std.specs.List.{flat_map};
 ghost use Rattle.pcap_io.specs.declared.frame.Frame.{Frame as FrameValue};
 ghost use Rattle.srx_edge.specs.Steps.{Wrote};
 ghost use Rattle.command_output.specs.Answers.{ending_of_step};
+ghost use Rattle.command_output.specs.Gathered.{Goes, pooled};
+ghost use Rattle.command_output.specs.Pieces.{Piece};
 ghost use Rattle.command_inputs.specs.Frames.{FramesSeen, Finds};
 
 use base::NoMemory;
-use command_output::{Failure, Refusal};
+use command_output::{Failure, Pool, Refusal};
 use pcap_io::LentFrame;
 use srx_edge::Sink;
 use std::alloc::Global;
@@ -93,6 +95,76 @@ pub fn tell_frames<N: Frames, T: Tells, K: Sink>(
     'frames: loop {
         match frames.next()? {
             Found::Frame => tell_at_hand(alloc, teller, frames, sink)?,
+            Found::End(fault) => return Ok(fault),
+        }
+    }
+}
+
+/// What is written of frames by the pool, frame by frame. (own rule)
+pub trait Puts {
+    /// What holds of those that may be asked.
+    ghost ready: { Self → Type 0 };
+
+    /// The pieces that are written of a frame.
+    ghost pieces: { Self → FrameValue → List Piece };
+
+    /// Writes what is to be written of a frame.
+    fn put<O: Sink, E: Sink>(
+        &self,
+        alloc: Global,
+        frame: &LentFrame<'_>,
+        pool: &mut Pool,
+        out: &mut O,
+        err: &mut E,
+    ) -> Result<(), Failure>
+        requires { ready self.now }
+        ensures { Goes (ending_of_step result) (pieces self.now frame.now)
+            (pooled pool.old (O.seen out.old) (E.seen err.old))
+            (pooled pool.new (O.seen out.new) (E.seen err.new)) };
+}
+
+/// Writes what is to be written of the frame at hand, by the pool.
+fn put_at_hand<N: Frames, P: Puts, O: Sink, E: Sink>(
+    alloc: Global,
+    puts: &P,
+    frames: &N,
+    pool: &mut Pool,
+    out: &mut O,
+    err: &mut E,
+) -> Result<(), Failure>
+    requires { P.ready puts.now }
+    ensures { IfSome (N.seen frames.now).at (λ frame. Goes (ending_of_step result)
+        (P.pieces puts.now frame)
+        (pooled pool.old (O.seen out.old) (E.seen err.old))
+        (pooled pool.new (O.seen out.new) (E.seen err.new))) }
+{
+    match frames.frame() {
+        Some(frame) => puts.put(alloc, &frame, pool, out, err),
+        None => Ok(()),
+    }
+}
+
+/// Writes what is to be written of all frames that will come, one after the other, by the pool, and
+/// gives the refusal of what is after the last, if anything is. (own rule)
+#[tactic(auto, using(crate::proofs::FrameLoops::put_to_the_end))]
+pub fn put_frames<N: Frames, P: Puts, O: Sink, E: Sink>(
+    alloc: Global,
+    puts: &P,
+    frames: &mut N,
+    pool: &mut Pool,
+    out: &mut O,
+    err: &mut E,
+) -> Result<Option<Refusal>, Failure>
+    requires { P.ready puts.now }
+    ensures fault { IfOk result (λ fault. fault ≡ (N.seen frames.old).end) }
+    ensures wrote { Goes (ending_of_step result)
+        (flat_map (P.pieces puts.now) (N.seen frames.old).frames)
+        (pooled pool.old (O.seen out.old) (E.seen err.old))
+        (pooled pool.new (O.seen out.new) (E.seen err.new)) }
+{
+    'frames: loop {
+        match frames.next()? {
+            Found::Frame => put_at_hand(alloc, puts, frames, pool, out, err)?,
             Found::End(fault) => return Ok(fault),
         }
     }

@@ -15,12 +15,12 @@ mod packets;
 mod sources;
 
 pub use choices::{Picks, choices_of_words, picks_of_words};
-pub use frames::{Found, Frames, Tells, tell_frames};
+pub use frames::{Found, Frames, Puts, Tells, put_frames, tell_frames};
 pub use input_bytes::InputBytes;
 pub use judge::{
     cert_of_file, intent_of_file, intent_of_text, network_of_file, network_of_text, node_of_name,
     trace_of_file,
 };
-pub use limits::{MAX_CHOICES, MAX_INPUT_BYTES, MAX_SCHEDULE};
+pub use limits::{MAX_CHOICES, MAX_SCHEDULE};
 pub use packets::{Packets, packets_of_input, unread_of_frame};
 pub use sources::{BareFrames, CaptureFrames, NgFrames, PacketFrames};

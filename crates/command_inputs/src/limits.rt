@@ -1,8 +1,5 @@
 //! The limits, each of which the definitions cite.
 
-/// The most bytes of the input. (own rule)
-pub const MAX_INPUT_BYTES: usize = 67_108_864;
-
 /// The most choices that the words give. (own rule)
 pub const MAX_CHOICES: usize = 4_096;
 

@@ -5,9 +5,8 @@ ghost use Rattle.command_output.specs.Answers.{JudgesInput};
 ghost use Rattle.command_inputs.specs.Packets.{HasHead, is_bare, ng_in, packets_in, refusal_of_end, unread_in};
 
 use crate::input_bytes::InputBytes;
-use crate::limits::MAX_INPUT_BYTES;
 use base::Seq;
-use command_output::{Halt, Refusal, Unread};
+use command_output::{Halt, MAX_INPUT_BYTES, Refusal, Unread};
 use pcap_io::{CaptureFault, CaptureHead, LentBody, LentFrame, read_head};
 use pcapng_io::{NgEnd, NgFault, end_at_start};
 use srx_edge::{Source, draw};
