@@ -14,12 +14,13 @@ use Rattle.packet_walk.specs.Schedule.{Coming, Taken, all_of, one_by_one}
 use Rattle.walk_rules.specs.declared.limits.TheConstants.{MAX_STAGES}
 use Rattle.run_commands.specs.Capture.{frame_of_gave, frames_of}
 use Rattle.srx_edge.specs.Steps.{Ending}
+use Rattle.command_output.specs.Gathered.{Goes, Pooled}
 use Rattle.command_output.specs.Lines.{packet_line}
-use Rattle.command_output.specs.Pieces.{Sinks, Which, ToOut, ToErr, WroteAll, bytes_in_order}
+use Rattle.command_output.specs.Pieces.{ForErr, Which, ToOut, ToErr, bytes_in_order}
 use Rattle.run_commands.specs.Scheduled.{coming, pieces_of_stage, pieces_of_stages, scheduled_pieces}
 use Rattle.run_commands.specs.declared.enters.Comes.{Comes}
-use Rattle.run_commands.specs.Entry.{Entry, comes_of, coming_if_comes, coming_of_frame, comings_of_frames, packet_pieces, pieces_of_frame, pieces_one_by_one}
-use Rattle.command_output.proofs.PublicLaws.{all_same, marked, bytes_in_order-append}
+use Rattle.run_commands.specs.Entry.{Entry, comes_of, coming_if_comes, coming_of_frame, comings_of_frames, line_of_frame, line_pieces, packet_pieces, pieces_of_frame, pieces_one_by_one}
+use Rattle.command_output.proofs.PublicLaws.{goes_same, marked, bytes_in_order-append}
 
 -- a packet's frames and then its line are the pieces of its stages, one after the other
 
@@ -74,6 +75,25 @@ module _ (net : Network) where
       ∙ ap (pieces_of_stages net)
       (sym (flat_map-append (λ (c : Coming). all_of c.number c.steps) (packets frame) (flat_map packets more))))))
 
+-- the lines of the packets that stay, one after the other
+
+lines-same : (net : Network) (entry : Body → Entry) (frames : List Frame)
+    → bytes_in_order (flat_map (line_pieces net entry) frames) ≡ bytes_in_order (ForErr (flat_map (line_of_frame net entry) frames) ∷ [])
+lines-same net entry [] = refl
+lines-same net entry (frame ∷ more) =
+    let line : List ℕ = line_of_frame net entry frame in
+    let lines : List ℕ = flat_map (line_of_frame net entry) more in
+    ap (λ (bytes : List (Which × ℕ)). marked ToErr line ++ bytes) (lines-same net entry more)
+    ∙ (sym (append_assoc (marked ToErr line) (marked ToErr lines) [])
+    ∙ ap (λ (bytes : List (Which × ℕ)). bytes ++ []) (sym (map-append (λ byte. (ToErr, byte)) line lines)))
+
+pub lines_went : (net : Network) (entry : Body → Entry) (frames : List Frame) (ending : Ending) (old new : Pooled)
+    → Goes ending (flat_map (line_pieces net entry) frames) old new
+    → Goes ending (ForErr (flat_map (line_of_frame net entry) frames) ∷ []) old new
+lines_went net entry frames ending old new wrote =
+    goes_same ending (flat_map (line_pieces net entry) frames) (ForErr (flat_map (line_of_frame net entry) frames) ∷ []) old new
+    (lines-same net entry frames) wrote
+
 -- those that enter of frames
 
 module _ (net : Network) (choices : List ℕ) (entry : Body → Entry) where
@@ -87,10 +107,10 @@ module _ (net : Network) (choices : List ℕ) (entry : Body → Entry) where
   in-order frames = frames-same net (coming_of_frame net choices entry) (λ frame. comes-same frame.number (comes_of (entry frame.body))) frames
 
   -- a step that wrote the packets one after the other wrote them under no schedule
-  pub wrote_in_order : (frames : List Frame) (schedule : List ℕ) → length schedule ≡ 0 → (ending : Ending) (old new : Sinks)
-      → WroteAll ending (flat_map (pieces_of_frame net (coming_of_frame net choices entry)) frames) old new
-      → WroteAll ending (scheduled_pieces net schedule (comings_of_frames net choices entry frames)) old new
+  pub wrote_in_order : (frames : List Frame) (schedule : List ℕ) → length schedule ≡ 0 → (ending : Ending) (old new : Pooled)
+      → Goes ending (flat_map (pieces_of_frame net (coming_of_frame net choices entry)) frames) old new
+      → Goes ending (scheduled_pieces net schedule (comings_of_frames net choices entry frames)) old new
   wrote_in_order frames [] none ending old new wrote =
-      all_same (flat_map (pieces_of_frame net (coming_of_frame net choices entry)) frames)
-      (scheduled_pieces net [] (comings_of_frames net choices entry frames)) old new (in-order frames) ending wrote
+      goes_same ending (flat_map (pieces_of_frame net (coming_of_frame net choices entry)) frames)
+      (scheduled_pieces net [] (comings_of_frames net choices entry frames)) old new (in-order frames) wrote
   wrote_in_order frames (number ∷ schedule) none ending old new wrote = absurd (omega (arith, none))

@@ -17,16 +17,16 @@ use Rattle.packet_walk.specs.Flight.{InFlight, Flight, IsGiven, IsInFlight, Turn
 use Rattle.packet_walk.specs.Rest.{end_where, rest_of}
 use Rattle.packet_walk.specs.Schedule.{Taken, Progress, IsOf, IsTurnOf, due, frame_of, next_of}
 use Rattle.packet_walk.proofs.PublicLaws.{packet-same, given-packet, turned-going, turned-net, length-turned, rest-going, rest-ended, end-going, end-ended, staged-counted}
-use Rattle.srx_edge.specs.Sinks.{SinkSeen}
-use Rattle.srx_edge.specs.Steps.{Ending, Whole, Wrote}
+use Rattle.srx_edge.specs.Steps.{Ending, Whole}
 use Rattle.srv6_rules.specs.Packet.{Packet, bytes_of}
 use Rattle.command_output.specs.declared.halt.Failure.{Failure}
 use Rattle.command_output.specs.Answers.{ending_of_failure}
-use Rattle.command_output.specs.Pieces.{Piece, ForErr, Sinks, gone, sinks_of, WroteAll}
+use Rattle.command_output.specs.Gathered.{Goes, Pooled}
+use Rattle.command_output.specs.Pieces.{Piece, ForOut, ForErr}
 use Rattle.run_commands.specs.Capture.{IsWritable, frame_by, frame_of_gave}
 use Rattle.run_commands.specs.Scheduled.{line_behind, line_by, pieces_of_stage, pieces_of_stages}
 use Rattle.command_output.specs.Sent.{IsEnd}
-use Rattle.command_output.proofs.PublicLaws.{all_longer, all_behind, all_both, cut_at_out, line_behind_out}
+use Rattle.command_output.proofs.PublicLaws.{goes_behind, goes_both, goes_longer, goes_nowhere, goes_then}
 use Rattle.run_commands.proofs.Writable.{gave_writable, end_within}
 
 -- what holds, holds where a result is well
@@ -97,12 +97,12 @@ module _ (f : Flight) (packet : ℕ) (given : IsGiven f packet) (going : IfSome 
   which-going : which.0.ended ≡ None
   which-going = of-there (packet_of f packet) which.0 (λ p. p.ended ≡ None) which.1 going
 
-  turn-wrote : (net : Network) → f.net ≡ net → (number : ℕ) (ending : Ending) (s t : Sinks)
-      → WroteAll ending (pieces_of_stage f.net (next_of number f.net which.0)) s t
-      → IfSome (packet_of f packet) (λ p. WroteAll ending (pieces_of_stage net (next_of number net p)) s t)
+  turn-wrote : (net : Network) → f.net ≡ net → (number : ℕ) (ending : Ending) (s t : Pooled)
+      → Goes ending (pieces_of_stage f.net (next_of number f.net which.0)) s t
+      → IfSome (packet_of f packet) (λ p. Goes ending (pieces_of_stage net (next_of number net p)) s t)
   turn-wrote net same number ending s t wrote =
-      to-there (packet_of f packet) which.0 (λ p. WroteAll ending (pieces_of_stage net (next_of number net p)) s t) which.1
-      (subst (λ (n : Network). WroteAll ending (pieces_of_stage n (next_of number n which.0)) s t) same wrote)
+      to-there (packet_of f packet) which.0 (λ p. Goes ending (pieces_of_stage net (next_of number net p)) s t) which.1
+      (subst (λ (n : Network). Goes ending (pieces_of_stage n (next_of number n which.0)) s t) same wrote)
 
   module _ (event : Event) (new : Flight) (h : IfSome (packet_of f packet) (λ p. Turns packet f p (Ok (Some event)) new)) where
     turns : Turns packet f which.0 (Ok (Some event)) new
@@ -156,55 +156,55 @@ module _ (f : Flight) (packet : ℕ) (given : IsGiven f packet) (going : IfSome 
       stage-end number = line_behind f.net number (stage_in f.net which.0) (rest_of f.net (staged f.net which.0))
 
       -- what was written of what its stage sends
-      sent-by : (number : ℕ) (ending : Ending) (o q : SinkSeen)
+      sent-by : (number : ℕ) (ending : Ending) (o q : Pooled)
           → IfSome (packet_of new packet) (λ p. (told : Option Packet) → TellsOfError event.outcome told → new.error ≡ error_bytes told
-          → Wrote ending (frame_by number event.outcome p.content told) o q)
-          → Wrote ending (stage-sent number) o q
+          → Goes ending (ForOut (frame_by number event.outcome p.content told) ∷ []) o q)
+          → Goes ending (ForOut (stage-sent number) ∷ []) o q
       sent-by number ending o q wrote =
-          subst (λ (outcome : Outcome). Wrote ending
-          (frame_by number outcome (staged f.net which.0).content (stage_in f.net which.0).gave.error) o q) event-outcome
+          subst (λ (outcome : Outcome). Goes ending
+          (ForOut (frame_by number outcome (staged f.net which.0).content (stage_in f.net which.0).gave.error) ∷ []) o q) event-outcome
           (of-there (packet_of new packet) (staged f.net which.0)
           (λ p. (told : Option Packet) → TellsOfError event.outcome told → new.error ≡ error_bytes told
-          → Wrote ending (frame_by number event.outcome p.content told) o q) new-there wrote
+          → Goes ending (ForOut (frame_by number event.outcome p.content told) ∷ []) o q) new-there wrote
           (stage_in f.net which.0).gave.error event-tells new-error)
 
       -- and of its line
-      ended-by : (net : Network) → f.net ≡ net → (number : ℕ) (ending : Ending) (e d : SinkSeen)
-          → IfSome (packet_of new packet) (λ p. Wrote ending (line_by net number p.ended) e d)
-          → Wrote ending (stage-end number) e d
+      ended-by : (net : Network) → f.net ≡ net → (number : ℕ) (ending : Ending) (e d : Pooled)
+          → IfSome (packet_of new packet) (λ p. Goes ending (ForErr (line_by net number p.ended) ∷ []) e d)
+          → Goes ending (ForErr (stage-end number) ∷ []) e d
       ended-by net same number ending e d wrote =
-          subst (λ (line : List ℕ). Wrote ending line e d) (sym (new-line number))
-          (subst (λ (n : Network). Wrote ending (line_by n number (staged f.net which.0).ended) e d) (sym same)
-          (of-there (packet_of new packet) (staged f.net which.0) (λ p. Wrote ending (line_by net number p.ended) e d) new-there wrote))
+          subst (λ (line : List ℕ). Goes ending (ForErr line ∷ []) e d) (sym (new-line number))
+          (subst (λ (n : Network). Goes ending (ForErr (line_by n number (staged f.net which.0).ended) ∷ []) e d) (sym same)
+          (of-there (packet_of new packet) (staged f.net which.0) (λ p. Goes ending (ForErr (line_by net number p.ended) ∷ []) e d)
+          new-there wrote))
 
-      pub turn-cut : (net : Network) → f.net ≡ net → (number : ℕ) (failure : Failure) (o q e : SinkSeen)
+      pub turn-cut : (net : Network) → f.net ≡ net → (number : ℕ) (failure : Failure) (o q : Pooled)
           → IfSome (packet_of new packet) (λ p. (told : Option Packet) → TellsOfError event.outcome told → new.error ≡ error_bytes told
-          → Wrote (ending_of_failure failure) (frame_by number event.outcome p.content told) o q)
-          → IfSome (packet_of f packet) (λ p. WroteAll (ending_of_failure failure) (pieces_of_stage net (next_of number net p))
-          (sinks_of o e) (sinks_of q e))
-      turn-cut net same number failure o q e wrote =
-          turn-wrote net same number (ending_of_failure failure) (sinks_of o e) (sinks_of q e)
-          (cut_at_out (stage-sent number) (stage-end number) (ForErr (stage-end number) ∷ []) o q e e failure
+          → Goes (ending_of_failure failure) (ForOut (frame_by number event.outcome p.content told) ∷ []) o q)
+          → IfSome (packet_of f packet) (λ p. Goes (ending_of_failure failure) (pieces_of_stage net (next_of number net p)) o q)
+      turn-cut net same number failure o q wrote =
+          turn-wrote net same number (ending_of_failure failure) o q
+          (goes_longer failure (ForOut (stage-sent number) ∷ []) (ForErr (stage-end number) ∷ []) o q
           (sent-by number (ending_of_failure failure) o q wrote))
 
-      pub turn-ends : (net : Network) → f.net ≡ net → (number : ℕ) (ending : Ending) (o q e d : SinkSeen)
+      pub turn-ends : (net : Network) → f.net ≡ net → (number : ℕ) (ending : Ending) (o q r : Pooled)
           → IfSome (packet_of new packet) (λ p. (told : Option Packet) → TellsOfError event.outcome told → new.error ≡ error_bytes told
-          → Wrote Whole (frame_by number event.outcome p.content told) o q)
-          → IfSome (packet_of new packet) (λ p. Wrote ending (line_by net number p.ended) e d)
-          → IfSome (packet_of f packet) (λ p. WroteAll ending (pieces_of_stage net (next_of number net p)) (sinks_of o e) (sinks_of q d))
-      turn-ends net same number ending o q e d sent ends =
-          turn-wrote net same number ending (sinks_of o e) (sinks_of q d)
-          (line_behind_out (stage-sent number) (stage-end number) [] o q e d (sent-by number Whole o q sent) ending
-          (ended-by net same number ending e d ends))
+          → Goes Whole (ForOut (frame_by number event.outcome p.content told) ∷ []) o q)
+          → IfSome (packet_of new packet) (λ p. Goes ending (ForErr (line_by net number p.ended) ∷ []) q r)
+          → IfSome (packet_of f packet) (λ p. Goes ending (pieces_of_stage net (next_of number net p)) o r)
+      turn-ends net same number ending o q r sent ends =
+          turn-wrote net same number ending o r
+          (goes_then ending (ForOut (stage-sent number) ∷ []) (ForErr (stage-end number) ∷ []) o q r (sent-by number Whole o q sent)
+          (ended-by net same number ending q r ends))
 
 -- of all stages these are done, and the others are due
-pub record InTurns (net : Network) (numbers : List ℕ) (whole : List Taken) (now : Progress) (f : Flight) (first sinks : Sinks) : Type 0 where
+pub record InTurns (net : Network) (numbers : List ℕ) (whole : List Taken) (now : Progress) (f : Flight) (first pool : Pooled) : Type 0 where
   pub same_net : f.net ≡ net
   pub same_numbers : now.numbers ≡ numbers
   pub of : IsOf f now
   pub done : List Taken
   pub left : done ++ due now f ≡ whole
-  pub went : sinks ≡ gone (pieces_of_stages net done) first
+  pub went : Goes Whole (pieces_of_stages net done) first pool
 
 -- what is within a list doesn't depend on what is past its end
 within-any : (xs : List ℕ) (i d e : ℕ) → i < length xs → slice_index_or xs i d ≡ slice_index_or xs i e
@@ -221,7 +221,7 @@ pub frame-is : (numbers : List ℕ) (packet number : ℕ) → 1 ≤ packet → p
     → number ≡ slice_index_or numbers (packet - 1) number → number ≡ frame_of numbers packet
 frame-is numbers packet number first within is = is ∙ (within-any numbers (packet - 1) number 0 within ∙ frame-at numbers packet first)
 
-module _ (net : Network) (numbers : List ℕ) (whole : List Taken) (old new : Progress) (f : Flight) (first mid : Sinks)
+module _ (net : Network) (numbers : List ℕ) (whole : List Taken) (old new : Progress) (f : Flight) (first mid : Pooled)
     (t : InTurns net numbers whole old f first mid) where
   -- the packet whose turn it is has a number
   pub turns_within : (packet : ℕ) → IsTurnOf old f packet new → packet - 1 < length numbers
@@ -257,34 +257,43 @@ module _ (net : Network) (numbers : List ℕ) (whole : List Taken) (old new : Pr
         ∙ ap (λ (more : List Piece). pieces_of_stages net t.done ++ more) (append-nil (pieces_of_stage net stage))
 
     -- a stage's pieces went out
-    pub turns_on : (g : Flight) (sinks : Sinks) → g ≡ turned packet f
-        → IfSome (packet_of f packet) (λ p. sinks ≡ gone (pieces_of_stage net (next_of number net p)) mid)
-        → InTurns net numbers whole new g first sinks
-    turns_on g sinks is-turned wrote =
-        let went : sinks ≡ gone (pieces_of_stage net stage) mid =
-        of-there (packet_of f packet) turning (λ p. sinks ≡ gone (pieces_of_stage net (next_of number net p)) mid) there wrote in
-        subst (λ (h : Flight). InTurns net numbers whole new h first sinks) (sym is-turned)
+    pub turns_on : (g : Flight) (pool : Pooled) → g ≡ turned packet f
+        → IfSome (packet_of f packet) (λ p. Goes Whole (pieces_of_stage net (next_of number net p)) mid pool)
+        → InTurns net numbers whole new g first pool
+    turns_on g pool is-turned wrote =
+        let went : Goes Whole (pieces_of_stage net stage) mid pool =
+        of-there (packet_of f packet) turning (λ p. Goes Whole (pieces_of_stage net (next_of number net p)) mid pool) there wrote in
+        subst (λ (h : Flight). InTurns net numbers whole new h first pool) (sym is-turned)
         (record {
           same_net = turned-net packet f ∙ t.same_net;
           same_numbers = turn.numbers ∙ t.same_numbers;
           of = turn.later;
           done = t.done ++ stage ∷ [];
           left = stages-on;
-          went = all_both (pieces_of_stages net t.done) (pieces_of_stage net stage) first mid sinks t.went went
-              ∙ ap (λ (pieces : List Piece). gone pieces first) (sym pieces-on);
+          went = subst (λ (pieces : List Piece). Goes Whole pieces first pool) (sym pieces-on)
+              (goes_both (pieces_of_stages net t.done) (pieces_of_stage net stage) first mid pool t.went went);
         })
 
     -- they went out in part
-    pub turns_cut : (failure : Failure) (sinks : Sinks)
-        → IfSome (packet_of f packet) (λ p. WroteAll (ending_of_failure failure) (pieces_of_stage net (next_of number net p)) mid sinks)
-        → WroteAll (ending_of_failure failure) (pieces_of_stages net whole) first sinks
-    turns_cut failure sinks wrote =
-        let cut : WroteAll (ending_of_failure failure) (pieces_of_stage net stage) mid sinks =
+    pub turns_cut : (failure : Failure) (pool : Pooled)
+        → IfSome (packet_of f packet) (λ p. Goes (ending_of_failure failure) (pieces_of_stage net (next_of number net p)) mid pool)
+        → Goes (ending_of_failure failure) (pieces_of_stages net whole) first pool
+    turns_cut failure pool wrote =
+        let cut : Goes (ending_of_failure failure) (pieces_of_stage net stage) mid pool =
         of-there (packet_of f packet) turning
-        (λ p. WroteAll (ending_of_failure failure) (pieces_of_stage net (next_of number net p)) mid sinks) there wrote in
-        subst (λ (stages : List Taken). WroteAll (ending_of_failure failure) (pieces_of_stages net stages) first sinks) stages-on
-        (subst (λ (pieces : List Piece). WroteAll (ending_of_failure failure) pieces first sinks)
+        (λ p. Goes (ending_of_failure failure) (pieces_of_stage net (next_of number net p)) mid pool) there wrote in
+        subst (λ (stages : List Taken). Goes (ending_of_failure failure) (pieces_of_stages net stages) first pool) stages-on
+        (subst (λ (pieces : List Piece). Goes (ending_of_failure failure) pieces first pool)
         (sym (flat_map-append (pieces_of_stage net) (t.done ++ stage ∷ []) (due new (turned packet f))))
-        (all_longer failure (pieces_of_stages net (t.done ++ stage ∷ [])) (pieces_of_stages net (due new (turned packet f))) first sinks
-        (subst (λ (pieces : List Piece). WroteAll (ending_of_failure failure) pieces first sinks) (sym pieces-on)
-        (all_behind failure (pieces_of_stages net t.done) (pieces_of_stage net stage) first mid sinks t.went cut))))
+        (goes_longer failure (pieces_of_stages net (t.done ++ stage ∷ [])) (pieces_of_stages net (due new (turned packet f))) first pool
+        (subst (λ (pieces : List Piece). Goes (ending_of_failure failure) pieces first pool) (sym pieces-on)
+        (goes_behind failure (pieces_of_stages net t.done) (pieces_of_stage net stage) first mid pool t.went cut))))
+
+-- no stage is due: all are done
+pub turns_done : (net : Network) (numbers : List ℕ) (whole : List Taken) (now : Progress) (f : Flight) (first pool : Pooled)
+    → InTurns net numbers whole now f first pool → due now f ≡ [] → Goes Whole (pieces_of_stages net whole) first pool
+turns_done net numbers whole now f first pool t none =
+    subst (λ (stages : List Taken). Goes Whole (pieces_of_stages net stages) first pool)
+    (sym (append-nil t.done) ∙ (ap (λ (more : List Taken). t.done ++ more) (sym none) ∙ t.left)) t.went
+
+pub ruleset by_turns = (goes_nowhere, turns_done)

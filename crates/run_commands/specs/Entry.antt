@@ -1,5 +1,5 @@
 -- What becomes of the packets of frames before their first stages: they stay, with a line, or enter the network (own rules).
-use Rattle.std.specs.Prelude.{ℕ, List, [], ◌∷◌, Option, Some, None, ⊤}
+use Rattle.std.specs.Prelude.{ℕ, List, [], ◌∷◌, ◌++◌, Option, Some, None, ⊤}
 use Rattle.std.specs.List.{flat_map}
 use Rattle.pcap_io.specs.declared.frame.Body.{Body}
 use Rattle.pcap_io.specs.declared.frame.Frame.{Frame}
@@ -94,8 +94,15 @@ pieces_one_by_one net comings = flat_map (λ (c : Coming). packet_pieces net c.n
 abbrev pub pieces_of_frame : Network → (Frame → List Coming) → Frame → List Piece
 pieces_of_frame net comings frame = pieces_one_by_one net (comings frame)
 
--- the head of the capture that is written, the lines of the packets that stay, and the stages of the others in the order of a schedule
+-- the line of a frame's packet that stays, for `err`
+abbrev pub line_pieces : Network → (Body → Entry) → Frame → List Piece
+line_pieces net entry frame = ForErr (line_of_frame net entry frame) ∷ []
+
+-- the head of the capture that is written, and the lines of the packets that stay
+abbrev pub first_pieces : Network → (Body → Entry) → List Frame → List Piece
+first_pieces net entry frames = ForOut written_head_bytes ∷ ForErr (flat_map (line_of_frame net entry) frames) ∷ []
+
+-- those, and then the stages of the others in the order of a schedule
 abbrev pub driven_pieces : Network → List ℕ → List ℕ → (Body → Entry) → List Frame → List Piece
 driven_pieces net choices schedule entry frames =
-    ForOut written_head_bytes ∷ ForErr (flat_map (line_of_frame net entry) frames)
-    ∷ scheduled_pieces net schedule (comings_of_frames net choices entry frames)
+    first_pieces net entry frames ++ scheduled_pieces net schedule (comings_of_frames net choices entry frames)

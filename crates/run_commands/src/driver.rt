@@ -1,50 +1,52 @@
 //! The one driver of packets: what enters the network is walked, in the order of a schedule or one
 //! after the other, and what goes out and comes of it is written.
 
-ghost use Rattle.std.specs.Prelude.{◌≡◌, ◌<◌, ◌+◌, ◌^◌, IfOk, IfSome, OnOk, length};
-ghost use Rattle.std.specs.List.{flat_map};
+ghost use Rattle.std.specs.Prelude.{◌≡◌, ◌<◌, ◌+◌, ◌^◌, ◌∷◌, [], IfOk, IfSome, OnOk, length};
 ghost use Rattle.packet_walk.specs.Schedule.{comings_of};
-ghost use Rattle.srx_edge.specs.Steps.{Wrote};
 ghost use Rattle.command_output.specs.Answers.{ending_of_step};
-ghost use Rattle.command_output.specs.Pieces.{WroteAll, sinks_of};
+ghost use Rattle.command_output.specs.Gathered.{Goes, WroteInGroups, pooled};
+ghost use Rattle.command_output.specs.Pieces.{ForErr, sinks_of};
 ghost use Rattle.command_inputs.specs.Packets.{HasHead, fault_of, reading_of};
 ghost use Rattle.walk_rules.specs.Relation.{IsPlace};
-ghost use Rattle.run_commands.specs.Entry.{AllEnterIn, StaysIn, coming_of_frame, comings_of_frames, driven_pieces, in_flight_if_comes, comes_of, line_of_frame, line_of_stays, packet_pieces, pieces_of_frame, walk_of_comes};
+ghost use Rattle.run_commands.specs.Entry.{AllEnterIn, StaysIn, coming_of_frame, comings_of_frames, driven_pieces, first_pieces, in_flight_if_comes, comes_of, line_of_stays, line_pieces, packet_pieces, pieces_of_frame, walk_of_comes};
 ghost use Rattle.run_commands.specs.Scheduled.{IsEntered, IsInStep, scheduled_pieces};
 
 use crate::course::Course;
 use crate::enters::{Comes, Enters, Stays};
-use crate::scheduled::{Entered, write_turns};
-use crate::written::{write_head, write_walk};
+use crate::scheduled::{Entered, put_turns};
+use crate::written::{put_head, put_walk};
 use base::NoMemory;
-use command_inputs::{Found, Frames, Packets, Tells, tell_frames};
-use command_output::{Failure, Refusal, line_of_packet, line_of_unread, write_all};
+use command_inputs::{Found, Frames, Packets, Puts, put_frames};
+use command_output::{Failure, Pool, Refusal, line_of_packet, line_of_unread};
 use net_model::Net;
 use pcap_io::LentFrame;
 use srx_edge::Sink;
 use std::alloc::Global;
 
 /// Writes the line of a packet that stays.
-#[tactic(auto, using(command_output::proofs::PublicLaws::writing))]
-fn tell_stays<E: Sink>(
+#[tactic(auto, using(command_output::proofs::PublicLaws::going))]
+fn put_stays<O: Sink, E: Sink>(
     alloc: Global,
     net: &Net,
     number: u32,
     stays: &Stays,
+    pool: &mut Pool,
+    out: &mut O,
     err: &mut E,
 ) -> Result<(), Failure>
     requires { StaysIn net.now stays.now }
-    ensures { Wrote (ending_of_step result) (line_of_stays net.now number stays.now)
-        (E.seen err.old) (E.seen err.new) }
+    ensures { Goes (ending_of_step result) (ForErr (line_of_stays net.now number stays.now) ∷ [])
+        (pooled pool.old (O.seen out.old) (E.seen err.old))
+        (pooled pool.new (O.seen out.new) (E.seen err.new)) }
 {
     match stays {
         Stays::NotRead(cause) => {
             let line = line_of_unread(alloc, number, *cause)?;
-            write_all(err, line.as_bytes())
+            pool.put_err(line.as_bytes(), out, err)
         }
         Stays::Ends(ended) => {
             let line = line_of_packet(alloc, net, number, ended)?;
-            write_all(err, line.as_bytes())
+            pool.put_err(line.as_bytes(), out, err)
         }
     }
 }
@@ -56,19 +58,22 @@ struct Staying<'a, W> {
     enters: &'a W,
 }
 
-impl<W: Enters> Tells for Staying<'_, W> {
+impl<W: Enters> Puts for Staying<'_, W> {
     ghost ready = { λ s. W.ready s.enters.now × AllEnterIn s.net.now (W.entry s.enters.now) };
 
-    ghost lines = { λ s. line_of_frame s.net.now (W.entry s.enters.now) };
+    ghost pieces = { λ s. line_pieces s.net.now (W.entry s.enters.now) };
 
-    fn tell<K: Sink>(
+    #[tactic(auto, using(command_output::proofs::PublicLaws::going))]
+    fn put<O: Sink, E: Sink>(
         &self,
         alloc: Global,
         frame: &LentFrame<'_>,
-        sink: &mut K,
+        pool: &mut Pool,
+        out: &mut O,
+        err: &mut E,
     ) -> Result<(), Failure> {
         match self.enters.stays(frame) {
-            Some(stays) => tell_stays(alloc, self.net, frame.number(), &stays, sink),
+            Some(stays) => put_stays(alloc, self.net, frame.number(), &stays, pool, out, err),
             None => Ok(()),
         }
     }
@@ -80,74 +85,53 @@ fn walk_packet<O: Sink, E: Sink>(
     course: &Course<'_>,
     comes: Comes,
     number: u32,
-    room: &mut Vec<u8>,
+    pool: &mut Pool,
     out: &mut O,
     err: &mut E,
 ) -> Result<(), Failure>
     requires place { IsPlace course.now.net.now comes.place }
     requires choices { 0 < length course.now.choices.now }
-    ensures { WroteAll (ending_of_step result)
+    ensures { Goes (ending_of_step result)
         (packet_pieces course.now.net.now number
         (walk_of_comes course.now.net.now course.now.choices.now comes))
-        (sinks_of (O.seen out.old) (E.seen err.old)) (sinks_of (O.seen out.new) (E.seen err.new)) }
+        (pooled pool.old (O.seen out.old) (E.seen err.old))
+        (pooled pool.new (O.seen out.new) (E.seen err.new)) }
 {
-    let ended = write_walk(alloc, course, comes, number, room, out)?;
+    let ended = put_walk(alloc, course, comes, number, pool, out, err)?;
     let line = line_of_packet(alloc, course.net, number, &ended)?;
-    write_all(err, line.as_bytes())
+    pool.put_err(line.as_bytes(), out, err)
 }
 
-/// Walks the packet of the frame at hand, if it enters.
-fn walk_at_hand<N: Frames, W: Enters, O: Sink, E: Sink>(
-    alloc: Global,
-    course: &Course<'_>,
-    enters: &W,
-    frames: &N,
-    room: &mut Vec<u8>,
-    out: &mut O,
-    err: &mut E,
-) -> Result<(), Failure>
-    requires ready { W.ready enters.now }
-    requires within { AllEnterIn course.now.net.now (W.entry enters.now) }
-    requires choices { 0 < length course.now.choices.now }
-    ensures { IfSome (N.seen frames.now).at (λ frame. WroteAll (ending_of_step result)
-        (pieces_of_frame course.now.net.now
-        (coming_of_frame course.now.net.now course.now.choices.now (W.entry enters.now)) frame)
-        (sinks_of (O.seen out.old) (E.seen err.old)) (sinks_of (O.seen out.new) (E.seen err.new))) }
-{
-    let Some(frame) = frames.frame() else {
-        return Ok(());
-    };
-    match enters.enter(alloc, &frame)? {
-        Some(comes) => walk_packet(alloc, course, comes, frame.number(), room, out, err),
-        None => Ok(()),
-    }
+/// What is written of the packets that enter, each of which is walked to its end before the next.
+/// No packet is kept in memory after its end.
+#[derive(Drop)]
+struct Walking<'a, W> {
+    course: &'a Course<'a>,
+    enters: &'a W,
 }
 
-/// Walks the packets of all frames that enter, one after the other, and gives the refusal of what
-/// comes after the frames, if anything does. No packet is kept in memory after its end.
-fn walk_frames<N: Frames, W: Enters, O: Sink, E: Sink>(
-    alloc: Global,
-    course: &Course<'_>,
-    enters: &W,
-    frames: &mut N,
-    out: &mut O,
-    err: &mut E,
-) -> Result<Option<Refusal>, Failure>
-    requires ready { W.ready enters.now }
-    requires within { AllEnterIn course.now.net.now (W.entry enters.now) }
-    requires choices { 0 < length course.now.choices.now }
-    ensures fault { IfOk result (λ fault. fault ≡ (N.seen frames.old).end) }
-    ensures wrote { WroteAll (ending_of_step result)
-        (flat_map (pieces_of_frame course.now.net.now
-        (coming_of_frame course.now.net.now course.now.choices.now (W.entry enters.now)))
-        (N.seen frames.old).frames)
-        (sinks_of (O.seen out.old) (E.seen err.old)) (sinks_of (O.seen out.new) (E.seen err.new)) }
-{
-    let mut room = Vec::new(alloc);
-    'frames: loop {
-        match frames.next()? {
-            Found::Frame => walk_at_hand(alloc, course, enters, frames, &mut room, out, err)?,
-            Found::End(fault) => return Ok(fault),
+impl<W: Enters> Puts for Walking<'_, W> {
+    ghost ready = { λ w. W.ready w.enters.now
+        × AllEnterIn w.course.now.net.now (W.entry w.enters.now)
+        × (0 < length w.course.now.choices.now) };
+
+    ghost pieces = { λ w. pieces_of_frame w.course.now.net.now
+        (coming_of_frame w.course.now.net.now w.course.now.choices.now (W.entry w.enters.now)) };
+
+    #[tactic(auto, using(command_output::proofs::PublicLaws::going))]
+    fn put<O: Sink, E: Sink>(
+        &self,
+        alloc: Global,
+        frame: &LentFrame<'_>,
+        pool: &mut Pool,
+        out: &mut O,
+        err: &mut E,
+    ) -> Result<(), Failure> {
+        match self.enters.enter(alloc, frame)? {
+            Some(comes) => {
+                walk_packet(alloc, self.course, comes, frame.number(), pool, out, err)
+            }
+            None => Ok(()),
         }
     }
 }
@@ -205,13 +189,14 @@ fn enter_frames<'a, N: Frames, W: Enters>(
     }
 }
 
-/// Walks the packets of all frames that enter, in the order of the schedule or one after the other, and
-/// gives the refusal of what comes after the frames, if anything does.
+/// Walks the packets of all frames that enter, in the order of the schedule or one after the other,
+/// and gives the refusal of what comes after the frames, if anything does.
 fn walk_by_schedule<N: Frames, W: Enters, O: Sink, E: Sink>(
     alloc: Global,
     course: &Course<'_>,
     enters: &W,
     frames: &mut N,
+    pool: &mut Pool,
     out: &mut O,
     err: &mut E,
 ) -> Result<Option<Refusal>, Failure>
@@ -219,23 +204,51 @@ fn walk_by_schedule<N: Frames, W: Enters, O: Sink, E: Sink>(
     requires within { AllEnterIn course.now.net.now (W.entry enters.now) }
     requires choices { 0 < length course.now.choices.now }
     ensures fault { IfOk result (λ fault. fault ≡ (N.seen frames.old).end) }
-    ensures wrote { WroteAll (ending_of_step result)
+    ensures wrote { Goes (ending_of_step result)
         (scheduled_pieces course.now.net.now course.now.schedule.now
         (comings_of_frames course.now.net.now course.now.choices.now (W.entry enters.now)
         (N.seen frames.old).frames))
-        (sinks_of (O.seen out.old) (E.seen err.old)) (sinks_of (O.seen out.new) (E.seen err.new)) }
+        (pooled pool.old (O.seen out.old) (E.seen err.old))
+        (pooled pool.new (O.seen out.new) (E.seen err.new)) }
 {
     if course.schedule.is_empty() {
-        return walk_frames(alloc, course, enters, frames, out, err);
+        let walking = Walking { course, enters };
+        return put_frames(alloc, &walking, frames, pool, out, err);
     }
     let (entered, fault) = enter_frames(alloc, course, enters, frames)?;
-    write_turns(alloc, course, entered, out, err)?;
+    put_turns(alloc, course, entered, pool, out, err)?;
     Ok(fault)
+}
+
+/// Writes the capture's head, then the lines of the packets that stay.
+fn put_first<N: Frames, W: Enters, O: Sink, E: Sink>(
+    alloc: Global,
+    course: &Course<'_>,
+    enters: &W,
+    frames: &mut N,
+    pool: &mut Pool,
+    out: &mut O,
+    err: &mut E,
+) -> Result<(), Failure>
+    requires ready { W.ready enters.now }
+    requires within { AllEnterIn course.now.net.now (W.entry enters.now) }
+    ensures { Goes (ending_of_step result)
+        (first_pieces course.now.net.now (W.entry enters.now) (N.seen frames.old).frames)
+        (pooled pool.old (O.seen out.old) (E.seen err.old))
+        (pooled pool.new (O.seen out.new) (E.seen err.new)) }
+{
+    put_head(alloc, pool, out, err)?;
+    let staying = Staying {
+        net: course.net,
+        enters,
+    };
+    put_frames(alloc, &staying, frames, pool, out, err)?;
+    Ok(())
 }
 
 /// Writes the capture's head, then the lines of the packets that stay, of a first source of the
 /// frames, and walks the others, of a second; gives the refusal of what comes after the frames, if
-/// anything does.
+/// anything does. All of it goes out by one pool, in which nothing waits at the end.
 fn drive_frames<N: Frames, W: Enters, O: Sink, E: Sink>(
     alloc: Global,
     course: &Course<'_>,
@@ -250,24 +263,23 @@ fn drive_frames<N: Frames, W: Enters, O: Sink, E: Sink>(
     requires choices { 0 < length course.now.choices.now }
     requires same { N.seen again.old ≡ N.seen first.old }
     ensures fault { IfOk result (λ fault. fault ≡ (N.seen first.old).end) }
-    ensures wrote { WroteAll (ending_of_step result)
+    ensures wrote { WroteInGroups (ending_of_step result)
         (driven_pieces course.now.net.now course.now.choices.now course.now.schedule.now
         (W.entry enters.now) (N.seen first.old).frames)
         (sinks_of (O.seen out.old) (E.seen err.old)) (sinks_of (O.seen out.new) (E.seen err.new)) }
 {
-    write_head(alloc, out)?;
-    let teller = Staying {
-        net: course.net,
-        enters,
-    };
-    tell_frames(alloc, &teller, first, err)?;
-    walk_by_schedule(alloc, course, enters, again, out, err)
+    let mut pool = Pool::new(alloc)?;
+    put_first(alloc, course, enters, first, &mut pool, out, err)?;
+    let fault = walk_by_schedule(alloc, course, enters, again, &mut pool, out, err)?;
+    pool.pour(out, err)?;
+    Ok(fault)
 }
 
 /// Writes the capture's head, the lines of the packets of the input that stay, by their numbers, and
 /// then walks those that enter, in the order of the schedule, or one after the other where there is
-/// none: what each stage sends, and after a packet's last stage its line. Gives the refusal of what
-/// comes after the frames, if anything does. (own rule)
+/// none: what each stage sends, and after a packet's last stage its line. It goes out in groups, and
+/// nothing waits at the end; after a fault or want of memory what still waited is lost. Gives the
+/// refusal of what comes after the frames, if anything does. (own rule)
 pub fn drive<W: Enters, O: Sink, E: Sink>(
     alloc: Global,
     course: &Course<'_>,
@@ -281,7 +293,7 @@ pub fn drive<W: Enters, O: Sink, E: Sink>(
     requires choices { 0 < length course.now.choices.now }
     requires head { HasHead packets.now }
     ensures fault { IfOk result (λ fault. fault ≡ fault_of (reading_of packets.now)) }
-    ensures wrote { WroteAll (ending_of_step result)
+    ensures wrote { WroteInGroups (ending_of_step result)
         (driven_pieces course.now.net.now course.now.choices.now course.now.schedule.now
         (W.entry enters.now) (reading_of packets.now).frames)
         (sinks_of (O.seen out.old) (E.seen err.old)) (sinks_of (O.seen out.new) (E.seen err.new)) }

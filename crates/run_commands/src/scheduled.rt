@@ -1,23 +1,23 @@
-//! Packets side by side, in turns by a schedule, written as they go.
+//! Packets side by side, in turns by a schedule, written by the pool as they go.
 
 ghost use Rattle.std.specs.Prelude.{◌≡◌, ◌≤◌, ◌<◌, ◌+◌, ◌^◌, ◌++◌, ◌∷◌, [], IfSome, None, OnErr, OnOk, Option, length};
 ghost use Rattle.icmp6_errors.specs.Answer.{error_bytes};
 ghost use Rattle.packet_walk.specs.Flight.{IsGiven, entered, entering, packet_of, turned};
 ghost use Rattle.packet_walk.specs.Schedule.{comings_of, next_of};
-ghost use Rattle.srx_edge.specs.Steps.{Wrote};
 ghost use Rattle.srv6_rules.specs.Packet.{Packet as PacketValue, bytes_of};
 ghost use Rattle.walk_rules.specs.Laws.{TellsOfError};
 ghost use Rattle.walk_rules.specs.Relation.{IsPlace};
 ghost use Rattle.command_output.specs.Answers.{ending_of_step};
 ghost use Rattle.run_commands.specs.Capture.{IsWritable, frame_by};
-ghost use Rattle.command_output.specs.Pieces.{WroteAll, sinks_of};
+ghost use Rattle.command_output.specs.Gathered.{Goes, pooled};
+ghost use Rattle.command_output.specs.Pieces.{ForErr, ForOut};
 ghost use Rattle.run_commands.specs.Scheduled.{IsInStep, line_by, pieces_of_stage, scheduled_pieces};
 ghost use Rattle.command_output.specs.Sent.{IsEnd};
 
 use crate::course::Course;
-use crate::written::write_sent;
+use crate::written::put_sent;
 use base::NoMemory;
-use command_output::{Failure, line_of_packet, write_all};
+use command_output::{Failure, Pool, line_of_packet};
 use net_model::Net;
 use node_stage::Content;
 use packet_walk::{Flight, Turns};
@@ -81,44 +81,51 @@ struct Turn {
 }
 
 /// Writes what a packet's stage sends, with the number of its frame.
-fn write_stage<O: Sink>(
+fn put_stage<O: Sink, E: Sink>(
     flight: &Flight<'_>,
     turn: Turn,
     outcome: &Outcome,
-    room: &mut Vec<u8>,
+    pool: &mut Pool,
     out: &mut O,
+    err: &mut E,
 ) -> Result<(), Failure>
     requires given { IsGiven flight.now turn.packet }
     requires writable { IfSome (packet_of flight.now turn.packet)
         (λ p. IsWritable outcome.now (bytes_of p.content)) }
     ensures { IfSome (packet_of flight.now turn.packet) (λ p. (told : Option PacketValue)
         → TellsOfError outcome.now told → flight.now.error ≡ error_bytes told
-        → Wrote (ending_of_step result) (frame_by turn.number outcome.now p.content told)
-        (O.seen out.old) (O.seen out.new)) }
+        → Goes (ending_of_step result)
+        (ForOut (frame_by turn.number outcome.now p.content told) ∷ [])
+        (pooled pool.old (O.seen out.old) (E.seen err.old))
+        (pooled pool.new (O.seen out.new) (E.seen err.new))) }
 {
     let (packet, error) = (flight.bytes(turn.packet), flight.error());
-    write_sent(turn.number, outcome, packet, error, room, out)
+    put_sent(turn.number, outcome, packet, error, pool, out, err)
 }
 
 /// Writes the line of a packet, with the number of its frame, if it has ended.
-#[tactic(auto, using(command_output::proofs::PublicLaws::writing))]
-fn write_end<E: Sink>(
+#[tactic(auto, using(command_output::proofs::PublicLaws::going))]
+fn put_end<O: Sink, E: Sink>(
     alloc: Global,
     net: &Net,
     flight: &Flight<'_>,
     turn: Turn,
+    pool: &mut Pool,
+    out: &mut O,
     err: &mut E,
 ) -> Result<(), Failure>
     requires given { IsGiven flight.now turn.packet }
     requires within { IfSome (packet_of flight.now turn.packet)
         (λ p. IfSome p.ended (IsEnd net.now)) }
-    ensures { IfSome (packet_of flight.now turn.packet) (λ p. Wrote (ending_of_step result)
-        (line_by net.now turn.number p.ended) (E.seen err.old) (E.seen err.new)) }
+    ensures { IfSome (packet_of flight.now turn.packet) (λ p. Goes (ending_of_step result)
+        (ForErr (line_by net.now turn.number p.ended) ∷ [])
+        (pooled pool.old (O.seen out.old) (E.seen err.old))
+        (pooled pool.new (O.seen out.new) (E.seen err.new))) }
 {
     match flight.ended(turn.packet) {
         Some(ended) => {
             let line = line_of_packet(alloc, net, turn.number, &ended)?;
-            write_all(err, line.as_bytes())
+            pool.put_err(line.as_bytes(), out, err)
         }
         None => Ok(()),
     }
@@ -126,12 +133,13 @@ fn write_end<E: Sink>(
 
 /// A packet takes its next stage, and what that sends is written with the number of the packet's
 /// frame; after its last stage its line.
-fn write_turn<O: Sink, E: Sink>(
+#[tactic(auto, using(command_output::proofs::PublicLaws::going))]
+fn put_turn<O: Sink, E: Sink>(
     alloc: Global,
     net: &Net,
     flight: &mut Flight<'_>,
     turn: Turn,
-    room: &mut Vec<u8>,
+    pool: &mut Pool,
     out: &mut O,
     err: &mut E,
 ) -> Result<(), Failure>
@@ -140,42 +148,45 @@ fn write_turn<O: Sink, E: Sink>(
     requires net { flight.old.net ≡ net.now }
     ensures turned { OnOk result (flight.new ≡ turned turn.packet flight.old) }
     ensures wrote { IfSome (packet_of flight.old turn.packet) (λ p.
-        WroteAll (ending_of_step result)
+        Goes (ending_of_step result)
         (pieces_of_stage net.now (next_of turn.number net.now p))
-        (sinks_of (O.seen out.old) (E.seen err.old)) (sinks_of (O.seen out.new) (E.seen err.new))) }
+        (pooled pool.old (O.seen out.old) (E.seen err.old))
+        (pooled pool.new (O.seen out.new) (E.seen err.new))) }
 {
     flight.keeps_rules(turn.packet);
     let Some(event) = flight.turn(turn.packet)? else {
         return Ok(());
     };
-    write_stage(flight, turn, &event.outcome, room, out)?;
-    write_end(alloc, net, flight, turn, err)
+    put_stage(flight, turn, &event.outcome, pool, out, err)?;
+    put_end(alloc, net, flight, turn, pool, out, err)
 }
 
 /// Writes all stages of the packets that entered, in the order of the schedule. (own rule)
-pub(crate) fn write_turns<O: Sink, E: Sink>(
+#[tactic(auto, using(crate::proofs::Turning::by_turns))]
+pub(crate) fn put_turns<O: Sink, E: Sink>(
     alloc: Global,
     course: &Course<'_>,
     entered: Entered<'_>,
+    pool: &mut Pool,
     out: &mut O,
     err: &mut E,
 ) -> Result<(), Failure>
     requires { IsInStep course.now.net.now entered.numbers.items entered.flight }
-    ensures { WroteAll (ending_of_step result)
+    ensures { Goes (ending_of_step result)
         (scheduled_pieces course.now.net.now course.now.schedule.now
         (comings_of entered.entry.numbers.items entered.entry.flight))
-        (sinks_of (O.seen out.old) (E.seen err.old)) (sinks_of (O.seen out.new) (E.seen err.new)) }
+        (pooled pool.old (O.seen out.old) (E.seen err.old))
+        (pooled pool.new (O.seen out.new) (E.seen err.new)) }
 {
     let Entered {
         mut flight,
         numbers,
     } = entered;
-    let mut room = Vec::new(alloc);
     let mut turns = Turns::new(course.schedule, numbers.as_slice());
     'turns: while let Some(packet) = turns.next(&flight) {
         let number = numbers[(packet - 1) as usize];
         let turn = Turn { packet, number };
-        write_turn(alloc, course.net, &mut flight, turn, &mut room, out, err)?;
+        put_turn(alloc, course.net, &mut flight, turn, pool, out, err)?;
     }
     Ok(())
 }

@@ -19,13 +19,14 @@ use Rattle.command_output.specs.Answers.{ending_of_failure, JudgesFile, JudgesIn
 use Rattle.command_inputs.specs.Judgements.{network_in, node_in}
 use Rattle.command_output.specs.Outputs.{refused, ended_by}
 use Rattle.command_output.specs.Lines.{bytes_of_text, refusal_line}
-use Rattle.command_output.specs.Outside.{outside, IsFrontOf, Asks, Reads, files_left_by}
+use Rattle.command_output.specs.Outside.{outside, FailsBy, IsFrontOf, Asks, Reads, ReadsAs, ReadsWhole, files_left_by}
 use Rattle.command_inputs.specs.Packets.{packets_in, reading_of, fault_of}
-use Rattle.command_output.specs.Pieces.{Piece, Output, Which, Stop, Never, AtFiles, AtInput, At, Elsewhere, sinks_of, gone, stop_at, WroteAll}
+use Rattle.command_output.specs.Gathered.{WroteInGroups}
+use Rattle.command_output.specs.Pieces.{Piece, Output, Which, Stop, Never, AtFiles, AtInput, At, Elsewhere, sinks_of, gone, stop_at}
 use Rattle.run_commands.specs.Run.{packets_pieces, ran, run_output, has_start, reads_input, run_shape}
-use Rattle.command_output.specs.Endings.{Takes}
+use Rattle.command_output.specs.Endings.{ReadsIts, Takes}
 use Rattle.command_output.specs.Shape.{Held, names_of, WantedOf}
-use Rattle.command_output.proofs.PublicLaws.{each, some-map, front_whole, asks_all, asks_front, refused_commands, files_fault, input_fault, memory_wants, pieces_whole, pieces_refused, pieces_cut}
+use Rattle.command_output.proofs.PublicLaws.{each, each-map, some-map, front_whole, asks_all, asks_front, is_at_input, reads_its_early, reads_its_whole, reads_nothing, refused_commands, files_fault, input_fault, memory_wants, pieces_whole, pieces_refused, pieces_cut}
 use Rattle.std.proofs.lemmas.Result.{err_from_is_err_and}
 use Rattle.run_commands.proofs.Writable.{at_node-within}
 use Rattle.run_commands.proofs.run.run.Goals as goal
@@ -45,21 +46,36 @@ any-input : (left : Option (List ℕ)) → IfSome left (λ input. Unit {0})
 any-input None = tt
 any-input (Some input) = tt
 
-asks-file : (file name choices schedule : List ℕ) (stop : Stop) (f g : FilesSeen) → g ≡ files_left_by stop (asked_for file f)
-    → Asks (run_shape file name choices schedule) stop f g
-asks-file file name choices schedule stop f g seen = asks_all (run_shape file name choices schedule) stop (file ∷ []) f g (front_whole (file ∷ [])) tt
+asks-file : (file name choices schedule : List ℕ) (stop : Stop) (f g : FilesSeen) → FailsBy stop (file ∷ []) f
+    → g ≡ files_left_by stop (asked_for file f) → Asks (run_shape file name choices schedule) stop f g
+asks-file file name choices schedule stop f g fails seen =
+    asks_all (run_shape file name choices schedule) stop (file ∷ []) f g (front_whole (file ∷ [])) fails
     (each f.told (λ held. names_of (run_shape file name choices schedule) held ≡ file ∷ []) (λ held. refl)) seen
 
 -- the input as it was
 takes-unread : (file name choices schedule : List ℕ) (stop : Stop) (f g : FilesSeen) (s : SourceSeen)
-    → Asks (run_shape file name choices schedule) stop f g → Reads stop s s
+    → Asks (run_shape file name choices schedule) stop f g → is_at_input stop ≡ false
+    → ReadsIts (run_shape file name choices schedule) f.told stop s s
     → Takes (run_shape file name choices schedule) stop f g s s
-takes-unread file name choices schedule stop f g s asks reads = record {
+takes-unread file name choices schedule stop f g s asks other its = record {
   asks = asks;
-  reads = reads;
+  reads = reads_nothing stop s other;
   unread = each f.told (λ held. reads_input (file_named held file) name ≡ false → s ≡ s) (λ held _. refl);
   reads_none = λ _. refl;
+  reads_its = its;
 }
+
+-- the input isn't read where the description or the node's name is refused
+
+leaves-refused : (name : List ℕ) (refusal : Refusal) (o : Option (List ℕ)) → IsSomeAnd o (λ text. network_in text ≡ Err refusal)
+    → reads_input o name ≡ false
+leaves-refused name refusal None h = absurd h
+leaves-refused name refusal (Some text) h = rw h refl
+
+leaves-nameless : (name : List ℕ) (net : Network) (refusal : Refusal) (o : Option (List ℕ)) → node_in net name ≡ Err refusal
+    → IsSomeAnd o (λ text. network_in text ≡ Ok net) → reads_input o name ≡ false
+leaves-nameless name net refusal None node h = absurd h
+leaves-nameless name net refusal (Some text) node h = rw (h, node) refl
 
 module _ (file name choices schedule : List ℕ) (f g : FilesSeen) (s t : SourceSeen) (o e : SinkSeen) where
   -- the file was refused, wasn't read, or memory was wanting
@@ -69,13 +85,19 @@ module _ (file name choices schedule : List ℕ) (f g : FilesSeen) (s t : Source
       (run-wants f.told s.left file name choices schedule (λ text. network_in text ≡ Err refusal) (λ input. Unit {0}) (refused refusal)
       h.0 (any-input s.left)
       (λ text input is _. rw is refl))
-      (inr (inl refl)) (takes-unread file name choices schedule Never f g s (asks-file file name choices schedule Never f g h.1) refl) e
+      (inr (inl refl)) (takes-unread file name choices schedule Never f g s (asks-file file name choices schedule Never f g tt h.1) refl
+      (reads_its_early (run_shape file name choices schedule) f.told Never s s refl
+      (each-map f.told (λ held. IsSomeAnd (file_named held file) (λ text. network_in text ≡ Err refusal))
+      (λ held. reads_input (file_named held file) name ≡ false)
+      (λ held is. leaves-refused name refusal (file_named held file) is) h.0))) e
   run_halted_at_file (halts.Failed failures.Fault) h =
       files_fault (run_shape file name choices schedule) f g s o (takes-unread file name choices schedule AtFiles f g s
-      (asks-file file name choices schedule AtFiles f g h) refl) e
+      (asks-file file name choices schedule AtFiles f g h.0 h.1) refl
+      (reads_its_whole (run_shape file name choices schedule) f.told AtFiles s s tt)) e
   run_halted_at_file (halts.Failed failures.NoMemory) h = memory_wants (run_shape file name choices schedule) f g s s o
       (takes-unread file name choices schedule Elsewhere f g s (asks_front (run_shape file name choices schedule) h.names f g h.front
-      (each f.told (λ held. IsFrontOf (names_of (run_shape file name choices schedule) held) h.names) (λ held. h.front)) h.seen) refl) e
+      (each f.told (λ held. IsFrontOf (names_of (run_shape file name choices schedule) held) h.names) (λ held. h.front)) h.seen) refl
+      (reads_its_whole (run_shape file name choices schedule) f.told Elsewhere s s tt)) e
 
   module _ (net : Network) (judged : JudgesFile network_in file (Ok net) f g) where
     -- the node's name was refused
@@ -85,7 +107,12 @@ module _ (file name choices schedule : List ℕ) (f g : FilesSeen) (s t : Source
         (run-wants f.told s.left file name choices schedule (λ text. network_in text ≡ Ok net) (λ input. Unit {0}) (refused refusal)
         judged.0 (any-input s.left)
         (λ text input is _. rw (is, node) refl))
-        (inr (inl refl)) (takes-unread file name choices schedule Never f g s (asks-file file name choices schedule Never f g judged.1) refl) e
+        (inr (inl refl)) (takes-unread file name choices schedule Never f g s
+        (asks-file file name choices schedule Never f g tt judged.1) refl
+        (reads_its_early (run_shape file name choices schedule) f.told Never s s refl
+        (each-map f.told (λ held. IsSomeAnd (file_named held file) (λ text. network_in text ≡ Ok net))
+        (λ held. reads_input (file_named held file) name ≡ false)
+        (λ held is. leaves-nameless name net refusal (file_named held file) node is) judged.0))) e
 
     module _ (node : ℕ) (found : node_in net name ≡ Ok node) where
       starts : (o : Option (List ℕ)) → IsSomeAnd o (λ text. network_in text ≡ Ok net) → reads_input o name ≡ false → ⊥
@@ -97,12 +124,14 @@ module _ (file name choices schedule : List ℕ) (f g : FilesSeen) (s t : Source
       unread None h = tt
       unread (Some held) h = λ early. absurd (starts (file_named held file) h early)
 
-      takes : (stop : Stop) → g ≡ files_left_by stop (asked_for file f) → Reads stop s t → Takes (run_shape file name choices schedule) stop f g s t
-      takes stop seen reads = record {
-        asks = asks-file file name choices schedule stop f g seen;
+      takes : (stop : Stop) → FailsBy stop (file ∷ []) f → g ≡ files_left_by stop (asked_for file f) → Reads stop s t → ReadsAs stop s t
+          → Takes (run_shape file name choices schedule) stop f g s t
+      takes stop fails seen reads whole = record {
+        asks = asks-file file name choices schedule stop f g fails seen;
         reads = reads;
         unread = unread f.told judged.0;
         reads_none = λ no. cc;
+        reads_its = reads_its_whole (run_shape file name choices schedule) f.told stop s t whole;
       }
 
       -- the input was refused, wasn't read, or memory was wanting
@@ -112,9 +141,11 @@ module _ (file name choices schedule : List ℕ) (f g : FilesSeen) (s t : Source
           (run-wants f.told s.left file name choices schedule (λ text. network_in text ≡ Ok net) (λ input. packets_in input ≡ Err refusal)
           (refused refusal)
           judged.0 h.0 (λ text input is bad. rw (is, found, bad) refl))
-          (inr (inl refl)) (takes Never judged.1 h.1) e
-      run_halted_at_input (halts.Failed failures.Fault) h = input_fault (run_shape file name choices schedule) f g s t o (takes AtInput judged.1 h) e
-      run_halted_at_input (halts.Failed failures.NoMemory) h = memory_wants (run_shape file name choices schedule) f g s t o (takes Elsewhere judged.1 h) e
+          (inr (inl refl)) (takes Never tt judged.1 (inr h.1) h.1) e
+      run_halted_at_input (halts.Failed failures.Fault) h =
+          input_fault (run_shape file name choices schedule) f g s t o (takes AtInput tt judged.1 h tt) e
+      run_halted_at_input (halts.Failed failures.NoMemory) h =
+          memory_wants (run_shape file name choices schedule) f g s t o (takes Elsewhere tt judged.1 (inr (inr h)) tt) e
 
       module _ (packets : Packets) (drawn : JudgesInput packets_in (Ok packets) s t) (p q : SinkSeen) where
         abbrev before : List Piece
@@ -124,23 +155,23 @@ module _ (file name choices schedule : List ℕ) (f g : FilesSeen) (s t : Source
         wanted = run-wants f.told s.left file name choices schedule (λ text. network_in text ≡ Ok net) (λ input. packets_in input ≡ Ok packets)
             (ran net node choices schedule packets) judged.0 drawn.0 (λ text input is good. rw (is, found, good) refl)
 
-        reads : Reads Never s t
-        reads = ap (λ (u : SourceSeen). u.faults) drawn.1
+        reads : ReadsWhole s t
+        reads = inl drawn.1
 
         takes-how : (sink : Which) (how : Option How) → Takes (run_shape file name choices schedule) (stop_at sink how) f g s t
-        takes-how sink None = takes Elsewhere judged.1 reads
-        takes-how sink (Some how) = takes (At sink how) judged.1 reads
+        takes-how sink None = takes Elsewhere tt judged.1 (inr (inl reads)) tt
+        takes-how sink (Some how) = takes (At sink how) tt judged.1 (inr reads) reads
 
         -- the packets' pieces didn't go out whole
         cut-by : (fault : Option Refusal) (failure : Failure) → WantedOf (run_shape file name choices schedule) f.told s.left (ended_by before fault)
-            → WroteAll (ending_of_failure failure) before (sinks_of o e) (sinks_of p q)
+            → WroteInGroups (ending_of_failure failure) before (sinks_of o e) (sinks_of p q)
             → Commands (run_shape file name choices schedule) (Err (halts.Failed failure)) (outside f s o e) (outside g t p q)
         cut-by None failure w wrote = pieces_cut (run_shape file name choices schedule) before (outside f s o e) (outside g t p q) failure [] statuses.Done
             refl wrote w takes-how
         cut-by (Some refusal) failure w wrote = pieces_cut (run_shape file name choices schedule) before (outside f s o e) (outside g t p q) failure
             (refusal_line refusal) statuses.Refused refl wrote w takes-how
 
-        run_halted_at_pieces : (failure : Failure) → WroteAll (ending_of_failure failure) before (sinks_of o e) (sinks_of p q)
+        run_halted_at_pieces : (failure : Failure) → WroteInGroups (ending_of_failure failure) before (sinks_of o e) (sinks_of p q)
             → Commands (run_shape file name choices schedule) (Err (halts.Failed failure)) (outside f s o e) (outside g t p q)
         run_halted_at_pieces failure wrote = cut-by (fault_of (reading_of packets)) failure wanted wrote
 
@@ -153,7 +184,7 @@ module _ (file name choices schedule : List ℕ) (f g : FilesSeen) (s t : Source
             subst (λ (fault : Option Refusal). WantedOf (run_shape file name choices schedule) f.told s.left (ended_by before fault))
             (sym whole) wanted in
             pieces_whole (run_shape file name choices schedule) before (outside f s o e) (outside g t p q) told went
-            (rw (line, status) none) (rw status refl) (inl status) (takes Never judged.1 reads) (λ _ _. drawn.1)
+            (rw (line, status) none) (rw status refl) (inl status) (takes Never tt judged.1 (inr reads) reads) (λ _ _. drawn.1.1)
 
         -- something is, which is refused
         run_refused : (refusal : Refusal) → Some refusal ≡ fault_of (reading_of packets) → sinks_of p q ≡ gone before (sinks_of o e)
@@ -161,7 +192,7 @@ module _ (file name choices schedule : List ℕ) (f g : FilesSeen) (s t : Source
         run_refused refusal more went = pieces_refused (run_shape file name choices schedule) before (outside f s o e) (outside g t p q) refusal went
             (subst (λ (fault : Option Refusal). WantedOf (run_shape file name choices schedule) f.told s.left (ended_by before fault))
             (sym more) wanted)
-            (inr (inl refl)) (takes Never judged.1 reads)
+            (inr (inl refl)) (takes Never tt judged.1 (inr reads) reads)
 
 -- the goals
 

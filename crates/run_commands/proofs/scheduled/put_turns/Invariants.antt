@@ -1,13 +1,13 @@
 use Rattle.std.proofs.Common.{length}
 use Rattle.packet_walk.specs.Schedule.{comings_of, due, scheduled}
-use Rattle.command_output.specs.Pieces.{sinks_of}
+use Rattle.command_output.specs.Gathered.{pooled}
 use Rattle.run_commands.proofs.Turning.{InTurns}
-use Rattle.run_commands.proofs.scheduled.write_turns.Given as goal
+use Rattle.run_commands.proofs.scheduled.put_turns.Given as goal
 
 abbrev pub invariant-turns : goal.invariant-turns
 invariant-turns g l =
     InTurns l.course.net.now l.fn.entered.numbers.items (scheduled l.course.schedule.now (comings_of l.fn.entered.numbers.items l.fn.entered.flight)) l.turns l.flight
-    (sinks_of (g.O.Sink.seen l.fn.out) (g.E.Sink.seen l.fn.err)) (sinks_of (g.O.Sink.seen l.out) (g.E.Sink.seen l.err))
+    (pooled l.fn.pool (g.O.Sink.seen l.fn.out) (g.E.Sink.seen l.fn.err)) (pooled l.pool (g.O.Sink.seen l.out) (g.E.Sink.seen l.err))
 
 -- fewer stages are due after each turn
 abbrev pub decreases-turns : goal.decreases-turns
