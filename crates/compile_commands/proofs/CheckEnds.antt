@@ -2,7 +2,7 @@
 use Rattle.std.proofs.Common.{◌≡◌, inl, inr, ℕ, Bool, false, List, [], ◌∷◌, Option, None, Some, IfSome, Result, Ok, Err, refl, sym, ap, ap₂, ◌∙◌, subst}
 use Rattle.std.specs.Prelude.{IsSomeAnd, if◌then◌else◌, is_ok}
 use Rattle.srx_edge.specs.Edge.{file_named}
-use Rattle.srx_edge.specs.FilesRead.{FilesSeen, asked_for}
+use Rattle.srx_edge.specs.FilesRead.{FilesSeen, FailsAt, asked_for}
 use Rattle.srx_edge.specs.Sources.{SourceSeen}
 use Rattle.srx_edge.specs.Sinks.{SinkSeen, sent}
 use Rattle.srx_edge.specs.Steps.{How, Wrote}
@@ -27,11 +27,11 @@ use Rattle.compile_commands.specs.Check.{CertWants, FlatWants, CheckedIntentWant
 use Rattle.command_output.specs.Outputs.{output_of_judgement, reported, refused}
 use Rattle.command_inputs.specs.Judgements.{network_in, intent_in, cert_in}
 use Rattle.command_output.specs.Lines.{bytes_of_text}
-use Rattle.command_output.specs.Outside.{IsFrontOf, Asks, Reads, asked_for_all, files_left_by}
+use Rattle.command_output.specs.Outside.{FailsBy, IsFrontOf, Asks, asked_for_all, files_left_by}
 use Rattle.command_output.specs.Pieces.{Output, Stop, Never, AtFiles, At, Elsewhere, ToOut, stop_at}
 use Rattle.command_output.specs.Endings.{Takes}
 use Rattle.command_output.specs.Shape.{Held, goes_on_with, texts_with, WantedOf, IsOneOf}
-use Rattle.command_output.proofs.PublicLaws.{judgement-status, each, each-map, some-map, front_whole, front_longer, front_after, asks_all, asks_fault, asks_front, refused_commands, files_fault, memory_wants, written_whole, written_cut}
+use Rattle.command_output.proofs.PublicLaws.{judgement-status, each, each-map, some-map, front_whole, front_longer, front_after, asks_all, asks_fault, asks_front, is_at_input, reads_its_none, reads_nothing, refused_commands, files_fault, memory_wants, written_whole, written_cut}
 
 -- what holds of what is told, of two facts of it
 both : (told : Option Held) (P Q R : Held → Type 0) → ((held : Held) → P held → Q held → R held) → IfSome told P → IfSome told Q
@@ -132,13 +132,15 @@ module _ (file intent cert : List ℕ) where
       (λ text. CertWants net value (cert_in net (legs_value net value) text) output)
       (λ text is. subst (λ (j : Result Cert Refusal). CertWants net value j output) (sym is) w) c))
 
-  takes : (stop : Stop) (f g : FilesSeen) (s : SourceSeen) → Asks (check_shape file intent cert) stop f g → Reads stop s s
+  takes : (stop : Stop) (f g : FilesSeen) (s : SourceSeen) → Asks (check_shape file intent cert) stop f g
+      → is_at_input stop ≡ false
       → Takes (check_shape file intent cert) stop f g s s
-  takes stop f g s asks reads = record {
+  takes stop f g s asks other = record {
     asks = asks;
-    reads = reads;
+    reads = reads_nothing stop s other;
     unread = each f.told (λ held. Unit {0} → s ≡ s) (λ held _. refl);
     reads_none = λ _. refl;
+    reads_its = reads_its_none (check_shape file intent cert) f.told stop s s refl;
   }
 
   -- the description was refused, wasn't read, or memory was wanting
@@ -153,9 +155,9 @@ module _ (file intent cert : List ℕ) where
       (λ held is. names-refused refusal (file_named held file) (file_named held intent) is) h.0) h.1) refl)
   check_halted_at_file f g o (halts.Failed failures.Fault) h = λ s. files_fault (check_shape file intent cert) f g s o
       (takes AtFiles f g s (asks_fault (check_shape file intent cert) (file ∷ []) f g
-      (record { rest = intent ∷ cert ∷ []; whole = refl }) tt
+      (record { rest = intent ∷ cert ∷ []; whole = refl }) h.0
       (each f.told (λ held. IsFrontOf (names_in held) (file ∷ []))
-      (λ held. record { rest = after_file (file_named held file) (file_named held intent); whole = refl })) h) refl)
+      (λ held. record { rest = after_file (file_named held file) (file_named held intent); whole = refl })) h.1) refl)
   check_halted_at_file f g o (halts.Failed failures.NoMemory) h = λ s. memory_wants (check_shape file intent cert) f g s s o
       (takes Elsewhere f g s (asks_front (check_shape file intent cert) h.names f g
       (front_longer (file ∷ []) h.names (intent ∷ cert ∷ []) h.front)
@@ -194,9 +196,9 @@ module _ (file intent cert : List ℕ) where
         (h.1 ∙ ap (λ (files : FilesSeen). asked_for intent files) judged.1)) refl)
     check_halted_at_intent (halts.Failed failures.Fault) h = λ s. files_fault (check_shape file intent cert) f g s o
         (takes AtFiles f g s (asks_fault (check_shape file intent cert) (file ∷ intent ∷ []) f g
-        (record { rest = cert ∷ []; whole = refl }) tt
+        (record { rest = cert ∷ []; whole = refl }) (subst (FailsAt intent) judged.1 h.0)
         (front-of (intent ∷ []) (front_whole (intent ∷ [])))
-        (h ∙ ap (λ (files : FilesSeen). files_left_by AtFiles (asked_for intent files)) judged.1)) refl)
+        (h.1 ∙ ap (λ (files : FilesSeen). files_left_by AtFiles (asked_for intent files)) judged.1)) refl)
     check_halted_at_intent (halts.Failed failures.NoMemory) h = λ s. memory_wants (check_shape file intent cert) f g s s o
         (takes Elsewhere f g s (asks_front (check_shape file intent cert) (file ∷ h.names) f g
         (front_after file (intent ∷ cert ∷ []) h.names (front_longer (intent ∷ []) h.names (cert ∷ []) h.front))
@@ -247,9 +249,10 @@ module _ (file intent cert : List ℕ) where
           ∙ ap (λ (r : Result (Unit {0}) NotFlat). if is_ok r then cert ∷ [] else []) flat)) judged.0 told-intent
 
       -- all three files were asked for
-      asks-three : (stop : Stop) → g ≡ files_left_by stop (asked_for cert last) → Asks (check_shape file intent cert) stop f g
-      asks-three stop seen = asks_all (check_shape file intent cert) stop (file ∷ intent ∷ cert ∷ []) f g
-          (front_whole (file ∷ intent ∷ cert ∷ [])) tt names-three
+      asks-three : (stop : Stop) → FailsBy stop (file ∷ intent ∷ cert ∷ []) f → g ≡ files_left_by stop (asked_for cert last)
+          → Asks (check_shape file intent cert) stop f g
+      asks-three stop fails seen = asks_all (check_shape file intent cert) stop (file ∷ intent ∷ cert ∷ []) f g
+          (front_whole (file ∷ intent ∷ cert ∷ [])) fails names-three
           (seen ∙ ap (λ (files : FilesSeen). files_left_by stop (asked_for cert files)) last-is)
 
       of-last : (P : Held → Type 0) → IfSome last.told P → IfSome f.told P
@@ -269,9 +272,9 @@ module _ (file intent cert : List ℕ) where
       halted-at-cert : (halt : Halt) → JudgesFile (cert_in net (legs_value net value)) cert (Err halt) last g
           → CommandsUnread (check_shape file intent cert) (Err halt) f g o o
       halted-at-cert (halts.Refused refusal) h = λ s. refused_commands (check_shape file intent cert) refusal f g s s o
-          (wants-all (Err refusal) s.left (refused refusal) h.0 refl) (inr (inl refl)) (takes Never f g s (asks-three Never h.1) refl)
+          (wants-all (Err refusal) s.left (refused refusal) h.0 refl) (inr (inl refl)) (takes Never f g s (asks-three Never tt h.1) refl)
       halted-at-cert (halts.Failed failures.Fault) h = λ s. files_fault (check_shape file intent cert) f g s o
-          (takes AtFiles f g s (asks-three AtFiles h) refl)
+          (takes AtFiles f g s (asks-three AtFiles (subst (FailsAt cert) last-is h.0) h.1) refl)
       halted-at-cert (halts.Failed failures.NoMemory) h = λ s. memory_wants (check_shape file intent cert) f g s s o
           (takes Elsewhere f g s (asks_front (check_shape file intent cert) (file ∷ intent ∷ h.names) f g
           (front_after file (intent ∷ cert ∷ []) (intent ∷ h.names) (front_after intent (cert ∷ []) h.names h.front))
@@ -290,15 +293,15 @@ module _ (file intent cert : List ℕ) where
         -- memory was wanting for the line
         pub check_halted_at_judgement : CommandsUnread (check_shape file intent cert) (Err (halts.Failed failures.NoMemory)) f g o o
         check_halted_at_judgement = λ s. memory_wants (check_shape file intent cert) f g s s o
-            (takes Elsewhere f g s (asks-three Elsewhere given.1) refl)
+            (takes Elsewhere f g s (asks-three Elsewhere tt given.1) refl)
 
         module _ (judgement : Judgement) (judges : JudgesAs net value spelt judgement) where
           wants-judgement : (left : Option (List ℕ)) → WantedOf (check_shape file intent cert) f.told left (output_of_judgement judgement)
           wants-judgement left = wants-all (Ok spelt) left (output_of_judgement judgement) given.0 judges.0
 
           takes-how : (s : SourceSeen) (how : Option How) → Takes (check_shape file intent cert) (stop_at ToOut how) f g s s
-          takes-how s None = takes Elsewhere f g s (asks-three Elsewhere given.1) refl
-          takes-how s (Some how) = takes (At ToOut how) f g s (asks-three (At ToOut how) given.1) refl
+          takes-how s None = takes Elsewhere f g s (asks-three Elsewhere tt given.1) refl
+          takes-how s (Some how) = takes (At ToOut how) f g s (asks-three (At ToOut how) tt given.1) refl
 
           -- the line didn't go out whole
           pub check_halted_at_out : (failure : Failure) → Wrote (ending_of_failure failure) (bytes_of_text judgement.line) o p
@@ -315,7 +318,7 @@ module _ (file intent cert : List ℕ) where
               (ap₂ (λ (l : List ℕ) (t : Status). reported (bytes_of_text judgement.line) l t) (sym line) (sym status))
               (wants-judgement s.left))
               (judgement-status told.status own).0 (judgement-status told.status own).1
-              (takes Never f g s (asks-three Never given.1) refl) (λ _ no. cc)
+              (takes Never f g s (asks-three Never tt given.1) refl) (λ _ no. cc)
             where
               own : IsOneOf (statuses.Done ∷ statuses.SaysNo ∷ []) told.status
               own = subst (IsOneOf (statuses.Done ∷ statuses.SaysNo ∷ [])) (sym status) judges.1

@@ -1,5 +1,5 @@
 -- What `gen` leaves, and what it has to write of a summary.
-use Rattle.std.proofs.Common.{◌≡◌, inl, inr, ℕ, List, [], Option, None, Some, Result, Ok, Err, refl, sym, ap, subst, ◌∙◌}
+use Rattle.std.proofs.Common.{◌≡◌, inl, inr, ℕ, false, List, [], Option, None, Some, Result, Ok, Err, refl, sym, ap, subst, ◌∙◌}
 use Rattle.srx_edge.specs.FilesRead.{FilesSeen}
 use Rattle.srx_edge.specs.Sources.{SourceSeen}
 use Rattle.srx_edge.specs.Sinks.{SinkSeen, sent}
@@ -34,12 +34,12 @@ use Rattle.walk_commands.specs.Walk.{no_list}
 use Rattle.command_inputs.specs.Judgements.{network_in, intent_in}
 use Rattle.command_output.specs.Outputs.{refused}
 use Rattle.command_output.specs.Lines.{bytes_of_text}
-use Rattle.command_output.specs.Outside.{AsksAs, Reads, files_left_by, outside}
+use Rattle.command_output.specs.Outside.{AsksAs, FailsBy, files_left_by, outside}
 use Rattle.command_output.specs.Pieces.{Stop, Never, At, Elsewhere, ToOut, stop_at}
 use Rattle.command_output.specs.Endings.{Takes}
 use Rattle.command_output.specs.Shape.{names_of}
 use Rattle.generate_commands.specs.Summary.{SummaryAnswers}
-use Rattle.command_output.proofs.PublicLaws.{each}
+use Rattle.command_output.proofs.PublicLaws.{each, is_at_input, reads_its_none, reads_nothing}
 use Rattle.command_output.proofs.PublicLaws.{memory_first, pieces_whole, refused_commands, written_cut, written_whole}
 
 -- what is to be written of a summary, or of the compiler's answer where there is none
@@ -95,27 +95,30 @@ pub ruleset summaries =
 
 module _ (n : ℕ) (made : Made) (f : FilesSeen) (s : SourceSeen) where
   -- no file is asked for
-  takes : (stop : Stop) → AsksAs stop [] [] → f ≡ files_left_by stop f → Reads stop s s → Takes (gen_shape n made) stop f f s s
-  takes stop those seen reads = record {
+  takes : (stop : Stop) → AsksAs stop [] [] → f ≡ files_left_by stop f → FailsBy stop [] f → is_at_input stop ≡ false
+      → Takes (gen_shape n made) stop f f s s
+  takes stop those seen fails other = record {
     asks = record {
       names = [];
       in_order = record { rest = []; whole = refl };
       those = each f.told (λ held. AsksAs stop (names_of (gen_shape n made) held) []) (λ held. those);
+      fails = fails;
       seen = seen;
     };
-    reads = reads;
+    reads = reads_nothing stop s other;
     unread = each f.told (λ held. Unit {0} → s ≡ s) (λ held _. refl);
     reads_none = λ _. refl;
+    reads_its = reads_its_none (gen_shape n made) f.told stop s s refl;
   }
 
   takes-how : (how : Option How) → Takes (gen_shape n made) (stop_at ToOut how) f f s s
-  takes-how None = takes Elsewhere (record { rest = []; whole = refl }) refl refl
-  takes-how (Some how) = takes (At ToOut how) refl refl refl
+  takes-how None = takes Elsewhere (record { rest = []; whole = refl }) refl tt refl
+  takes-how (Some how) = takes (At ToOut how) refl refl tt refl
 
   -- nothing was made
   pub gen_halted : (halt : Halt) (o : SinkSeen) → Generates (GenWants n made) (Err halt) → CommandsOut (gen_shape n made) (Err halt) f f s s o o
   gen_halted (halts.Refused refusal) o h =
-      refused_commands (gen_shape n made) refusal f f s s o h (inr (inl refl)) (takes Never refl refl refl)
+      refused_commands (gen_shape n made) refusal f f s s o h (inr (inl refl)) (takes Never refl refl tt refl)
   gen_halted (halts.Failed failures.Fault) o none = absurd none
   gen_halted (halts.Failed failures.NoMemory) o h = memory_first (gen_shape n made) f s o
 
@@ -129,10 +132,10 @@ module _ (n : ℕ) (made : Made) (f : FilesSeen) (s : SourceSeen) where
     pub gen_done : (told : Told) → bytes_of_text told.line ≡ [] → told.status ≡ statuses.Done → p ≡ sent (bytes_of_text text) o
         → CommandsOut (gen_shape n made) (Ok told) f f s s o p
     gen_done told line status went = written_whole (gen_shape n made) told (bytes_of_text text) f f s s o p went
-        (rw (line, status) h) (rw status refl) (inl status) (takes Never refl refl refl) (λ _ no. cc)
+        (rw (line, status) h) (rw status refl) (inl status) (takes Never refl refl tt refl) (λ _ no. cc)
 
   -- there is no list, and nothing is written but its line
   pub gen_without_list : (line : Text) (told : Told) (o : SinkSeen) → Generates (GenWants n made) (Ok (generates.NoList line))
       → told.line ≡ line → told.status ≡ statuses.NoAnswer → CommandsOut (gen_shape n made) (Ok told) f f s s o o
   gen_without_list line told o h is status = λ err. pieces_whole (gen_shape n made) [] (outside f s o err) (outside f s o err) told refl
-      (rw (is, status) h) (rw status refl) (inr (inr (inl status))) (takes Never refl refl refl) (λ done. cc (sym status ∙ done))
+      (rw (is, status) h) (rw status refl) (inr (inr (inl status))) (takes Never refl refl tt refl) (λ done. cc (sym status ∙ done))

@@ -2,6 +2,7 @@ pub mod HandingOver
 pub mod Fitting
 pub mod HeadendSteps
 pub mod HeadendSteps4
+pub mod NoList
 pub mod PublicLaws
 pub mod WalkEnds
 pub mod WalkKeeping

@@ -2,7 +2,7 @@
 use Rattle.std.proofs.Common.{◌≡◌, inl, inr, ℕ, true, false, List, [], ◌∷◌, Option, None, Some, IfSome, Result, Ok, Err, refl, sym, ap, ◌∙◌, subst, ◌<◌, ◌^◌, length}
 use Rattle.std.specs.Prelude.{IsSomeAnd, if◌then◌else◌}
 use Rattle.srx_edge.specs.Edge.{file_named}
-use Rattle.srx_edge.specs.FilesRead.{FilesSeen, asked_for}
+use Rattle.srx_edge.specs.FilesRead.{FilesSeen, FailsAt, asked_for}
 use Rattle.srx_edge.specs.Sources.{SourceSeen}
 use Rattle.srx_edge.specs.Sinks.{SinkSeen}
 use Rattle.srx_edge.specs.Steps.{How}
@@ -25,13 +25,15 @@ use Rattle.walk_commands.specs.Walk.{WalkWants, HasList, HasListIn, ReadsInput, 
 use Rattle.command_inputs.specs.Judgements.{network_in, intent_in, asks_behind_network}
 use Rattle.command_output.specs.Outputs.{refused, ended_by}
 use Rattle.command_output.specs.Lines.{bytes_of_text, refusal_line}
-use Rattle.command_output.specs.Outside.{outside, IsFrontOf, Asks, Reads, asked_for_all, files_left_by}
+use Rattle.command_output.specs.Outside.{outside, FailsBy, IsFrontOf, Asks, Reads, ReadsAs, ReadsWhole, asked_for_all, files_left_by}
 use Rattle.command_inputs.specs.Packets.{packets_in, reading_of, fault_of}
+use Rattle.command_output.specs.Gathered.{WroteInGroups}
 use Rattle.command_output.specs.Pieces.{Piece, Output, Which, Stop, Never, AtFiles, AtInput, At, Elsewhere, sinks_of, gone, stop_at, WroteAll}
-use Rattle.command_output.specs.Endings.{Takes}
+use Rattle.command_output.specs.Endings.{Takes, ReadsIts}
 use Rattle.command_output.specs.Shape.{Held, goes_on_with, names_of, WantedOf}
-use Rattle.command_output.proofs.PublicLaws.{each, each-map, some-map, front_whole, front_longer, front_after, asks_all, asks_fault, asks_front, refused_commands, files_fault, input_fault, memory_wants, pieces_whole, pieces_refused, pieces_cut}
+use Rattle.command_output.proofs.PublicLaws.{each, each-map, some-map, front_whole, front_longer, front_after, asks_all, asks_fault, asks_front, is_at_input, reads_its_early, reads_its_whole, reads_nothing, refused_commands, files_fault, input_fault, memory_wants, pieces_whole, pieces_refused, pieces_cut}
 use Rattle.walk_commands.proofs.WalkKeeping.{walks_keep}
+use Rattle.walk_commands.proofs.NoList.{no_list_of_file, no_list_of_intent, no_list_always}
 
 -- the names that are asked for, by the judgement of the description
 
@@ -86,14 +88,39 @@ module _ (file intent choices schedule : List ℕ) where
       (w input q)) h
 
   -- the input as it was
-  takes-unread : (stop : Stop) (f g : FilesSeen) (s : SourceSeen) → Asks (walk_shape file intent choices schedule) stop f g → Reads stop s s
+  takes-unread : (stop : Stop) (f g : FilesSeen) (s : SourceSeen) → Asks (walk_shape file intent choices schedule) stop f g
+      → is_at_input stop ≡ false → ReadsIts (walk_shape file intent choices schedule) f.told stop s s
       → Takes (walk_shape file intent choices schedule) stop f g s s
-  takes-unread stop f g s asks reads = record {
+  takes-unread stop f g s asks other its = record {
     asks = asks;
-    reads = reads;
+    reads = reads_nothing stop s other;
     unread = each f.told (λ held. (¬ ReadsInput file intent held) → s ≡ s) (λ held _. refl);
     reads_none = λ _. refl;
+    reads_its = its;
   }
+
+  -- the call ended before the input, of which what is told says so; or it stopped before that
+
+  unread-early : (told : Option Held) (s : SourceSeen) → IfSome told (λ held. ¬ ReadsInput file intent held)
+      → ReadsIts (walk_shape file intent choices schedule) told Never s s
+  unread-early told s early = reads_its_early (walk_shape file intent choices schedule) told Never s s refl early
+
+  unread-files : (told : Option Held) (s : SourceSeen) → ReadsIts (walk_shape file intent choices schedule) told AtFiles s s
+  unread-files told s = reads_its_whole (walk_shape file intent choices schedule) told AtFiles s s tt
+
+  unread-memory : (told : Option Held) (s : SourceSeen) → ReadsIts (walk_shape file intent choices schedule) told Elsewhere s s
+  unread-memory told s = reads_its_whole (walk_shape file intent choices schedule) told Elsewhere s s tt
+
+  refused-early : (refusal : Refusal) (told : Option Held) → IfSome told (DescriptionIs (Err refusal))
+      → IfSome told (λ held. ¬ ReadsInput file intent held)
+  refused-early refusal told h = each-map told (DescriptionIs (Err refusal)) (λ held. ¬ ReadsInput file intent held)
+      (λ held is. no_list_of_file refusal (file_named held file) (file_named held intent) is) h
+
+  listless-early : (net : Network) (read : Result Intent Refusal) (told : Option Held) → (¬ HasList net read)
+      → IfSome told (DescriptionIs (Ok net)) → IfSome told (IntentIs net read) → IfSome told (λ held. ¬ ReadsInput file intent held)
+  listless-early net read None none is i = tt
+  listless-early net read (Some held) none is i =
+      no_list_of_intent net read (file_named held file) (file_named held intent) none is i
 
   -- the description was refused, wasn't read, or memory was wanting
   pub walk_halted_at_file : (f g : FilesSeen) (s : SourceSeen) (o e : SinkSeen) (halt : Halt) → JudgesFile network_in file (Err halt) f g
@@ -103,17 +130,18 @@ module _ (file intent choices schedule : List ℕ) where
       (each f.told (λ held. (input : List ℕ) → Unit {0} → refused refusal ≡ refused refusal) (λ held input _. refl)))
       (inr (inl refl))
       (takes-unread Never f g s (asks_all (walk_shape file intent choices schedule) Never (file ∷ []) f g
-      (record { rest = intent ∷ []; whole = refl }) tt (names-refused refusal f.told h.0) h.1) refl) e
+      (record { rest = intent ∷ []; whole = refl }) tt (names-refused refusal f.told h.0) h.1) refl
+      (unread-early f.told s (refused-early refusal f.told h.0))) e
   walk_halted_at_file f g s o e (halts.Failed failures.Fault) h = files_fault (walk_shape file intent choices schedule) f g s o
       (takes-unread AtFiles f g s (asks_fault (walk_shape file intent choices schedule) (file ∷ []) f g
-      (record { rest = intent ∷ []; whole = refl }) tt
+      (record { rest = intent ∷ []; whole = refl }) h.0
       (each f.told (λ held. IsFrontOf (names_of (walk_shape file intent choices schedule) held) (file ∷ []))
-      (λ held. record { rest = behind held; whole = refl })) h) refl) e
+      (λ held. record { rest = behind held; whole = refl })) h.1) refl (unread-files f.told s)) e
   walk_halted_at_file f g s o e (halts.Failed failures.NoMemory) h = memory_wants (walk_shape file intent choices schedule) f g s s o
       (takes-unread Elsewhere f g s (asks_front (walk_shape file intent choices schedule) h.names f g
       (front_longer (file ∷ []) h.names (intent ∷ []) h.front)
       (each f.told (λ held. IsFrontOf (names_of (walk_shape file intent choices schedule) held) h.names)
-      (λ held. front_longer (file ∷ []) h.names (behind held) h.front)) h.seen) refl) e
+      (λ held. front_longer (file ∷ []) h.names (behind held) h.front)) h.seen) refl (unread-memory f.told s)) e
 
   module _ (f mid g : FilesSeen) (s t : SourceSeen) (o e : SinkSeen) (net : Network)
       (judged : JudgesFile network_in file (Ok net) f mid) where
@@ -134,8 +162,10 @@ module _ (file intent choices schedule : List ℕ) where
         (λ text is. subst (λ (r : Result Intent Refusal). IntentWants (WalkWants choices schedule input) net r output) (sym is) (w input q)) there) h))
 
     -- both files were asked for
-    asks-both : (stop : Stop) → g ≡ files_left_by stop (asked_for intent mid) → Asks (walk_shape file intent choices schedule) stop f g
-    asks-both stop seen = asks_all (walk_shape file intent choices schedule) stop (file ∷ intent ∷ []) f g (front_whole (file ∷ intent ∷ [])) tt
+    asks-both : (stop : Stop) → FailsBy stop (file ∷ intent ∷ []) f → g ≡ files_left_by stop (asked_for intent mid)
+        → Asks (walk_shape file intent choices schedule) stop f g
+    asks-both stop fails seen =
+        asks_all (walk_shape file intent choices schedule) stop (file ∷ intent ∷ []) f g (front_whole (file ∷ intent ∷ [])) fails
         (names-ok net f.told judged.0) (seen ∙ ap (λ (files : FilesSeen). files_left_by stop (asked_for intent files)) judged.1)
 
     -- the intent was refused, wasn't read, or memory was wanting
@@ -143,9 +173,11 @@ module _ (file intent choices schedule : List ℕ) where
         → Commands (walk_shape file intent choices schedule) (Err halt) (outside f s o e) (outside g s o e)
     walk_halted_at_intent (halts.Refused refusal) h = refused_commands (walk_shape file intent choices schedule) refusal f g s s o
         (wants-intent (Err refusal) (λ input. Unit {0}) (refused refusal) h.0 (any-input s.left) (λ input _. refl))
-        (inr (inl refl)) (takes-unread Never f g s (asks-both Never h.1) refl) e
+        (inr (inl refl)) (takes-unread Never f g s (asks-both Never tt h.1) refl
+        (unread-early f.told s (listless-early net (Err refusal) f.told (λ none. none) judged.0
+        (of-first (IntentIs net (Err refusal)) h.0)))) e
     walk_halted_at_intent (halts.Failed failures.Fault) h = files_fault (walk_shape file intent choices schedule) f g s o
-        (takes-unread AtFiles f g s (asks-both AtFiles h) refl) e
+        (takes-unread AtFiles f g s (asks-both AtFiles (subst (FailsAt intent) judged.1 h.0) h.1) refl (unread-files f.told s)) e
     walk_halted_at_intent (halts.Failed failures.NoMemory) h = memory_wants (walk_shape file intent choices schedule) f g s s o
         (takes-unread Elsewhere f g s (asks_front (walk_shape file intent choices schedule) (file ∷ h.names) f g
         (front_after file (intent ∷ []) h.names h.front)
@@ -154,7 +186,7 @@ module _ (file intent choices schedule : List ℕ) where
         (λ held is. subst (λ (names : List (List ℕ)). IsFrontOf names (file ∷ h.names)) (sym is)
         (front_after file (intent ∷ []) h.names h.front))
         (names-ok net f.told judged.0))
-        (h.seen ∙ ap (asked_for_all h.names) judged.1)) refl) e
+        (h.seen ∙ ap (asked_for_all h.names) judged.1)) refl (unread-memory f.told s)) e
 
     module _ (value : Intent) (read : JudgesFile (intent_in net) intent (Ok value) mid g) where
       wants-answer : (Q : List ℕ → Type 0) (output : Output) → IfSome s.left Q
@@ -162,15 +194,19 @@ module _ (file intent choices schedule : List ℕ) where
           → WantedOf (walk_shape file intent choices schedule) f.told s.left output
       wants-answer Q output q w = wants-intent (Ok value) Q output read.0 q w
 
+      early-intent : (¬ HasList net (Ok value)) → IfSome f.told (λ held. ¬ ReadsInput file intent held)
+      early-intent none = listless-early net (Ok value) f.told none judged.0 (of-first (IntentIs net (Ok value)) read.0)
+
       -- the network isn't flat, or memory was wanting
       pub walk_halted_at_start : (halt : Halt) → StartsAs net value (Err halt)
           → Commands (walk_shape file intent choices schedule) (Err halt) (outside f s o e) (outside g s o e)
       walk_halted_at_start (halts.Refused refusal) h = refused_commands (walk_shape file intent choices schedule) refusal f g s s o
           (wants-answer (λ input. Unit {0}) (refused refusal) (any-input s.left) (λ input _. h choices schedule input))
-          (inr (inl refl)) (takes-unread Never f g s (asks-both Never read.1) refl) e
+          (inr (inl refl)) (takes-unread Never f g s (asks-both Never tt read.1) refl
+          (unread-early f.told s (early-intent (no_list_always net value (refused refusal) (λ done. cc) h)))) e
       walk_halted_at_start (halts.Failed failures.Fault) h = absurd h
       walk_halted_at_start (halts.Failed failures.NoMemory) h = memory_wants (walk_shape file intent choices schedule) f g s s o
-          (takes-unread Elsewhere f g s (asks-both Elsewhere read.1) refl) e
+          (takes-unread Elsewhere f g s (asks-both Elsewhere tt read.1) refl (unread-memory f.told s)) e
 
       -- there is no list
       pub walk_without_list : (line : Text) (told : Told) → StartsAs net value (Ok (starts.NoList line))
@@ -179,7 +215,8 @@ module _ (file intent choices schedule : List ℕ) where
       walk_without_list line told h is status = pieces_whole (walk_shape file intent choices schedule) [] (outside f s o e) (outside g s o e) told refl
           (rw (is, status) (wants-answer (λ input. Unit {0}) (no_list (bytes_of_text line)) (any-input s.left)
           (λ input _. h choices schedule input)))
-          (rw status refl) (inr (inr (inl status))) (takes-unread Never f g s (asks-both Never read.1) refl)
+          (rw status refl) (inr (inr (inl status))) (takes-unread Never f g s (asks-both Never tt read.1) refl
+          (unread-early f.told s (early-intent (no_list_always net value (no_list (bytes_of_text line)) (λ done. cc) h))))
           (λ done. cc (sym status ∙ done))
 
       module _ (headend : Headend) (begins : StartsAs net value (Ok (starts.List headend))) (byte : value.hop_limit < 2 ^ 8)
@@ -198,13 +235,14 @@ module _ (file intent choices schedule : List ℕ) where
         unread = each-map f.told (ReadsInput file intent) (λ held. (¬ ReadsInput file intent held) → t ≡ s)
             (λ held has none. absurd (none has)) (has-list f.told judged.0 (of-first (IntentIs net (Ok value)) read.0))
 
-        takes : (stop : Stop) → g ≡ files_left_by stop (asked_for intent mid) → Reads stop s t
-            → Takes (walk_shape file intent choices schedule) stop f g s t
-        takes stop seen reads = record {
-          asks = asks-both stop seen;
+        takes : (stop : Stop) → FailsBy stop (file ∷ intent ∷ []) f → g ≡ files_left_by stop (asked_for intent mid) → Reads stop s t
+            → ReadsAs stop s t → Takes (walk_shape file intent choices schedule) stop f g s t
+        takes stop fails seen reads whole = record {
+          asks = asks-both stop fails seen;
           reads = reads;
           unread = unread;
           reads_none = λ no. cc;
+          reads_its = reads_its_whole (walk_shape file intent choices schedule) f.told stop s t whole;
         }
 
         -- what is wanted of an input
@@ -227,11 +265,11 @@ module _ (file intent choices schedule : List ℕ) where
             → Commands (walk_shape file intent choices schedule) (Err halt) (outside f s o e) (outside g t o e)
         walk_halted_at_input (halts.Refused refusal) h = refused_commands (walk_shape file intent choices schedule) refusal f g s t o
             (wants-list (λ input. packets_in input ≡ Err refusal) (refused refusal) h.0 (λ input bad. rw bad refl))
-            (inr (inl refl)) (takes Never read.1 h.1) e
+            (inr (inl refl)) (takes Never tt read.1 (inr h.1) h.1) e
         walk_halted_at_input (halts.Failed failures.Fault) h = input_fault (walk_shape file intent choices schedule) f g s t o
-            (takes AtInput read.1 h) e
+            (takes AtInput tt read.1 h tt) e
         walk_halted_at_input (halts.Failed failures.NoMemory) h = memory_wants (walk_shape file intent choices schedule) f g s t o
-            (takes Elsewhere read.1 h) e
+            (takes Elsewhere tt read.1 (inr (inr h)) tt) e
 
         module _ (packets : Packets) (drawn : JudgesInput packets_in (Ok packets) s t) (p q : SinkSeen) where
           abbrev before : List Piece
@@ -241,24 +279,24 @@ module _ (file intent choices schedule : List ℕ) where
           wanted = wants-list (λ input. packets_in input ≡ Ok packets) (walked net headend choices schedule packets) drawn.0
               (λ input good. rw good refl)
 
-          reads : Reads Never s t
-          reads = ap (λ (u : SourceSeen). u.faults) drawn.1
+          reads : ReadsWhole s t
+          reads = inl drawn.1
 
           takes-how : (sink : Which) (how : Option How) → Takes (walk_shape file intent choices schedule) (stop_at sink how) f g s t
-          takes-how sink None = takes Elsewhere read.1 reads
-          takes-how sink (Some how) = takes (At sink how) read.1 reads
+          takes-how sink None = takes Elsewhere tt read.1 (inr (inl reads)) tt
+          takes-how sink (Some how) = takes (At sink how) tt read.1 (inr reads) reads
 
           -- the packets' pieces didn't go out whole
           cut-by : (fault : Option Refusal) (failure : Failure)
               → WantedOf (walk_shape file intent choices schedule) f.told s.left (ended_by before fault)
-              → WroteAll (ending_of_failure failure) before (sinks_of o e) (sinks_of p q)
+              → WroteInGroups (ending_of_failure failure) before (sinks_of o e) (sinks_of p q)
               → Commands (walk_shape file intent choices schedule) (Err (halts.Failed failure)) (outside f s o e) (outside g t p q)
           cut-by None failure w wrote = pieces_cut (walk_shape file intent choices schedule) before (outside f s o e) (outside g t p q)
               failure [] statuses.Done refl wrote w takes-how
           cut-by (Some refusal) failure w wrote = pieces_cut (walk_shape file intent choices schedule) before (outside f s o e) (outside g t p q)
               failure (refusal_line refusal) statuses.Refused refl wrote w takes-how
 
-          pub walk_halted_at_pieces : (failure : Failure) → WroteAll (ending_of_failure failure) before (sinks_of o e) (sinks_of p q)
+          pub walk_halted_at_pieces : (failure : Failure) → WroteInGroups (ending_of_failure failure) before (sinks_of o e) (sinks_of p q)
               → Commands (walk_shape file intent choices schedule) (Err (halts.Failed failure)) (outside f s o e) (outside g t p q)
           walk_halted_at_pieces failure wrote = cut-by (fault_of (reading_of packets)) failure wanted wrote
 
@@ -271,7 +309,7 @@ module _ (file intent choices schedule : List ℕ) where
               subst (λ (fault : Option Refusal). WantedOf (walk_shape file intent choices schedule) f.told s.left (ended_by before fault))
               (sym whole) wanted in
               pieces_whole (walk_shape file intent choices schedule) before (outside f s o e) (outside g t p q) told went
-              (rw (line, status) none) (rw status refl) (inl status) (takes Never read.1 reads) (λ _ _. drawn.1)
+              (rw (line, status) none) (rw status refl) (inl status) (takes Never tt read.1 (inr reads) reads) (λ _ _. drawn.1.1)
 
           -- something is, which is refused
           pub walk_refused : (refusal : Refusal) → Some refusal ≡ fault_of (reading_of packets)
@@ -280,4 +318,4 @@ module _ (file intent choices schedule : List ℕ) where
           walk_refused refusal more went = pieces_refused (walk_shape file intent choices schedule) before (outside f s o e) (outside g t p q) refusal went
               (subst (λ (fault : Option Refusal). WantedOf (walk_shape file intent choices schedule) f.told s.left (ended_by before fault))
               (sym more) wanted)
-              (inr (inl refl)) (takes Never read.1 reads)
+              (inr (inl refl)) (takes Never tt read.1 (inr reads) reads)

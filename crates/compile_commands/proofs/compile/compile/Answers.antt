@@ -2,7 +2,7 @@
 use Rattle.std.proofs.Common.{◌≡◌, inl, inr, ℕ, true, false, List, [], ◌∷◌, Option, None, Some, IfSome, Result, Ok, Err, refl, sym, ap, ◌∙◌, subst}
 use Rattle.std.specs.Prelude.{IsSomeAnd, if◌then◌else◌}
 use Rattle.srx_edge.specs.Edge.{file_named}
-use Rattle.srx_edge.specs.FilesRead.{FilesSeen, asked_for}
+use Rattle.srx_edge.specs.FilesRead.{FilesSeen, FailsAt, asked_for}
 use Rattle.srx_edge.specs.Sources.{SourceSeen}
 use Rattle.srx_edge.specs.Sinks.{SinkSeen, sent}
 use Rattle.srx_edge.specs.Steps.{Whole, How, Wrote}
@@ -21,11 +21,11 @@ use Rattle.compile_commands.specs.Compile.{AnswerWants, IntentWants, NetworkWant
 use Rattle.command_inputs.specs.Judgements.{network_in, intent_in, asks_behind_network}
 use Rattle.command_output.specs.Outputs.{refused}
 use Rattle.command_output.specs.Lines.{bytes_of_text}
-use Rattle.command_output.specs.Outside.{IsFrontOf, Asks, Reads, asked_for_all, files_left_by}
+use Rattle.command_output.specs.Outside.{FailsBy, IsFrontOf, Asks, asked_for_all, files_left_by}
 use Rattle.command_output.specs.Pieces.{Output, Stop, Never, AtFiles, At, Elsewhere, ToOut, stop_at}
 use Rattle.command_output.specs.Endings.{ending_of_status, Takes}
 use Rattle.command_output.specs.Shape.{Held, goes_on_with, names_of, WantedOf, IsOneOf}
-use Rattle.command_output.proofs.PublicLaws.{each, each-map, some-map, front_whole, front_longer, front_after, asks_all, asks_fault, asks_front}
+use Rattle.command_output.proofs.PublicLaws.{each, each-map, some-map, front_whole, front_longer, front_after, asks_all, asks_fault, asks_front, is_at_input, reads_its_none, reads_nothing}
 use Rattle.command_output.proofs.PublicLaws.{refused_commands, files_fault, memory_wants, written_whole, written_cut}
 use Rattle.std.proofs.lemmas.Result.{err_from_is_err_and}
 use Rattle.compile_commands.proofs.compile.compile.Goals as goal
@@ -77,13 +77,14 @@ module _ (file intent : List ℕ) where
       (λ text. NetworkWants AnswerWants (network_in text) (file_named held intent) output)
       (λ text is. subst (λ (j : Result Network Refusal). NetworkWants AnswerWants j (file_named held intent) output) (sym is) w) h
 
-  takes : (stop : Stop) (f g : FilesSeen) (s : SourceSeen) → Asks (compile_shape file intent) stop f g → Reads stop s s
+  takes : (stop : Stop) (f g : FilesSeen) (s : SourceSeen) → Asks (compile_shape file intent) stop f g → is_at_input stop ≡ false
       → Takes (compile_shape file intent) stop f g s s
-  takes stop f g s asks reads = record {
+  takes stop f g s asks other = record {
     asks = asks;
-    reads = reads;
+    reads = reads_nothing stop s other;
     unread = each f.told (λ held. Unit {0} → s ≡ s) (λ held _. refl);
     reads_none = λ _. refl;
+    reads_its = reads_its_none (compile_shape file intent) f.told stop s s refl;
   }
 
   -- the description was refused, wasn't read, or memory was wanting
@@ -95,9 +96,9 @@ module _ (file intent : List ℕ) where
       (takes Never f g s (asks_all (compile_shape file intent) Never (file ∷ []) f g (record { rest = intent ∷ []; whole = refl }) tt
       (names-refused refusal f.told h.0) h.1) refl)
   compile_halted_at_file f g o (halts.Failed failures.Fault) h = λ s. files_fault (compile_shape file intent) f g s o
-      (takes AtFiles f g s (asks_fault (compile_shape file intent) (file ∷ []) f g (record { rest = intent ∷ []; whole = refl }) tt
+      (takes AtFiles f g s (asks_fault (compile_shape file intent) (file ∷ []) f g (record { rest = intent ∷ []; whole = refl }) h.0
       (each f.told (λ held. IsFrontOf (names_of (compile_shape file intent) held) (file ∷ []))
-      (λ held. record { rest = behind held; whole = refl })) h) refl)
+      (λ held. record { rest = behind held; whole = refl })) h.1) refl)
   compile_halted_at_file f g o (halts.Failed failures.NoMemory) h = λ s. memory_wants (compile_shape file intent) f g s s o
       (takes Elsewhere f g s (asks_front (compile_shape file intent) h.names f g (front_longer (file ∷ []) h.names (intent ∷ []) h.front)
       (each f.told (λ held. IsFrontOf (names_of (compile_shape file intent) held) h.names)
@@ -120,17 +121,18 @@ module _ (file intent : List ℕ) where
         (λ text is. subst (λ (r : Result Intent Refusal). IntentWants AnswerWants net r output) (sym is) w) there) h))
 
     -- both files were asked for
-    asks-both : (stop : Stop) → g ≡ files_left_by stop (asked_for intent mid) → Asks (compile_shape file intent) stop f g
-    asks-both stop seen = asks_all (compile_shape file intent) stop (file ∷ intent ∷ []) f g (front_whole (file ∷ intent ∷ [])) tt
+    asks-both : (stop : Stop) → FailsBy stop (file ∷ intent ∷ []) f → g ≡ files_left_by stop (asked_for intent mid)
+        → Asks (compile_shape file intent) stop f g
+    asks-both stop fails seen = asks_all (compile_shape file intent) stop (file ∷ intent ∷ []) f g (front_whole (file ∷ intent ∷ [])) fails
         (names-ok net f.told judged.0) (seen ∙ ap (λ (files : FilesSeen). files_left_by stop (asked_for intent files)) judged.1)
 
     -- the intent was refused, wasn't read, or memory was wanting
     pub compile_halted_at_intent : (halt : Halt) → JudgesFile (intent_in net) intent (Err halt) mid g
         → CommandsUnread (compile_shape file intent) (Err halt) f g o o
     compile_halted_at_intent (halts.Refused refusal) h = λ s. refused_commands (compile_shape file intent) refusal f g s s o
-        (wants-intent (Err refusal) s.left (refused refusal) h.0 refl) (inr (inl refl)) (takes Never f g s (asks-both Never h.1) refl)
+        (wants-intent (Err refusal) s.left (refused refusal) h.0 refl) (inr (inl refl)) (takes Never f g s (asks-both Never tt h.1) refl)
     compile_halted_at_intent (halts.Failed failures.Fault) h = λ s. files_fault (compile_shape file intent) f g s o
-        (takes AtFiles f g s (asks-both AtFiles h) refl)
+        (takes AtFiles f g s (asks-both AtFiles (subst (FailsAt intent) judged.1 h.0) h.1) refl)
     compile_halted_at_intent (halts.Failed failures.NoMemory) h = λ s. memory_wants (compile_shape file intent) f g s s o
         (takes Elsewhere f g s (asks_front (compile_shape file intent) (file ∷ h.names) f g (front_after file (intent ∷ []) h.names h.front)
         (each-map f.told (λ held. names_of (compile_shape file intent) held ≡ file ∷ intent ∷ [])
@@ -148,15 +150,15 @@ module _ (file intent : List ℕ) where
       -- the network isn't flat, or memory was wanting
       pub compile_halted_at_answer : (halt : Halt) → GivesOf net value (Err halt) → CommandsUnread (compile_shape file intent) (Err halt) f g o o
       compile_halted_at_answer (halts.Refused refusal) h = λ s. refused_commands (compile_shape file intent) refusal f g s s o
-          (wants-answer s.left (refused refusal) h) (inr (inl refl)) (takes Never f g s (asks-both Never read.1) refl)
+          (wants-answer s.left (refused refusal) h) (inr (inl refl)) (takes Never f g s (asks-both Never tt read.1) refl)
       compile_halted_at_answer (halts.Failed failures.Fault) h = absurd h
       compile_halted_at_answer (halts.Failed failures.NoMemory) h = λ s. memory_wants (compile_shape file intent) f g s s o
-          (takes Elsewhere f g s (asks-both Elsewhere read.1) refl)
+          (takes Elsewhere f g s (asks-both Elsewhere tt read.1) refl)
 
       module _ (answer : Answer) (gives : GivesOf net value (Ok answer)) where
         takes-how : (s : SourceSeen) (how : Option How) → Takes (compile_shape file intent) (stop_at ToOut how) f g s s
-        takes-how s None = takes Elsewhere f g s (asks-both Elsewhere read.1) refl
-        takes-how s (Some how) = takes (At ToOut how) f g s (asks-both (At ToOut how) read.1) refl
+        takes-how s None = takes Elsewhere f g s (asks-both Elsewhere tt read.1) refl
+        takes-how s (Some how) = takes (At ToOut how) f g s (asks-both (At ToOut how) tt read.1) refl
 
         -- the report didn't go out whole
         pub compile_halted_at_out : (failure : Failure) → Wrote (ending_of_failure failure) (bytes_of_text answer.report) o p
@@ -170,7 +172,7 @@ module _ (file intent : List ℕ) where
         compile_done went = λ s. written_whole (compile_shape file intent) answer.told (bytes_of_text answer.report) f g s s o p went
             (wants-answer s.left (output_of_answer answer) gives.0)
             (answer-status answer.told.status gives.1).0 (answer-status answer.told.status gives.1).1
-            (takes Never f g s (asks-both Never read.1) refl) (λ _ no. cc)
+            (takes Never f g s (asks-both Never tt read.1) refl) (λ _ no. cc)
 
 -- the goals
 

@@ -2,7 +2,7 @@
 use Rattle.std.proofs.Common.{◌≡◌, inl, inr, ℕ, true, false, List, [], ◌∷◌, Option, None, Some, IfSome, Result, Ok, Err, refl, sym, ap, ◌∙◌, ap₂, subst}
 use Rattle.std.specs.Prelude.{IsSomeAnd, if◌then◌else◌}
 use Rattle.srx_edge.specs.Edge.{file_named}
-use Rattle.srx_edge.specs.FilesRead.{FilesSeen, asked_for}
+use Rattle.srx_edge.specs.FilesRead.{FilesSeen, FailsAt, asked_for}
 use Rattle.srx_edge.specs.Sources.{SourceSeen}
 use Rattle.srx_edge.specs.Sinks.{SinkSeen, sent}
 use Rattle.srx_edge.specs.Steps.{How, Wrote}
@@ -25,12 +25,12 @@ use Rattle.trace_commands.specs.Replay.{ReplayWants, replay_shape, replayed, rep
 use Rattle.command_inputs.specs.Judgements.{network_in, trace_in, asks_behind_network}
 use Rattle.command_output.specs.Outputs.{refused, after}
 use Rattle.command_output.specs.Lines.{bytes_of_text}
-use Rattle.command_output.specs.Outside.{IsFrontOf, Asks, Reads, asked_for_all, files_left_by}
+use Rattle.command_output.specs.Outside.{FailsBy, IsFrontOf, Asks, asked_for_all, files_left_by}
 use Rattle.command_output.specs.Pieces.{Output, Stop, Never, AtFiles, At, Elsewhere, ToOut, stop_at}
 use Rattle.command_output.specs.Endings.{Takes}
 use Rattle.command_output.specs.Shape.{Held, goes_on_with, names_of, WantedOf, IsOneOf}
 use Rattle.command_output.proofs.PublicLaws.{judgement-status}
-use Rattle.command_output.proofs.PublicLaws.{each, each-map, some-map, front_whole, front_longer, front_after, asks_all, asks_fault, asks_front}
+use Rattle.command_output.proofs.PublicLaws.{each, each-map, some-map, front_whole, front_longer, front_after, asks_all, asks_fault, asks_front, is_at_input, reads_its_none, reads_nothing}
 use Rattle.command_output.proofs.PublicLaws.{refused_commands, files_fault, memory_wants, written_whole, written_cut}
 use Rattle.std.proofs.lemmas.Result.{err_from_is_err_and}
 use Rattle.trace_commands.proofs.replay.replay.Goals as goal
@@ -81,13 +81,14 @@ module _ (file trace : List ℕ) where
       (λ text. ReplayWants (network_in text) (file_named held trace) output)
       (λ text is. subst (λ (j : Result Network Refusal). ReplayWants j (file_named held trace) output) (sym is) w) h
 
-  takes : (stop : Stop) (f g : FilesSeen) (s : SourceSeen) → Asks (replay_shape file trace) stop f g → Reads stop s s
+  takes : (stop : Stop) (f g : FilesSeen) (s : SourceSeen) → Asks (replay_shape file trace) stop f g → is_at_input stop ≡ false
       → Takes (replay_shape file trace) stop f g s s
-  takes stop f g s asks reads = record {
+  takes stop f g s asks other = record {
     asks = asks;
-    reads = reads;
+    reads = reads_nothing stop s other;
     unread = each f.told (λ held. Unit {0} → s ≡ s) (λ held _. refl);
     reads_none = λ _. refl;
+    reads_its = reads_its_none (replay_shape file trace) f.told stop s s refl;
   }
 
   -- the description was refused, wasn't read, or memory was wanting
@@ -99,9 +100,9 @@ module _ (file trace : List ℕ) where
       (takes Never f g s (asks_all (replay_shape file trace) Never (file ∷ []) f g (record { rest = trace ∷ []; whole = refl }) tt
       (names-refused refusal f.told h.0) h.1) refl)
   replay_halted_at_file f g o (halts.Failed failures.Fault) h = λ s. files_fault (replay_shape file trace) f g s o
-      (takes AtFiles f g s (asks_fault (replay_shape file trace) (file ∷ []) f g (record { rest = trace ∷ []; whole = refl }) tt
+      (takes AtFiles f g s (asks_fault (replay_shape file trace) (file ∷ []) f g (record { rest = trace ∷ []; whole = refl }) h.0
       (each f.told (λ held. IsFrontOf (names_of (replay_shape file trace) held) (file ∷ []))
-      (λ held. record { rest = behind held; whole = refl })) h) refl)
+      (λ held. record { rest = behind held; whole = refl })) h.1) refl)
   replay_halted_at_file f g o (halts.Failed failures.NoMemory) h = λ s. memory_wants (replay_shape file trace) f g s s o
       (takes Elsewhere f g s (asks_front (replay_shape file trace) h.names f g (front_longer (file ∷ []) h.names (trace ∷ []) h.front)
       (each f.told (λ held. IsFrontOf (names_of (replay_shape file trace) held) h.names)
@@ -124,17 +125,18 @@ module _ (file trace : List ℕ) where
         (λ text is. subst (λ (r : Result (List (List ℕ)) Refusal). output ≡ after r (replayed net)) (sym is) w) there) h))
 
     -- both files were asked for
-    asks-both : (stop : Stop) → g ≡ files_left_by stop (asked_for trace mid) → Asks (replay_shape file trace) stop f g
-    asks-both stop seen = asks_all (replay_shape file trace) stop (file ∷ trace ∷ []) f g (front_whole (file ∷ trace ∷ [])) tt
+    asks-both : (stop : Stop) → FailsBy stop (file ∷ trace ∷ []) f → g ≡ files_left_by stop (asked_for trace mid)
+        → Asks (replay_shape file trace) stop f g
+    asks-both stop fails seen = asks_all (replay_shape file trace) stop (file ∷ trace ∷ []) f g (front_whole (file ∷ trace ∷ [])) fails
         (names-ok net f.told judged.0) (seen ∙ ap (λ (files : FilesSeen). files_left_by stop (asked_for trace files)) judged.1)
 
     -- the trace was refused, wasn't read, or memory was wanting
     pub replay_halted_at_trace : (halt : Halt) → JudgesFile (trace_in net) trace (Err halt) mid g
         → CommandsUnread (replay_shape file trace) (Err halt) f g o o
     replay_halted_at_trace (halts.Refused refusal) h = λ s. refused_commands (replay_shape file trace) refusal f g s s o
-        (wants-trace (Err refusal) s.left (refused refusal) h.0 refl) (inr (inl refl)) (takes Never f g s (asks-both Never h.1) refl)
+        (wants-trace (Err refusal) s.left (refused refusal) h.0 refl) (inr (inl refl)) (takes Never f g s (asks-both Never tt h.1) refl)
     replay_halted_at_trace (halts.Failed failures.Fault) h = λ s. files_fault (replay_shape file trace) f g s o
-        (takes AtFiles f g s (asks-both AtFiles h) refl)
+        (takes AtFiles f g s (asks-both AtFiles (subst (FailsAt trace) judged.1 h.0) h.1) refl)
     replay_halted_at_trace (halts.Failed failures.NoMemory) h = λ s. memory_wants (replay_shape file trace) f g s s o
         (takes Elsewhere f g s (asks_front (replay_shape file trace) (file ∷ h.names) f g (front_after file (trace ∷ []) h.names h.front)
         (each-map f.told (λ held. names_of (replay_shape file trace) held ≡ file ∷ trace ∷ [])
@@ -148,15 +150,15 @@ module _ (file trace : List ℕ) where
       -- memory was wanting for the line
       pub replay_halted_at_judgement : CommandsUnread (replay_shape file trace) (Err (halts.Failed failures.NoMemory)) f g o o
       replay_halted_at_judgement = λ s. memory_wants (replay_shape file trace) f g s s o
-          (takes Elsewhere f g s (asks-both Elsewhere read.1) refl)
+          (takes Elsewhere f g s (asks-both Elsewhere tt read.1) refl)
 
       module _ (judgement : Judgement) (says : output_of_judgement judgement ≡ replayed net lines) where
         wants-judgement : (left : Option (List ℕ)) → WantedOf (replay_shape file trace) f.told left (output_of_judgement judgement)
         wants-judgement left = wants-trace (Ok lines) left (output_of_judgement judgement) read.0 says
 
         takes-how : (s : SourceSeen) (how : Option How) → Takes (replay_shape file trace) (stop_at ToOut how) f g s s
-        takes-how s None = takes Elsewhere f g s (asks-both Elsewhere read.1) refl
-        takes-how s (Some how) = takes (At ToOut how) f g s (asks-both (At ToOut how) read.1) refl
+        takes-how s None = takes Elsewhere f g s (asks-both Elsewhere tt read.1) refl
+        takes-how s (Some how) = takes (At ToOut how) f g s (asks-both (At ToOut how) tt read.1) refl
 
         -- the line didn't go out whole
         pub replay_halted_at_out : (failure : Failure) → Wrote (ending_of_failure failure) (bytes_of_text judgement.line) o p
@@ -173,7 +175,7 @@ module _ (file trace : List ℕ) where
             (ap₂ (λ (l : List ℕ) (t : Status). reported (bytes_of_text judgement.line) l t) (sym line) (sym status))
             (wants-judgement s.left))
             (judgement-status told.status own).0 (judgement-status told.status own).1
-            (takes Never f g s (asks-both Never read.1) refl) (λ _ no. cc)
+            (takes Never f g s (asks-both Never tt read.1) refl) (λ _ no. cc)
           where
             own : IsOneOf (statuses.Done ∷ statuses.SaysNo ∷ []) told.status
             own = subst (IsOneOf (statuses.Done ∷ statuses.SaysNo ∷ [])) (sym status)

@@ -19,14 +19,14 @@ use Rattle.command_output.specs.Answers.{ending_of_failure, JudgesFile, JudgesIn
 use Rattle.command_inputs.specs.Judgements.{network_in, node_in}
 use Rattle.command_output.specs.Outputs.{refused, ended_by}
 use Rattle.command_output.specs.Lines.{bytes_of_text, refusal_line}
-use Rattle.command_output.specs.Outside.{outside, IsFrontOf, Asks, Reads, files_left_by}
+use Rattle.command_output.specs.Outside.{outside, FailsBy, IsFrontOf, Asks, Reads, ReadsAs, ReadsWhole, files_left_by}
 use Rattle.command_inputs.specs.Packets.{packets_in, reading_of, fault_of}
 use Rattle.command_output.specs.Pieces.{ForOut, Output, Stop, Never, AtFiles, AtInput, At, Elsewhere, ToOut, stop_at}
 use Rattle.run_commands.specs.Run.{has_start, reads_input}
 use Rattle.trace_commands.specs.Trace.{text_of, traced, trace_output, trace_shape}
-use Rattle.command_output.specs.Endings.{Takes}
+use Rattle.command_output.specs.Endings.{ReadsIts, Takes}
 use Rattle.command_output.specs.Shape.{Held, names_of, WantedOf}
-use Rattle.command_output.proofs.PublicLaws.{each, some-map, front_whole, asks_all, asks_front}
+use Rattle.command_output.proofs.PublicLaws.{each, each-map, some-map, front_whole, asks_all, asks_front, is_at_input, reads_its_early, reads_its_whole, reads_nothing}
 use Rattle.command_output.proofs.PublicLaws.{refused_commands, files_fault, input_fault, memory_wants, written_whole, written_cut, pieces_refused}
 use Rattle.std.proofs.lemmas.Result.{err_from_is_err_and}
 use Rattle.trace_commands.proofs.trace.trace.Goals as goal
@@ -46,21 +46,36 @@ any-input : (left : Option (List ℕ)) → IfSome left (λ input. Unit {0})
 any-input None = tt
 any-input (Some input) = tt
 
-asks-file : (file name choices : List ℕ) (stop : Stop) (f g : FilesSeen) → g ≡ files_left_by stop (asked_for file f)
-    → Asks (trace_shape file name choices) stop f g
-asks-file file name choices stop f g seen = asks_all (trace_shape file name choices) stop (file ∷ []) f g (front_whole (file ∷ [])) tt
+asks-file : (file name choices : List ℕ) (stop : Stop) (f g : FilesSeen) → FailsBy stop (file ∷ []) f
+    → g ≡ files_left_by stop (asked_for file f) → Asks (trace_shape file name choices) stop f g
+asks-file file name choices stop f g fails seen =
+    asks_all (trace_shape file name choices) stop (file ∷ []) f g (front_whole (file ∷ [])) fails
     (each f.told (λ held. names_of (trace_shape file name choices) held ≡ file ∷ []) (λ held. refl)) seen
 
 -- the input as it was
 takes-unread : (file name choices : List ℕ) (stop : Stop) (f g : FilesSeen) (s : SourceSeen)
-    → Asks (trace_shape file name choices) stop f g → Reads stop s s
+    → Asks (trace_shape file name choices) stop f g → is_at_input stop ≡ false
+    → ReadsIts (trace_shape file name choices) f.told stop s s
     → Takes (trace_shape file name choices) stop f g s s
-takes-unread file name choices stop f g s asks reads = record {
+takes-unread file name choices stop f g s asks other its = record {
   asks = asks;
-  reads = reads;
+  reads = reads_nothing stop s other;
   unread = each f.told (λ held. reads_input (file_named held file) name ≡ false → s ≡ s) (λ held _. refl);
   reads_none = λ _. refl;
+  reads_its = its;
 }
+
+-- the input isn't read where the description or the node's name is refused
+
+leaves-refused : (name : List ℕ) (refusal : Refusal) (o : Option (List ℕ)) → IsSomeAnd o (λ text. network_in text ≡ Err refusal)
+    → reads_input o name ≡ false
+leaves-refused name refusal None h = absurd h
+leaves-refused name refusal (Some text) h = rw h refl
+
+leaves-nameless : (name : List ℕ) (net : Network) (refusal : Refusal) (o : Option (List ℕ)) → node_in net name ≡ Err refusal
+    → IsSomeAnd o (λ text. network_in text ≡ Ok net) → reads_input o name ≡ false
+leaves-nameless name net refusal None node h = absurd h
+leaves-nameless name net refusal (Some text) node h = rw (h, node) refl
 
 module _ (file name choices : List ℕ) (f g : FilesSeen) (s t : SourceSeen) (o : SinkSeen) where
   -- the file was refused, wasn't read, or memory was wanting
@@ -70,13 +85,18 @@ module _ (file name choices : List ℕ) (f g : FilesSeen) (s t : SourceSeen) (o 
       (trace-wants f.told s.left file name choices (λ text. network_in text ≡ Err refusal) (λ input. Unit {0}) (refused refusal)
       h.0 (any-input s.left)
       (λ text input is _. rw is refl))
-      (inr (inl refl)) (takes-unread file name choices Never f g s (asks-file file name choices Never f g h.1) refl)
+      (inr (inl refl)) (takes-unread file name choices Never f g s (asks-file file name choices Never f g tt h.1) refl
+      (reads_its_early (trace_shape file name choices) f.told Never s s refl
+      (each-map f.told (λ held. IsSomeAnd (file_named held file) (λ text. network_in text ≡ Err refusal))
+      (λ held. reads_input (file_named held file) name ≡ false)
+      (λ held is. leaves-refused name refusal (file_named held file) is) h.0)))
   trace_halted_at_file (halts.Failed failures.Fault) h =
       files_fault (trace_shape file name choices) f g s o (takes-unread file name choices AtFiles f g s
-      (asks-file file name choices AtFiles f g h) refl)
+      (asks-file file name choices AtFiles f g h.0 h.1) refl (reads_its_whole (trace_shape file name choices) f.told AtFiles s s tt))
   trace_halted_at_file (halts.Failed failures.NoMemory) h = memory_wants (trace_shape file name choices) f g s s o
       (takes-unread file name choices Elsewhere f g s (asks_front (trace_shape file name choices) h.names f g h.front
-      (each f.told (λ held. IsFrontOf (names_of (trace_shape file name choices) held) h.names) (λ held. h.front)) h.seen) refl)
+      (each f.told (λ held. IsFrontOf (names_of (trace_shape file name choices) held) h.names) (λ held. h.front)) h.seen) refl
+      (reads_its_whole (trace_shape file name choices) f.told Elsewhere s s tt))
 
   module _ (net : Network) (judged : JudgesFile network_in file (Ok net) f g) where
     -- the node's name was refused
@@ -86,7 +106,11 @@ module _ (file name choices : List ℕ) (f g : FilesSeen) (s t : SourceSeen) (o 
         (trace-wants f.told s.left file name choices (λ text. network_in text ≡ Ok net) (λ input. Unit {0}) (refused refusal)
         judged.0 (any-input s.left)
         (λ text input is _. rw (is, node) refl))
-        (inr (inl refl)) (takes-unread file name choices Never f g s (asks-file file name choices Never f g judged.1) refl)
+        (inr (inl refl)) (takes-unread file name choices Never f g s (asks-file file name choices Never f g tt judged.1) refl
+        (reads_its_early (trace_shape file name choices) f.told Never s s refl
+        (each-map f.told (λ held. IsSomeAnd (file_named held file) (λ text. network_in text ≡ Ok net))
+        (λ held. reads_input (file_named held file) name ≡ false)
+        (λ held is. leaves-nameless name net refusal (file_named held file) node is) judged.0)))
 
     module _ (node : ℕ) (found : node_in net name ≡ Ok node) where
       starts : (o : Option (List ℕ)) → IsSomeAnd o (λ text. network_in text ≡ Ok net) → reads_input o name ≡ false → ⊥
@@ -98,12 +122,14 @@ module _ (file name choices : List ℕ) (f g : FilesSeen) (s t : SourceSeen) (o 
       unread None h = tt
       unread (Some held) h = λ early. absurd (starts (file_named held file) h early)
 
-      takes : (stop : Stop) → g ≡ files_left_by stop (asked_for file f) → Reads stop s t → Takes (trace_shape file name choices) stop f g s t
-      takes stop seen reads = record {
-        asks = asks-file file name choices stop f g seen;
+      takes : (stop : Stop) → FailsBy stop (file ∷ []) f → g ≡ files_left_by stop (asked_for file f) → Reads stop s t → ReadsAs stop s t
+          → Takes (trace_shape file name choices) stop f g s t
+      takes stop fails seen reads whole = record {
+        asks = asks-file file name choices stop f g fails seen;
         reads = reads;
         unread = unread f.told judged.0;
         reads_none = λ no. cc;
+        reads_its = reads_its_whole (trace_shape file name choices) f.told stop s t whole;
       }
 
       -- the input was refused, wasn't read, or memory was wanting
@@ -113,9 +139,11 @@ module _ (file name choices : List ℕ) (f g : FilesSeen) (s t : SourceSeen) (o 
           (trace-wants f.told s.left file name choices (λ text. network_in text ≡ Ok net) (λ input. packets_in input ≡ Err refusal)
           (refused refusal)
           judged.0 h.0 (λ text input is bad. rw (is, found, bad) refl))
-          (inr (inl refl)) (takes Never judged.1 h.1)
-      trace_halted_at_input (halts.Failed failures.Fault) h = input_fault (trace_shape file name choices) f g s t o (takes AtInput judged.1 h)
-      trace_halted_at_input (halts.Failed failures.NoMemory) h = memory_wants (trace_shape file name choices) f g s t o (takes Elsewhere judged.1 h)
+          (inr (inl refl)) (takes Never tt judged.1 (inr h.1) h.1)
+      trace_halted_at_input (halts.Failed failures.Fault) h =
+          input_fault (trace_shape file name choices) f g s t o (takes AtInput tt judged.1 h tt)
+      trace_halted_at_input (halts.Failed failures.NoMemory) h =
+          memory_wants (trace_shape file name choices) f g s t o (takes Elsewhere tt judged.1 (inr (inr h)) tt)
 
       module _ (packets : Packets) (drawn : JudgesInput packets_in (Ok packets) s t) (p : SinkSeen) where
         abbrev bytes : List ℕ
@@ -130,12 +158,12 @@ module _ (file name choices : List ℕ) (f g : FilesSeen) (s t : SourceSeen) (o 
         wanted-by fault is = subst (λ (o : Option Refusal). WantedOf (trace_shape file name choices) f.told s.left
             (ended_by (ForOut bytes ∷ []) o)) (sym is) wanted
 
-        reads : Reads Never s t
-        reads = ap (λ (u : SourceSeen). u.faults) drawn.1
+        reads : ReadsWhole s t
+        reads = inl drawn.1
 
         takes-how : (how : Option How) → Takes (trace_shape file name choices) (stop_at ToOut how) f g s t
-        takes-how None = takes Elsewhere judged.1 reads
-        takes-how (Some how) = takes (At ToOut how) judged.1 reads
+        takes-how None = takes Elsewhere tt judged.1 (inr (inl reads)) tt
+        takes-how (Some how) = takes (At ToOut how) tt judged.1 (inr reads) reads
 
         -- the text didn't go out whole
         cut-by : (fault : Option Refusal) (failure : Failure)
@@ -155,7 +183,8 @@ module _ (file name choices : List ℕ) (f g : FilesSeen) (s t : SourceSeen) (o 
         trace_done : (told : Told) → None ≡ fault_of (reading_of packets) → bytes_of_text told.line ≡ [] → told.status ≡ statuses.Done
             → p ≡ sent bytes o → CommandsOut (trace_shape file name choices) (Ok told) f g s t o p
         trace_done told whole line status went = written_whole (trace_shape file name choices) told bytes f g s t o p went
-            (rw (line, status) (wanted-by None whole)) (rw status refl) (inl status) (takes Never judged.1 reads) (λ _ _. drawn.1)
+            (rw (line, status) (wanted-by None whole)) (rw status refl) (inl status)
+            (takes Never tt judged.1 (inr reads) reads) (λ _ _. drawn.1.1)
 
         -- something is, which is refused
         trace_refused : (refusal : Refusal) → Some refusal ≡ fault_of (reading_of packets) → p ≡ sent bytes o
@@ -163,7 +192,7 @@ module _ (file name choices : List ℕ) (f g : FilesSeen) (s t : SourceSeen) (o 
         trace_refused refusal more went = λ err. pieces_refused (trace_shape file name choices) (ForOut bytes ∷ []) (outside f s o err)
             (outside g t p err) refusal
             (ap (λ (q : SinkSeen). (outside g t q err).sinks) went) (wanted-by (Some refusal) more) (inr (inl refl))
-            (takes Never judged.1 reads)
+            (takes Never tt judged.1 (inr reads) reads)
 
 -- the goals
 
