@@ -31,29 +31,23 @@ const TRACE: &[&str] = &["trace", "net.toml", "A"];
 const REPLAY: &[&str] = &["replay", "net.toml", "none"];
 
 /// The description is read by one call; the input by one, and a second one finds its end; the head
-/// and each of three frames are written by one, and so is the line.
+/// and three frames are written by one, and so is the line.
 const OF_RUN: &[Faults] = &[
     Faults { files: 1, ..NONE },
     Faults { input: 1, ..NONE },
     Faults { input: 2, ..NONE },
     Faults { out: 1, ..NONE },
-    Faults { out: 2, ..NONE },
-    Faults { out: 3, ..NONE },
-    Faults { out: 4, ..NONE },
     Faults { err: 1, ..NONE },
 ];
 
 /// Each file is read by one call; the input by one, and a second one finds its end; the head and
-/// each of three frames are written by one, and so is the line.
+/// three frames are written by one, and so is the line.
 const OF_WALK: &[Faults] = &[
     Faults { files: 1, ..NONE },
     Faults { files: 2, ..NONE },
     Faults { input: 1, ..NONE },
     Faults { input: 2, ..NONE },
     Faults { out: 1, ..NONE },
-    Faults { out: 2, ..NONE },
-    Faults { out: 3, ..NONE },
-    Faults { out: 4, ..NONE },
     Faults { err: 1, ..NONE },
 ];
 
@@ -195,7 +189,7 @@ fn no_call_is_left_that_could_fail(rt: HostRuntime) -> Result<(), Fail> {
     let beyond = Faults {
         files: 2,
         input: 3,
-        out: 5,
+        out: 2,
         err: 2,
     };
     let one = serve_words(rt.alloc(), RUN, &beyond)?;

@@ -1,12 +1,17 @@
 -- What `Serves` says of each fault and want.
-use Rattle.std.proofs.Common.{◌≡◌, ◌≢◌, inl, inr, ℕ, true, List, refl, sym, ap, ◌∙◌}
+use Rattle.std.proofs.Common.{◌≡◌, ◌≢◌, inl, inr, ℕ, true, List, refl, sym, ap, ◌∙◌, ◌⊎◌}
+use Rattle.std.specs.List.{flat_map}
+use Rattle.srx_edge.specs.FilesRead.{FilesSeen}
+use Rattle.srx_edge.specs.Sources.{SourceSeen}
 use Rattle.srx_edge.specs.Steps.{Fault, Memory, Failing, Wanting}
 use Rattle.command_output.specs.declared.status.Status.{Status}
 use Rattle.command_output.specs.declared.status.Status.TheVariants as statuses
 use Rattle.srv6_cli.specs.Command.{shape_of}
+use Rattle.srv6_cli.specs.Serves.{Serves}
 use Rattle.srv6_cli.specs.Words.{Command}
 use Rattle.srv6_cli.specs.Laws.{HadFault, HadWant, AfterFilesFault, AfterInputFault, AfterOut, AfterOutFault, AfterOutWant, NoFault, NoWant, OneFault, OfServe}
-use Rattle.command_output.specs.Outside.{Outside, Reads, asked_for_all, files_left_by}
+use Rattle.command_output.specs.Gathered.{gathered}
+use Rattle.command_output.specs.Outside.{Outside, Reads, asked_for_all, files_left_by, ReadsWhole}
 use Rattle.command_output.specs.Pieces.{Piece, ToOut, ToErr, Sinks, Stop, Never, AtFiles, AtInput, At, Elsewhere, ending_by, Went}
 use Rattle.command_output.specs.Endings.{ending_of_status, LinesLast}
 use Rattle.srv6_cli.proofs.Stops.{count-stop, files-stop, input-stop}
@@ -99,7 +104,8 @@ files-fault : (stop : Stop) (pieces : List Piece) (names : List (List ℕ)) (old
     → new.files ≡ files_left_by stop (asked_for_all names old.files)
     → Reads stop old.input new.input → Went stop pieces old.sinks new.sinks → new.files.faults ≢ old.files.faults → AfterFilesFault old new
 files-fault Never pieces names old new seen reads w changed = absurd (changed (files-stop Never names old.files new.files seen))
-files-fault AtFiles pieces names old new seen reads w changed = (files-stop AtFiles names old.files new.files seen, reads, w)
+files-fault AtFiles pieces names old new seen reads w changed =
+    (files-stop AtFiles names old.files new.files seen, ap (λ (f : FilesSeen). f.stopped) seen, reads, w)
 files-fault AtInput pieces names old new seen reads w changed = absurd (changed (files-stop AtInput names old.files new.files seen))
 files-fault (At sink how) pieces names old new seen reads w changed =
     absurd (changed (files-stop (At sink how) names old.files new.files seen))
@@ -110,28 +116,34 @@ input-fault : (stop : Stop) (pieces : List Piece) (old new : Outside) → Reads 
     → new.input.faults ≢ old.input.faults → AfterInputFault old new
 input-fault Never pieces old new reads w changed = absurd (changed (input-stop Never old.input new.input reads))
 input-fault AtFiles pieces old new reads w changed = absurd (changed (input-stop AtFiles old.input new.input reads))
-input-fault AtInput pieces old new reads w changed = (reads.0, reads.1, w)
+input-fault AtInput pieces old new reads w changed =
+    (input-stop AtInput old.input new.input reads, ap (λ (s : SourceSeen). s.stopped) reads.seen, w)
 input-fault (At sink how) pieces old new reads w changed = absurd (changed (input-stop (At sink how) old.input new.input reads))
 input-fault Elsewhere pieces old new reads w changed = absurd (changed (input-stop Elsewhere old.input new.input reads))
 
+-- the pieces as they went out, by groups
+abbrev groups_of : {command : Command} {status : Status} {old new : Outside} → Serves command status old new → List Piece
+groups_of s = flat_map gathered s.went.groups
+
 pub after_files_fault : OfServe (λ command status old new. new.files.faults ≢ old.files.faults → AfterFilesFault old new)
 after_files_fault command status old new s changed =
-    files-fault s.stop s.output.pieces s.takes.asks.names old new s.takes.asks.seen s.takes.reads s.went changed
+    files-fault s.stop (groups_of s) s.takes.asks.names old new s.takes.asks.seen s.takes.reads s.went.went changed
 
 pub after_input_fault : OfServe (λ command status old new. new.input.faults ≢ old.input.faults → AfterInputFault old new)
-after_input_fault command status old new s changed = input-fault s.stop s.output.pieces old new s.takes.reads s.went changed
+after_input_fault command status old new s changed = input-fault s.stop (groups_of s) old new s.takes.reads s.went.went changed
 
 pub after_out_fault : OfServe (λ command status old new. new.sinks.out.faults ≢ old.sinks.out.faults → AfterOutFault command old new)
-after_out_fault command status old new s changed = out-fault command s.stop s.output.pieces old.sinks new.sinks s.went s.lines_last changed
+after_out_fault command status old new s changed =
+    out-fault command s.stop (groups_of s) old.sinks new.sinks s.went.went s.lines_last changed
 
 pub after_err_fault : OfServe (λ command status old new. new.sinks.err.faults ≢ old.sinks.err.faults → HadFault old.sinks.err new.sinks.err)
-after_err_fault command status old new s changed = err-fault s.stop s.output.pieces old.sinks new.sinks s.went changed
+after_err_fault command status old new s changed = err-fault s.stop (groups_of s) old.sinks new.sinks s.went.went changed
 
 pub after_out_want : OfServe (λ command status old new. new.sinks.out.wants ≢ old.sinks.out.wants → AfterOutWant command old new)
-after_out_want command status old new s changed = out-want command s.stop s.output.pieces old.sinks new.sinks s.went s.lines_last changed
+after_out_want command status old new s changed = out-want command s.stop (groups_of s) old.sinks new.sinks s.went.went s.lines_last changed
 
 pub after_err_want : OfServe (λ command status old new. new.sinks.err.wants ≢ old.sinks.err.wants → HadWant old.sinks.err new.sinks.err)
-after_err_want command status old new s changed = err-want s.stop s.output.pieces old.sinks new.sinks s.went changed
+after_err_want command status old new s changed = err-want s.stop (groups_of s) old.sinks new.sinks s.went.went changed
 
 -- the counts go with the status
 
@@ -195,7 +207,7 @@ one-fault : (stop : Stop) (pieces : List Piece) (names : List (List ℕ)) (old n
     → Reads stop old.input new.input → Went stop pieces old.sinks new.sinks → ending_by stop ≡ Fault → OneFault old new
 one-fault Never pieces names old new seen reads w is = cc
 one-fault AtFiles pieces names old new seen reads w is = inl (files-stop AtFiles names old.files new.files seen)
-one-fault AtInput pieces names old new seen reads w is = inr (inl reads.0)
+one-fault AtInput pieces names old new seen reads w is = inr (inl (input-stop AtInput old.input new.input reads))
 one-fault (At ToOut Failing) pieces names old new seen reads w is =
     inr (inr (inl (count-stop (At ToOut Failing) ToOut Failing pieces old.sinks new.sinks w)))
 one-fault (At ToOut Wanting) pieces names old new seen reads w is = cc
@@ -206,7 +218,7 @@ one-fault Elsewhere pieces names old new seen reads w is = cc
 
 -- only OutsideFault and NoMemory are no statuses of a whole call
 
-fault-status : (status : Status) → ending_of_status status ≡ Fault → status ≡ statuses.OutsideFault
+pub fault-status : (status : Status) → ending_of_status status ≡ Fault → status ≡ statuses.OutsideFault
 fault-status statuses.Done e = cc
 fault-status statuses.Refused e = cc
 fault-status statuses.Usage e = cc
@@ -215,7 +227,7 @@ fault-status statuses.SaysNo e = cc
 fault-status statuses.OutsideFault e = refl
 fault-status statuses.NoMemory e = cc
 
-memory-status : (status : Status) → ending_of_status status ≡ Memory → status ≡ statuses.NoMemory
+pub memory-status : (status : Status) → ending_of_status status ≡ Memory → status ≡ statuses.NoMemory
 memory-status statuses.Done e = cc
 memory-status statuses.Refused e = cc
 memory-status statuses.Usage e = cc
@@ -226,13 +238,14 @@ memory-status statuses.NoMemory e = refl
 
 pub one_fault : OfServe (λ command status old new. status ≡ statuses.OutsideFault → OneFault old new)
 one_fault command status old new s is =
-    one-fault s.stop s.output.pieces s.takes.asks.names old new s.takes.asks.seen s.takes.reads s.went (s.ending ∙ ap ending_of_status is)
+    one-fault s.stop (groups_of s) s.takes.asks.names old new s.takes.asks.seen s.takes.reads s.went.went
+    (s.ending ∙ ap ending_of_status is)
 
 pub no_fault : OfServe (λ command status old new. status ≢ statuses.OutsideFault → NoFault old new)
 no_fault command status old new s other =
-    no-fault s.stop s.output.pieces s.takes.asks.names old new s.takes.asks.seen s.takes.reads s.went
+    no-fault s.stop (groups_of s) s.takes.asks.names old new s.takes.asks.seen s.takes.reads s.went.went
     (λ fault. other (fault-status status (sym s.ending ∙ fault)))
 
 pub no_want : OfServe (λ command status old new. status ≢ statuses.NoMemory → NoWant old new)
 no_want command status old new s other =
-    no-want s.stop s.output.pieces old.sinks new.sinks s.went (λ want. other (memory-status status (sym s.ending ∙ want)))
+    no-want s.stop (groups_of s) old.sinks new.sinks s.went.went (λ want. other (memory-status status (sym s.ending ∙ want)))

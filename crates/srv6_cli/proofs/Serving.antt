@@ -1,5 +1,6 @@
 -- From what a command leaves, and its last line, to what `serve` leaves.
-use Rattle.std.proofs.Common.{◌≡◌, inr, ℕ, true, List, [], ◌∷◌, Option, None, Some, IfSome, IfOk, Result, Ok, Err, refl, sym, ap, ◌∙◌, subst, append-nil}
+use Rattle.std.proofs.Common.{◌≡◌, inr, ℕ, true, List, [], ◌∷◌, ◌++◌, Option, None, Some, IfSome, IfOk, Result, Ok, Err, refl, sym, ap, ◌∙◌, subst, append-nil, inl}
+use Rattle.std.specs.List.{flat_map}
 use Rattle.srx_edge.specs.FilesRead.{FilesSeen}
 use Rattle.srx_edge.specs.Sources.{SourceSeen, drained}
 use Rattle.srx_edge.specs.Sinks.{SinkSeen, sent}
@@ -13,13 +14,15 @@ use Rattle.command_output.specs.declared.told.Told.{Told}
 use Rattle.command_output.specs.Answers.{EndsWith, Commands, Tells, Concludes}
 use Rattle.srv6_cli.specs.Command.{shape_of}
 use Rattle.srv6_cli.specs.Words.{Command}
+use Rattle.command_output.specs.Gathered.{InGroups, gathered}
 use Rattle.command_output.specs.Lines.{bytes_of_text, refusal_line}
-use Rattle.command_output.specs.Outside.{Outside, AsksAs, Reads, asked_for_all, files_left_by}
-use Rattle.command_output.specs.Pieces.{ForErr, ToErr, Output, Sinks, Stop, Never, AtFiles, AtInput, At, Elsewhere, ending_by, gone, Went, stop_at}
-use Rattle.command_output.specs.Endings.{ending_of_status, OnWhole, OrNothing, LinesLast, Takes}
+use Rattle.command_output.specs.Outside.{Outside, AsksAs, Reads, asked_for_all, files_left_by, FailsBy}
+use Rattle.command_output.specs.Pieces.{ForErr, ToErr, Output, Sinks, Stop, Never, AtFiles, AtInput, At, Elsewhere, ending_by, gone, stop_at, Went}
+use Rattle.command_output.specs.Endings.{ending_of_status, OnWhole, OrNothing, LinesLast, Takes, ReadsIts}
 use Rattle.srv6_cli.specs.Serves.{Serves}
-use Rattle.command_output.specs.Shape.{Shape, names_of, WantedOf, IsOneOf}
-use Rattle.command_output.proofs.PublicLaws.{gone-append, ending_by-stop_at, went_cut}
+use Rattle.command_output.specs.Shape.{Shape, names_of, WantedOf, IsOneOf, Held}
+use Rattle.command_output.proofs.PublicLaws.{gone-append, ending_by-stop_at, in_groups, went_cut, reads_its_whole}
+use Rattle.srv6_cli.proofs.Completing.{completes}
 
 -- the sinks, and what is outside, with another `err`
 abbrev pub with_err : SinkSeen → Outside → Outside
@@ -47,8 +50,18 @@ files-left None files = refl
 files-left (Some how) files = refl
 
 reads-on : (how : Option How) (old new : SourceSeen) → Reads Never old new → Reads (stop_at ToErr how) old new
-reads-on None old new h = h
+reads-on None old new (inl same) = inl same
+reads-on None old new (inr whole) = inr (inl whole)
 reads-on (Some how) old new h = h
+
+reads-its-on : (shape : Shape) (how : Option How) (told : Option Held) (old new : SourceSeen) → ReadsIts shape told Never old new
+    → ReadsIts shape told (stop_at ToErr how) old new
+reads-its-on shape None told old new h = reads_its_whole shape told Elsewhere old new tt
+reads-its-on shape (Some how) told old new h = h
+
+fails-on : (how : Option How) (names : List (List ℕ)) (files : FilesSeen) → FailsBy (stop_at ToErr how) names files
+fails-on None names files = tt
+fails-on (Some how) names files = tt
 
 takes-on : (shape : Shape) (how : Option How) (f g : FilesSeen) (s t : SourceSeen) → Takes shape Never f g s t
     → Takes shape (stop_at ToErr how) f g s t
@@ -57,11 +70,13 @@ takes-on shape how f g s t takes = record {
     names = takes.asks.names;
     in_order = takes.asks.in_order;
     those = asks-told shape how takes.asks.names f.told takes.asks.those;
+    fails = fails-on how takes.asks.names f;
     seen = takes.asks.seen ∙ sym (files-left how (asked_for_all takes.asks.names f));
   };
   reads = reads-on how s t takes.reads;
   unread = takes.unread;
   reads_none = takes.reads_none;
+  reads_its = reads-its-on shape how f.told s t takes.reads_its;
 }
 
 or-nothing : (how : Option How) (output : Output) (P : Type 0) → P → OrNothing (stop_at ToErr how) output P
@@ -89,15 +104,17 @@ line-whole command last own status old mid err e whole is went = record {
   ending = sym whole;
   output = e.output;
   wanted = e.wanted;
-  went = ap (λ (s : SinkSeen). record mid.sinks { err = s }) went
+  went = in_groups Never e.output.pieces old.sinks (record mid.sinks { err = err })
+      (ap (λ (s : SinkSeen). record mid.sinks { err = s }) went
       ∙ (ap (gone (ForErr last ∷ [])) e.ends.went ∙ (sym (gone-append e.ends.before (ForErr last ∷ []) old.sinks)
-      ∙ ap (λ (o : Output). gone o.pieces old.sinks) (sym e.ends.is)));
+      ∙ ap (λ (o : Output). gone o.pieces old.sinks) (sym e.ends.is))));
   lines_last = λ _. tt;
   status_wanted = on_whole (ending_of_status status) (e.output.status ≡ status) (λ _. ap (λ (o : Output). o.status) e.ends.is ∙ sym is);
   status_own = on_whole (ending_of_status status) (IsOneOf (shape_of command).statuses status)
       (λ _. subst (IsOneOf (shape_of command).statuses) (sym is) e.status_own);
   takes = e.takes;
   read_to_end = λ done. e.read_to_end (sym is ∙ done);
+  complete = λ sure fault. cc (sym whole ∙ ap ending_of_status fault);
 }
 
 -- only a front of it did, or none
@@ -107,17 +124,29 @@ line-cut : (command : Command) (last : List ℕ) (own status : Status) (old mid 
     → Serves command status old (with_err err mid)
 line-cut command last own status old mid err ending e is early cut = record {
   stop = stop_at ToErr cut.how;
-  ending = ending_by-stop_at ToErr cut.how ∙ (cut.ends ∙ sym is);
+  ending = ends;
   output = e.output;
   wanted = or-nothing cut.how e.output (WantedOf (shape_of command) old.files.told old.input.left e.output) e.wanted;
-  went = subst (λ (o : Output). Went (stop_at ToErr cut.how) o.pieces old.sinks (record mid.sinks { err = err })) (sym e.ends.is)
-      (went_cut ToErr ending e.ends.before [] last old.sinks mid.sinks err e.ends.went cut);
+  went = went;
   lines_last = λ _. lines-last cut.how old.sinks (record mid.sinks { err = err });
   status_wanted = on_whole (ending_of_status status) (e.output.status ≡ status) (λ whole. absurd (early (sym is ∙ whole)));
   status_own = on_whole (ending_of_status status) (IsOneOf (shape_of command).statuses status) (λ whole. absurd (early (sym is ∙ whole)));
-  takes = takes-on (shape_of command) cut.how old.files mid.files old.input mid.input e.takes;
+  takes = takes;
   read_to_end = λ done. absurd (early (sym is ∙ ap ending_of_status done));
+  complete = completes (shape_of command) status (stop_at ToErr cut.how) (flat_map gathered went.groups) old (with_err err mid) ends takes
+      went.went;
 }
+  where
+    ends : ending_by (stop_at ToErr cut.how) ≡ ending_of_status status
+    ends = ending_by-stop_at ToErr cut.how ∙ (cut.ends ∙ sym is)
+
+    went : InGroups (stop_at ToErr cut.how) e.output.pieces old.sinks (record mid.sinks { err = err })
+    went = subst (λ (o : Output). InGroups (stop_at ToErr cut.how) o.pieces old.sinks (record mid.sinks { err = err })) (sym e.ends.is)
+        (in_groups (stop_at ToErr cut.how) (e.ends.before ++ ForErr last ∷ []) old.sinks (record mid.sinks { err = err })
+        (went_cut ToErr ending e.ends.before [] last old.sinks mid.sinks err e.ends.went cut))
+
+    takes : Takes (shape_of command) (stop_at ToErr cut.how) old.files mid.files old.input mid.input
+    takes = takes-on (shape_of command) cut.how old.files mid.files old.input mid.input e.takes
 
 line-ends : (command : Command) (last : List ℕ) (own status : Status) (old mid : Outside) (err : SinkSeen) (ending : Ending)
     → Ended command last own old mid
@@ -133,7 +162,7 @@ line-ends command last own status old mid err Memory e is wrote own' =
 failed-serves : (command : Command) (status : Status) (old mid : Outside) (stop : Stop) (output : Output)
     → ending_by stop ≡ ending_of_status status
     → (ending_of_status status ≡ Whole → ⊥) → OrNothing stop output (WantedOf (shape_of command) old.files.told old.input.left output)
-    → Went stop output.pieces old.sinks mid.sinks → ((shape_of command).lines_last ≡ true → LinesLast stop old.sinks mid.sinks)
+    → InGroups stop output.pieces old.sinks mid.sinks → ((shape_of command).lines_last ≡ true → LinesLast stop old.sinks mid.sinks)
     → Takes (shape_of command) stop old.files mid.files old.input mid.input → Serves command status old mid
 failed-serves command status old mid stop output is early wanted went last takes = record {
   stop = stop;
@@ -146,6 +175,7 @@ failed-serves command status old mid stop output is early wanted went last takes
   status_own = on_whole (ending_of_status status) (IsOneOf (shape_of command).statuses status) (λ whole. absurd (early whole));
   takes = takes;
   read_to_end = λ done. absurd (early (ap ending_of_status done));
+  complete = completes (shape_of command) status stop (flat_map gathered went.groups) old mid is takes went.went;
 }
 
 -- with the stop's own facts, of which only those of a whole call can be

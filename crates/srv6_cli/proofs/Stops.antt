@@ -1,11 +1,11 @@
 -- Which counts a call changes, by where it stopped.
-use Rattle.std.proofs.Common.{◌≡◌, ℕ, Bool, true, false, List, [], ◌∷◌, refl, ap, ◌∙◌}
+use Rattle.std.proofs.Common.{◌≡◌, ◌⊎◌, inl, inr, ℕ, Bool, true, false, List, [], ◌∷◌, refl, ap, ◌∙◌}
 use Rattle.srx_edge.specs.Edge.{next_count}
 use Rattle.srx_edge.specs.FilesRead.{FilesSeen, asked_for}
 use Rattle.srx_edge.specs.Sources.{SourceSeen}
 use Rattle.srx_edge.specs.Sinks.{SinkSeen, sent}
 use Rattle.srx_edge.specs.Steps.{How, Failing, Wanting}
-use Rattle.command_output.specs.Outside.{Reads, asked_for_all, files_left_by}
+use Rattle.command_output.specs.Outside.{Reads, ReadsWhole, asked_for_all, files_left_by}
 use Rattle.command_output.specs.Pieces.{Piece, ForOut, ForErr, Which, ToOut, ToErr, Sinks, gone, left_by, Stop, Never, AtFiles, AtInput, At, Elsewhere, Went}
 use Rattle.command_output.proofs.PublicLaws.{seen_of}
 
@@ -117,9 +117,19 @@ at_input AtInput = true
 at_input (At sink how) = false
 at_input Elsewhere = false
 
+faults-whole : (old new : SourceSeen) → ReadsWhole old new → new.faults ≡ old.faults
+faults-whole old new (inl end) = ap (λ (s : SourceSeen). s.faults) end.1
+faults-whole old new (inr past) = ap (λ (s : SourceSeen). s.faults) past.1
+
+faults-unless : (old new : SourceSeen) → (new ≡ old) ⊎ ReadsWhole old new → new.faults ≡ old.faults
+faults-unless old new (inl same) = ap (λ (s : SourceSeen). s.faults) same
+faults-unless old new (inr whole) = faults-whole old new whole
+
 pub input-stop : (stop : Stop) (old new : SourceSeen) → Reads stop old new → new.faults ≡ count_after (at_input stop) old.faults
-input-stop Never old new reads = reads
+input-stop Never old new reads = faults-unless old new reads
 input-stop AtFiles old new reads = ap (λ (s : SourceSeen). s.faults) reads
-input-stop AtInput old new reads = reads.0
-input-stop (At sink how) old new reads = reads
-input-stop Elsewhere old new reads = reads
+input-stop AtInput old new reads = ap (λ (s : SourceSeen). s.faults) reads.seen
+input-stop (At sink how) old new reads = faults-unless old new reads
+input-stop Elsewhere old new (inl same) = ap (λ (s : SourceSeen). s.faults) same
+input-stop Elsewhere old new (inr (inl whole)) = faults-whole old new whole
+input-stop Elsewhere old new (inr (inr drawn)) = ap (λ (s : SourceSeen). s.faults) drawn.seen

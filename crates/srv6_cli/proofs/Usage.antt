@@ -12,7 +12,7 @@ use Rattle.command_output.specs.Endings.{ending_of_status, Takes}
 use Rattle.command_output.specs.Lines.{bytes_of_text}
 use Rattle.command_output.specs.Outside.{Asks}
 use Rattle.command_output.specs.Pieces.{ForErr, Never}
-use Rattle.command_output.proofs.PublicLaws.{each}
+use Rattle.command_output.proofs.PublicLaws.{each, reads_its_none}
 use Rattle.srv6_cli.specs.Command.{shape_of, usage_line, usage_shape, UsageTold}
 use Rattle.srv6_cli.specs.Words.{Command, Unknown}
 
@@ -23,15 +23,17 @@ usage-asks f = record {
   names = [];
   in_order = record { rest = []; whole = refl };
   those = each f.told (λ held. [] ≡ []) (λ held. refl);
+  fails = tt;
   seen = refl;
 }
 
 usage-takes : (f : FilesSeen) (s : SourceSeen) → Takes usage_shape Never f f s s
 usage-takes f s = record {
   asks = usage-asks f;
-  reads = refl;
+  reads = inl refl;
   unread = each f.told (λ held. Unit {0} → s ≡ s) (λ held _. refl);
   reads_none = λ _. refl;
+  reads_its = reads_its_none usage_shape f.told Never s s refl;
 }
 
 usage-told : (told : Told) (f : FilesSeen) (s : SourceSeen) (o : SinkSeen) → bytes_of_text told.line ≡ usage_line

@@ -1,13 +1,17 @@
 -- What `Serves` says of each fault and of each want of memory in a sink by itself.
-use Rattle.std.specs.Prelude.{◌≡◌, ◌⊎◌, ℕ, true, IsTrue, List}
+use Rattle.std.specs.Prelude.{◌≡◌, ◌≢◌, ◌⊎◌, ℕ, true, IsTrue, List, []}
 use Rattle.srx_edge.specs.Edge.{next_count}
+use Rattle.srx_edge.specs.Fakes.{FilesState, SureSinkState, SureSourceState, sure_sink_seen, sure_source_seen}
+use Rattle.srx_edge.specs.FilesFake.{files_seen}
 use Rattle.srx_edge.specs.Sinks.{SinkSeen}
 use Rattle.command_output.specs.declared.status.Status.{Status}
+use Rattle.command_output.specs.declared.status.Status.TheVariants as statuses
 use Rattle.srv6_cli.specs.Command.{shape_of}
+use Rattle.srv6_cli.specs.Complete.{AreHeld}
 use Rattle.srv6_cli.specs.Words.{Command}
-use Rattle.command_output.specs.Outside.{Outside}
+use Rattle.command_output.specs.Outside.{Outside, ReadsWhole, outside}
 use Rattle.command_output.specs.Pieces.{Output}
-use Rattle.command_output.specs.Shape.{Held}
+use Rattle.command_output.specs.Shape.{Held, names_of}
 use Rattle.srv6_cli.specs.Serves.{Serves}
 
 -- a sink had one fault, or one want, and no call that did anything came after it
@@ -18,12 +22,13 @@ HadFault old new = (new.faults ≡ next_count old.faults) × (new.wants ≡ old.
 abbrev pub HadWant : SinkSeen → SinkSeen → Type 0
 HadWant old new = (new.wants ≡ next_count old.wants) × (new.faults ≡ old.faults) × IsTrue new.stopped
 
--- after a fault of the files the input and the sinks are as they were; after one of the input no read that did anything came,
--- and the sinks are as they were; where `out` was stopped, `err` had no fault and no want, and received nothing where the
--- command's lines stand after all of `out`
+-- after a fault of the files no name was asked for, and the input and the sinks are as they were; after one of the input no
+-- read that did anything came, and the sinks are as they were; where `out` was stopped, `err` had no fault and no want, and
+-- received nothing where the command's lines stand after all of `out`
 
 abbrev pub AfterFilesFault : Outside → Outside → Type 0
-AfterFilesFault old new = (new.files.faults ≡ next_count old.files.faults) × (new.input ≡ old.input) × (new.sinks ≡ old.sinks)
+AfterFilesFault old new = (new.files.faults ≡ next_count old.files.faults) × IsTrue new.files.stopped × (new.input ≡ old.input)
+    × (new.sinks ≡ old.sinks)
 
 abbrev pub AfterInputFault : Outside → Outside → Type 0
 AfterInputFault old new = (new.input.faults ≡ next_count old.input.faults) × IsTrue new.input.stopped × (new.sinks ≡ old.sinks)
@@ -50,6 +55,28 @@ NoWant old new = (new.sinks.out.wants ≡ old.sinks.out.wants) × (new.sinks.err
 abbrev pub OneFault : Outside → Outside → Type 0
 OneFault old new = (new.files.faults ≡ next_count old.files.faults) ⊎ ((new.input.faults ≡ next_count old.input.faults)
     ⊎ ((new.sinks.out.faults ≡ next_count old.sinks.out.faults) ⊎ (new.sinks.err.faults ≡ next_count old.sinks.err.faults)))
+
+-- the counts of an input and of sinks that are sure
+
+abbrev pub StandAtZero : Outside → Type 0
+StandAtZero new = (new.input.faults ≡ 0) × (new.sinks.out.faults ≡ 0) × (new.sinks.err.faults ≡ 0)
+
+-- files in memory of which no read fails, and that hold each name that a command comes to
+abbrev pub HoldAll : Command → FilesState → Type 0
+HoldAll command files = (files.fails ≡ []) × AreHeld files.files (names_of (shape_of command) files.files)
+
+abbrev pub sure_outside : FilesState → SureSourceState → SureSinkState → SureSinkState → Outside
+sure_outside files input out err = outside (files_seen files) (sure_source_seen input) (sure_sink_seen out) (sure_sink_seen err)
+
+-- over such files, a sure source and sure sinks no call ends with OutsideFault
+abbrev pub NoneFailsOverSure : Type 0
+NoneFailsOverSure =
+    (command : Command) (status : Status) (f g : FilesState) (s t : SureSourceState) (o p e q : SureSinkState) → HoldAll command f
+    → Serves command status (sure_outside f s o e) (sure_outside g t p q) → status ≢ statuses.OutsideFault
+
+-- the input is as it was, or it was read to its end, or one byte past the limit and no more
+abbrev pub InputIsWhole : Outside → Outside → Type 0
+InputIsWhole old new = (new.input ≡ old.input) ⊎ ReadsWhole old.input new.input
 
 -- with one content of the files and one input, a command has one output
 abbrev pub HasOneOutput : Command → Type 0

@@ -1,4 +1,5 @@
 pub mod Command
+pub mod Complete
 pub mod Laws
 pub mod Serves
 pub mod Words

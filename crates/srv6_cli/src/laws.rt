@@ -2,13 +2,15 @@
 //! Each law is of every call, also over files, an input and sinks that tell nothing.
 
 ghost use Rattle.std.specs.Prelude.{◌≡◌, ◌≢◌, ℕ, List};
-ghost use Rattle.srv6_cli.specs.Laws.{OfServe, HadFault, HadWant, AfterFilesFault, AfterInputFault, AfterOutFault, AfterOutWant, HasOneOutput, NoFault, NoWant, OneFault};
+ghost use Rattle.srv6_cli.specs.Laws.{OfServe, HadFault, HadWant, AfterFilesFault, AfterInputFault, AfterOutFault, AfterOutWant, HasOneOutput, InputIsWhole, NoFault, NoWant, NoneFailsOverSure, OneFault, StandAtZero};
+ghost use Rattle.srv6_cli.specs.Command.{shape_of};
+ghost use Rattle.srv6_cli.specs.Complete.{FilesAreSure};
 ghost use Rattle.srv6_cli.specs.Words as commands;
 
 use command_output::Status;
 
-/// Where a count of faults changed, it went on by one. After a fault of the files the input and
-/// both sinks are as they were. After one of the input no later read gave anything, and both sinks
+/// Where a count of faults changed, it went on by one. After a fault of the files no name was asked
+/// for, and the input and both sinks are as they were. After one of the input no later read gave anything, and both sinks
 /// are as they were. After one of a sink no later write to it sent anything; where that is `out`,
 /// `err` had no fault and no want, and is as it was where the command's lines stand after all of
 /// `out`. (own rule)
@@ -43,6 +45,24 @@ pub fn counts_go_with_their_status()
         status ≢ Status.OutsideFault → NoFault old new) }
     ensures no_want { OfServe (λ command status old new.
         status ≢ Status.NoMemory → NoWant old new) }
+{}
+
+/// Over files that are sure and hold each name that the command comes to, an input and sinks whose
+/// counts of faults are 0 at the end, as those of sure ones always are, no call ends with
+/// OutsideFault; so over `MemFiles` without failing reads, a `SureSource` and two of `SureSink`.
+/// (own rule)
+pub fn a_sure_outside_has_no_fault()
+    ensures sure { OfServe (λ command status old new. FilesAreSure (shape_of command) old.files
+        → StandAtZero new → status ≢ Status.OutsideFault) }
+    ensures memory { NoneFailsOverSure }
+{}
+
+/// With a status other than OutsideFault and NoMemory the input is as it was, or it was read to its
+/// end, or, where it has more bytes than it may, one byte past the limit and no more; so also where
+/// it was refused. (own rule)
+pub fn an_input_is_read_whole_or_not_at_all()
+    ensures { OfServe (λ command status old new. status ≢ Status.OutsideFault
+        → status ≢ Status.NoMemory → InputIsWhole old new) }
 {}
 
 /// The output that `serve` wants of `compile`, and of `walk`, is one: with one content of the files

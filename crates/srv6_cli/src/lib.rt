@@ -10,7 +10,6 @@ mod commands;
 pub mod laws;
 mod top;
 
-pub use command_inputs::MAX_INPUT_BYTES;
-pub use command_output::{NodeName, Refusal, Status};
+pub use command_output::{MAX_INPUT_BYTES, NodeName, Refusal, Status};
 pub use generate_commands::{MAX_PACKETS, Summary, summary};
 pub use top::serve;
