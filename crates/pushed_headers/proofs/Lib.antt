@@ -1,0 +1,5 @@
+pub mod Framing
+pub mod Taking
+pub mod Heads
+pub mod Policies
+pub mod PublicLaws
