@@ -1,0 +1,151 @@
+-- A stage over bytes follows the stage over values.
+use Rattle.std.proofs.Common.{◌≡◌, ℕ, ◌≤◌, Bool, true, false, ◌&&◌, nat_le, if◌then◌else◌, List, [], ◌∷◌, length, Option, Some, None, slice_get, refl, sym, ◌∙◌, ap, subst, arith}
+use Rattle.srv6_rules.specs.declared.sid.Behaviour.{Behaviour}
+use Rattle.srv6_rules.specs.declared.sid.Family.{Family}
+use Rattle.srv6_rules.specs.declared.sid.Family.TheVariants.{V6 as Ipv6}
+use Rattle.srv6_rules.specs.declared.sid.Reason.TheVariants as reasons
+use Rattle.srv6_rules.specs.declared.sid.SidEntry.{SidEntry}
+use Rattle.srv6_rules.specs.Behaviours.{behaviour_policy, behaviour_reduces}
+use Rattle.srv6_rules.specs.CompressedSteps.{SuitsCompression}
+use Rattle.srv6_rules.specs.Packet.{Packet, Content, V6, V4, Unreadable, IsSpellable, IsContent, spelling, read_as}
+use Rattle.srv6_rules.specs.Packet4.{Packet4, ttl, destination4}
+use Rattle.srv6_rules.specs.Endpoint.{Endpoint, Onward, Exposed, Delivered, Refused, at_sid, at_address}
+use Rattle.srv6_rules.specs.Policies.{most_payload, outer_by}
+use Rattle.srv6_rules.proofs.PublicLaws.{made-fits, content_of-spelling_alone, at_sid-spellable}
+use Rattle.net_model.specs.declared.parts.NamedPolicy.{NamedPolicy}
+use Rattle.net_model.specs.Keeps.{Keeps}
+use Rattle.net_model.specs.Network.{Network}
+use Rattle.net_model.proofs.PublicLaws.{sid-suits}
+use Rattle.walk_rules.specs.declared.place.Place.{Place}
+use Rattle.walk_rules.specs.declared.place.Outcome.{Outcome}
+use Rattle.walk_rules.specs.declared.place.Outcome.TheVariants as outcomes
+use Rattle.walk_rules.specs.Way.{Way, Away, Over, Own, Into, way_of}
+use Rattle.walk_rules.specs.Treatment.{Gave, allow_of, dropped, goes, lowered, onward_from, exposed_from, pushed_at_sid, bound_at_sid, onward_at_sid, treated_at_address, treated_at_sid, treated_in, treated, treated4, free_step_of, member_of}
+use Rattle.deep_stages.specs.Stages.{DeepGave, over, deep_bound, deep_onward, deep_at_sid, deep_in, deep_treated, deep_step}
+use Rattle.deep_stages.specs.Layers.{AreLayers, AreLayersOf, PushFits, goes_further, spelled, spelled_content}
+use Rattle.deep_stages.proofs.Spelled.{Follows, spelled-destination, spelled-hop_limit, spelled-lowered, content-alone, layers-alone, layers-lowered, header-policy, policy-spelled, follows-sid}
+
+-- what is given of bytes is what is given of values, where nothing is taken away and the payload fits
+abbrev pub AsValues : List Packet → DeepGave → Gave → Type 0
+AsValues under deep real =
+    goes_further deep.outcome ≡ true → PushFits under deep
+    → (real ≡ goes deep.outcome (spelled_content deep.after deep.below)) × AreLayersOf deep.after deep.below
+
+module _ (net : Network) (node n : ℕ) (b : Behaviour) (p r : Packet) where
+  -- ---- a packet that goes on from a SID
+
+  module _ (q : Packet) (below : List Packet) (ok : IsSpellable (spelled q below)) (layers : AreLayers q below) where
+    as-pushed : (named : NamedPolicy)
+        → AsValues below (deep_bound net node n b p q below (Some named)) (bound_at_sid net node n b r (spelled q below) (Some named))
+    as-pushed named further fits =
+        let reduces : Bool = behaviour_reduces b in
+        let made : Packet = outer_by named.policy reduces Ipv6 (spelling (spelled q below)) in
+        let same = policy-spelled named.policy reduces q below in
+        let short : length made.payload ≤ most_payload = subst (λ (x : Packet). length x.payload ≤ most_payload) (sym same) (fits (omega arith)) in (
+          ap (pushed_at_sid net node n b r) (made-fits made short)
+              ∙ ap (λ x. goes (outcomes.Again n (onward_from n b)) (V6 x)) same,
+          (header-policy named.policy reduces, ok, layers),
+        )
+
+    as-bound : (o : Option NamedPolicy) → AsValues below (deep_bound net node n b p q below o) (bound_at_sid net node n b r (spelled q below) o)
+    as-bound None further fits = cc
+    as-bound (Some named) further fits = as-pushed named further fits
+
+    as-onward : (x : Option ℕ) → AsValues below (deep_onward net node n b p q below x) (onward_at_sid net node n b r (spelled q below) x)
+    as-onward None further fits = (refl, layers)
+    as-onward (Some number) further fits = as-bound (slice_get net.policies number) further fits
+
+  -- ---- what a SID exposes
+
+  as-exposed : (q : Packet) (below : List Packet) (family : Family) → IsSpellable (spelled q below) → AreLayers q below → family ≡ Ipv6
+      → AsValues (q ∷ below) (over below (goes (outcomes.Hand n (exposed_from n b) family) (V6 q)))
+      (treated_at_sid net node n b r (Exposed Ipv6 (spelling (spelled q below))))
+  as-exposed q below family ok layers v6 further fits = (
+    ap (goes (outcomes.Hand n (exposed_from n b) Ipv6)) (content_of-spelling_alone (spelled q below) ok)
+        ∙ ap (λ f. goes (outcomes.Hand n (exposed_from n b) f) (V6 (spelled q below))) (sym v6),
+    layers,
+  )
+
+  as-read : (family : Family) (bytes : List ℕ)
+      → AsValues [] (over [] (goes (outcomes.Hand n (exposed_from n b) family) (read_as family bytes)))
+      (treated_at_sid net node n b r (Exposed family bytes))
+  as-read family bytes further fits =
+      (ap (goes (outcomes.Hand n (exposed_from n b) family)) (sym (content-alone (read_as family bytes))), layers-alone (read_as family bytes))
+
+  as-endpoint : (below : List Packet) (e real : Endpoint) → Follows below e real → AreLayers p below
+      → ((q : Packet) → real ≡ Onward q → IsSpellable q)
+      → AsValues below (deep_at_sid net node n b p below e) (treated_at_sid net node n b r real)
+  as-endpoint below (Onward q) real follows layers ok =
+      subst (λ x. AsValues below (deep_at_sid net node n b p below (Onward q)) (treated_at_sid net node n b r x)) (sym follows.0)
+      (as-onward q below (ok (spelled q below) follows.0) follows.1 (behaviour_policy b))
+  as-endpoint [] (Exposed family bytes) real follows layers ok =
+      subst (λ x. AsValues [] (deep_at_sid net node n b p [] (Exposed family bytes)) (treated_at_sid net node n b r x)) (sym follows)
+      (as-read family bytes)
+  as-endpoint (q ∷ below) (Exposed family bytes) real follows layers ok =
+      subst (λ x. AsValues (q ∷ below) (deep_at_sid net node n b p (q ∷ below) (Exposed family bytes)) (treated_at_sid net node n b r x))
+      (sym follows.0) (as-exposed q below family layers.1 layers.2 follows.1)
+  as-endpoint below (Delivered q) real follows layers ok = λ further fits. cc
+  as-endpoint below (Refused reason at) real follows layers ok = λ further fits. cc
+
+-- ---- the other ways
+
+as-own : (net : Network) (node : ℕ) (p : Packet) (below : List Packet) (e : Endpoint) (real : Gave)
+    → AsValues below (over below (treated_at_address net node p e)) real
+as-own net node p below (Onward q) real further fits = cc
+as-own net node p below (Exposed family bytes) real further fits = cc
+as-own net node p below (Delivered q) real further fits = cc
+as-own net node p below (Refused reason at) real further fits = cc
+
+as-if : (b : Bool) (below : List Packet) (one other real_one real_other : Gave) → AsValues below (over below one) real_one
+    → AsValues below (over below other) real_other
+    → AsValues below (over below (if b then one else other)) (if b then real_one else real_other)
+as-if true below one other real_one real_other first second = first
+as-if false below one other real_one real_other first second = second
+
+as-sent : (net : Network) (node : ℕ) (set : List ℕ) (lower : Bool) (p : Packet) (below : List Packet) (choice : ℕ) → AreLayers p below
+    → AsValues below (over below (treated net node (Over set lower) p choice)) (treated net node (Over set lower) (spelled p below) choice)
+as-sent net node set lower p below choice layers =
+    let r : Packet = spelled p below in
+    subst (λ h. AsValues below (over below (treated net node (Over set lower) p choice))
+    (if lower && nat_le h 1 then dropped net node reasons.HopLimit 0 (V6 r)
+    else goes (outcomes.Send (member_of set choice)) (V6 (lowered lower r)))) (sym (spelled-hop_limit p below))
+    (as-if (lower && nat_le p.hop_limit 1) below _ _ _ _ (λ further fits. cc)
+    (λ further fits. (
+      ap (λ x. goes (outcomes.Send (member_of set choice)) (V6 x)) (sym (spelled-lowered lower p below)),
+      layers-lowered lower p below layers,
+    )))
+
+module _ (net : Network) (node : ℕ) (keeps : Keeps net) (p : Packet) (below : List Packet) (layers : AreLayers p below)
+    (ok : IsSpellable (spelled p below)) where
+  as-in : (n : ℕ) (o : Option SidEntry) → slice_get net.sids n ≡ o
+      → AsValues below (deep_in net node n o p below) (treated_in net node n o (spelled p below))
+  as-in n None there = λ further fits. cc
+  as-in n (Some s) there =
+      let allow : List ℕ = allow_of (slice_get net.nodes node) in
+      as-endpoint net node n s.behaviour p (spelled p below) below (at_sid s allow p) (at_sid s allow (spelled p below))
+      (follows-sid s allow p below layers) layers
+      (λ q e. at_sid-spellable s allow (spelled p below) q (sid-suits net n s keeps there) ok e)
+
+  as-way : (w : Way) (choice : ℕ) → AsValues below (deep_treated net node w p below choice) (treated net node w (spelled p below) choice)
+  as-way (Away reason) choice = λ further fits. cc
+  as-way (Over set lower) choice = as-sent net node set lower p below choice layers
+  as-way Own choice = as-own net node p below (at_address p) (treated net node Own (spelled p below) choice)
+  as-way (Into n) choice = as-in n (slice_get net.sids n) refl
+
+as-way4 : (net : Network) (node : ℕ) (w : Way) (p : Packet4) (below : List Packet) (choice : ℕ) → below ≡ []
+    → AsValues below (over below (treated4 net node w p choice)) (treated4 net node w p choice)
+as-way4 net node (Away reason) p below choice none = λ further fits. cc
+as-way4 net node (Over set lower) p below choice none =
+    as-if (lower && nat_le (ttl p) 1) below _ _ _ _ (λ further fits. cc) (λ further fits. (refl, none))
+as-way4 net node Own p below choice none = λ further fits. cc
+as-way4 net node (Into n) p below choice none = λ further fits. cc
+
+pub as-values : (net : Network) (place : Place) (content : Content) (below : List Packet) (choice : ℕ) → Keeps net
+    → AreLayersOf content below → IsContent (spelled_content content below)
+    → AsValues below (deep_step net place content below choice) (free_step_of net place (spelled_content content below) choice)
+as-values net place (V6 p) below choice keeps layers ok =
+    subst (λ d. AsValues below (deep_step net place (V6 p) below choice) (treated net place.node (way_of net place d) (spelled p below) choice))
+    (sym (spelled-destination p below)) (as-way net place.node keeps p below layers ok (way_of net place p.destination) choice)
+as-values net place (V4 p) below choice keeps layers ok =
+    as-way4 net place.node (way_of net place (destination4 p)) p below choice layers
+as-values net place (Unreadable bytes reason) below choice keeps layers ok = λ further fits. cc

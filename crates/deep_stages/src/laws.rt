@@ -1,0 +1,72 @@
+//! Laws of the definitions: each is the contract of an empty function.
+
+ghost use Rattle.std.specs.Prelude.{◌≡◌, Bool, true, List, [], ◌∷◌, ℕ, Option, length, map, take};
+ghost use Rattle.srv6_rules.specs.Packet.{Content, IsContent, Packet};
+ghost use Rattle.net_model.specs.Keeps.{Keeps};
+ghost use Rattle.net_model.specs.Network.{Network};
+ghost use Rattle.walk_rules.specs.Treatment.{free_step_of, goes};
+ghost use Rattle.walk_rules.specs.Walk.{free_walk_of};
+ghost use Rattle.walk_rules.specs.declared.place.Place.{Place};
+ghost use Rattle.deep_stages.specs.Layers.{AreLayersOf, AreSmall, PushFits, goes_further, in_bytes, spelled_content};
+ghost use Rattle.deep_stages.specs.Stages.{NothingBinds, deep_step, over};
+ghost use Rattle.deep_stages.specs.Walks.{AreDepths, alone, deep_walk, depth_after, through_own};
+
+/// In a network without a binding SID a stage of a packet that carries none is the stage of today,
+/// where no link has an MTU, and so are all stages of its walk: nothing is ever below (own rule).
+pub fn without_binding_sids_nothing_is_below()
+    ensures stage { (net : Network) (place : Place) (content : Content) (choice : ℕ) →
+        NothingBinds net →
+        deep_step net place content [] choice ≡ over [] (free_step_of net place content choice) }
+    ensures walk { (fuel : ℕ) (net : Network) (place : Option Place) (content : Content) →
+        (pick : ℕ → ℕ) (taken : ℕ) → NothingBinds net →
+        deep_walk fuel net place content [] pick taken
+        ≡ map alone (free_walk_of fuel net place content pick taken) }
+{}
+
+/// The depth that rises by one where a binding SID was executed and the packet stays at the node,
+/// and falls by one with each hand-over at a depth above 0, is the number of packets below: after
+/// a stage, and before each stage of a walk (RFC 8986 sections 4.13, 4.14 and 4.16.3).
+pub fn a_depth_is_the_packets_below()
+    ensures stage { (net : Network) (place : Place) (content : Content) (below : List Packet) →
+        (choice : ℕ) →
+        let gave = deep_step net place content below choice in
+        length gave.below ≡ depth_after net (length below) gave.outcome }
+    ensures walk { (fuel : ℕ) (net : Network) (place : Option Place) (content : Content) →
+        (below : List Packet) (pick : ℕ → ℕ) (taken : ℕ) →
+        AreDepths net (length below) (deep_walk fuel net place content below pick taken) }
+{}
+
+/// Where a stage takes nothing away, and a header that it pushes can state its payload's length, the
+/// node does to the bytes of a header and of the packets below it what it does to these as values:
+/// the outcome is the same, no error is sent, and what stands there after is spelled by what the
+/// values spell; its headers are again such headers (RFC 8986 sections 4.13 and 4.14, RFC 8200
+/// section 4).
+pub fn bytes_go_as_values_do()
+    ensures gives { (net : Network) (place : Place) (content : Content) (below : List Packet) →
+        (choice : ℕ) → Keeps net →
+        AreLayersOf content below → IsContent (spelled_content content below) →
+        let deep = deep_step net place content below choice in
+        goes_further deep.outcome ≡ true → PushFits below deep →
+        free_step_of net place (spelled_content content below) choice
+        ≡ goes deep.outcome (spelled_content deep.after deep.below) }
+    ensures layers { (net : Network) (place : Place) (content : Content) (below : List Packet) →
+        (choice : ℕ) → Keeps net →
+        AreLayersOf content below → IsContent (spelled_content content below) →
+        let deep = deep_step net place content below choice in
+        goes_further deep.outcome ≡ true → PushFits below deep →
+        AreLayersOf deep.after deep.below }
+{}
+
+/// So it is along a walk: where up to and with the packet's own hand-over no stage takes anything
+/// away and the payload of each header that is pushed fits, the walk of the bytes has the same
+/// stages (own rule).
+pub fn bytes_walk_as_values_do()
+    ensures { (fuel : ℕ) (net : Network) (place : Option Place) (content : Content) →
+        (below : List Packet) (pick : ℕ → ℕ) (taken : ℕ) → Keeps net →
+        AreLayersOf content below → IsContent (spelled_content content below) →
+        let deep = through_own (deep_walk fuel net place content below pick taken) in
+        AreSmall deep →
+        take (length deep)
+        (free_walk_of fuel net place (spelled_content content below) pick taken)
+        ≡ map in_bytes deep }
+{}
