@@ -1,0 +1,7 @@
+pub mod Options
+pub mod Walks
+pub mod Tunnels
+pub mod Counts
+pub mod Paths
+pub mod Needs
+pub mod PublicLaws

@@ -1,0 +1,90 @@
+//! Laws of the definitions: each is the contract of an empty function.
+
+ghost use Rattle.std.specs.Prelude.{◌≡◌, ◌+◌, ◌<◌, ◌≤◌, ◌↔◌, ℕ, List, [], None, Some};
+ghost use Rattle.deep_walks.specs.Choices.{EndsWith, ForAllChoices, ForAllRows, OneWalk, Reaches, SameEnd};
+ghost use Rattle.deep_walks.specs.Counted.{counting};
+ghost use Rattle.deep_walks.specs.Deep.{AreJoined, Deep, World, deep_move, met_move, open_at, own_move, pushed_at, tunnel_of};
+ghost use Rattle.deep_walks.specs.Legs.{AlwaysHands, BehindHeader, HasPath, LegBehind, Path};
+ghost use Rattle.deep_walks.specs.Moves.{AllJoined, End, Events, Move, end_with};
+ghost use Rattle.deep_walks.specs.Needs.{Forms};
+
+/// A machine that is done along a beginning of the steps for all choices is so by the one walk that
+/// asks that all links of a set lie in the step. Where the links of a step lead a state to one next
+/// state, it is so too the other way round, and each choice then ends as that walk does. Lists of
+/// choices are as good as endless rows of them (own rule).
+pub fn all_choices_are_one_walk<L, E, N, T, S, R>()
+    ensures one { (events : Events L E T) (move : S → Move L E N S R) (ts : List T) (s : S) →
+        ForAllChoices events move ts s → OneWalk events move ts s }
+    ensures all { (events : Events L E T) (move : S → Move L E N S R) (ts : List T) (s : S) →
+        AllJoined events move ts → OneWalk events move ts s → ForAllChoices events move ts s }
+    ensures agree { (events : Events L E T) (move : S → Move L E N S R) (ts : List T) (s : S) →
+        AllJoined events move ts → (w : OneWalk events move ts s) →
+        (pick : ℕ → ℕ) (r : Reaches events move ts s pick) → SameEnd w.end r }
+    ensures rows { (events : Events L E T) (move : S → Move L E N S R) (ts : List T) (s : S) →
+        ForAllChoices events move ts s ↔ ForAllRows events move ts s }
+{}
+
+/// A header that is executed n times after its push, and then taken off, walks alone exactly where
+/// the limit allows n + 2 stages: its push and the stage that takes it off are counted (own rule).
+pub fn the_limit_is_to_one_stage()
+    ensures fits { (limit n place : ℕ) → n + 2 ≤ limit →
+        tunnel_of (counting limit) [] place n ≡ Some (end_with [] place []) }
+    ensures short { (limit n place : ℕ) → limit < n + 2 →
+        tunnel_of (counting limit) [] place n ≡ None }
+{}
+
+/// A packet right below a header that was just pushed ends so exactly where the header, walking
+/// alone within the limit of stages, comes to a place behind it, and the packet ends so from there;
+/// whatever is done with the own packet (own rule).
+pub fn a_pushed_header_walks_alone<L, E, T, N, P, H, X, R>()
+    ensures { (w : World L E T N P H X) (bottom : P → H → Move L E N (Deep P H) R) (ts : List T) →
+        (place : P) (new own : H) (e : End T N R) →
+        EndsWith w.events (deep_move w bottom) ts (pushed_at place new own) e
+        ↔ BehindHeader w bottom ts place new own e }
+{}
+
+/// Where links of a step lead to one place, a packet right below a header that was just pushed comes
+/// to an execution of its own, along a beginning of the steps and for all choices, exactly where the
+/// header walks alone to a place and the packet rides from there; and all choices then come to the
+/// same execution with the same steps left (own rule).
+pub fn a_leg_behind_a_header_is_for_all_choices<L, E, T, N, P, H, X>()
+    ensures all { (w : World L E T N P H X) (ts : List T) (place : P) (new own : H) →
+        AreJoined w ts →
+        ForAllChoices w.events (met_move w) ts (pushed_at place new own)
+        ↔ LegBehind w ts place new own }
+    ensures each { (w : World L E T N P H X) (ts : List T) (place : P) (new own : H) →
+        AreJoined w ts → (leg : LegBehind w ts place new own) →
+        (pick : ℕ → ℕ) (r : Reaches w.events (met_move w) ts (pushed_at place new own) pick) →
+        SameEnd leg.end r }
+{}
+
+/// Where links of a step lead to one place, a packet is bared with no step left, for all choices,
+/// exactly where there is a path of legs and a finish along the steps; and each choice then executes
+/// the SIDs of the path on the own packet, and bares it where the path does (own rule).
+pub fn a_packet_hands_over_exactly_along_a_path<L, E, T, N, P, H, X>()
+    ensures has { (w : World L E T N P H X) (ts : List T) (place : P) (own : H) →
+        AreJoined w ts → AlwaysHands w ts place own →
+        (path : Path N P X) × HasPath w ts place own path }
+    ensures hands { (w : World L E T N P H X) (ts : List T) (place : P) (own : H) →
+        AreJoined w ts → (path : Path N P X) → HasPath w ts place own path →
+        AlwaysHands w ts place own }
+    ensures each { (w : World L E T N P H X) (ts : List T) (place : P) (own : H) →
+        AreJoined w ts → (path : Path N P X) → HasPath w ts place own path →
+        (pick : ℕ → ℕ) (r : Reaches w.events (own_move w) ts (open_at place own) pick) →
+        SameEnd (end_with path.sids path.bared []) r }
+{}
+
+/// Where links of a step lead to one place, and a packet of a form is bared with no step left, for
+/// all choices, at one hop limit above 0, there is a number so that it is at just the hop limits
+/// above that number. Its path is the same at all of them (own rule).
+pub fn a_packet_has_a_need<L, E, T, N, P, H, X, F>()
+    ensures need { (w : World L E T N P H X) (forms : Forms w F) (ts : List T) →
+        (place : P) (form : F) (hop : ℕ) →
+        AreJoined w ts → 0 < hop → AlwaysHands w ts place (forms.packet form hop) →
+        (n : ℕ) × ((other : ℕ) → 0 < other →
+        (n < other) ↔ AlwaysHands w ts place (forms.packet form other)) }
+    ensures same { (w : World L E T N P H X) (forms : Forms w F) (ts : List T) →
+        (place : P) (form : F) (hop other : ℕ) (one two : Path N P X) → 0 < hop → 0 < other →
+        HasPath w ts place (forms.packet form hop) one →
+        HasPath w ts place (forms.packet form other) two → one ≡ two }
+{}
