@@ -1,0 +1,65 @@
+//! Steps, and how many of them are left behind a link or a function.
+
+ghost use Rattle.std.specs.Prelude.{◌≡◌, ◌<◌, ◌^◌, ℕ, length};
+ghost use Rattle.step_traces.specs.Traces.{Crossed, Ends, Executed, count_left, has_link, left_behind};
+
+use base::Seq;
+
+/// A step of a walk that may reach a node over any links (own rule).
+#[derive(Debug, Drop)]
+pub enum Step {
+    /// One of these links is crossed, by their numbers.
+    Links(Seq<u32>),
+    /// The function with this number is executed.
+    Function(u32),
+    /// The node with this number is reached: over one link or more, of which the last is the first
+    /// that leads to it.
+    Reach(u32),
+}
+
+/// a set has a link
+fn has(set: &[u32], link: u32) -> bool
+    ensures { result ≡ has_link set.now link }
+{
+    set.contains(&link)
+}
+
+/// How many steps are left behind a link that ends at a node, or leads out of the network: none
+/// where the link doesn't keep to the first step. (own rule)
+pub fn left_behind_link(steps: &[Step], link: u32, end: Option<u32>) -> Option<usize>
+    ensures { (to : Ends) → to link ≡ end
+        → result ≡ count_left (left_behind to steps.now (Crossed link)) }
+{
+    let (step, rest) = steps.split_first()?;
+    match step {
+        Step::Links(set) => {
+            if !has(set.as_slice(), link) {
+                return None;
+            }
+            Some(rest.len())
+        }
+        Step::Function(_) => None,
+        Step::Reach(node) => {
+            if end? != *node {
+                return Some(steps.len());
+            }
+            Some(rest.len())
+        }
+    }
+}
+
+/// How many steps are left behind a function: none where it isn't the first step. (own rule)
+pub fn left_behind_function(steps: &[Step], n: u32) -> Option<usize>
+    ensures { (to : Ends) → result ≡ count_left (left_behind to steps.now (Executed n)) }
+{
+    let (step, rest) = steps.split_first()?;
+    match step {
+        Step::Links(_) | Step::Reach(_) => None,
+        Step::Function(m) => {
+            if *m != n {
+                return None;
+            }
+            Some(rest.len())
+        }
+    }
+}
