@@ -1,0 +1,9 @@
+pub mod Options
+pub mod Joins
+pub mod Depths
+pub mod Walking
+pub mod Comings
+pub mod Legs
+pub mod Tables
+pub mod Orders
+pub mod PublicLaws

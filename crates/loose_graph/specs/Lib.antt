@@ -1,0 +1,5 @@
+pub mod Walks
+pub mod Finding
+pub mod Legs
+pub mod Tables
+pub mod Order
