@@ -1,0 +1,4 @@
+pub mod Quiet
+pub mod Simulating
+pub mod Bridge
+pub mod Making

@@ -1,0 +1,231 @@
+-- The stages of a walk go as the walk over the graph does.
+use Rattle.std.proofs.Common.{◌≡◌, ℕ, zero, suc, ◌+◌, ◌-◌, ◌<◌, ◌≤◌, ◌&&◌, nat_le, Bool, true, false, if◌then◌else◌, List, [], ◌∷◌, map, length, slice_get, Option, Some, None, refl, sym, ◌∙◌, ap, subst, arith}
+use Rattle.std.specs.Option.{option_map, option_and_then}
+use Rattle.srv6_rules.specs.declared.sid.Family.{Family}
+use Rattle.srv6_rules.specs.declared.sid.Family.TheVariants as families
+use Rattle.srv6_rules.specs.declared.sid.Reason.{Reason}
+use Rattle.srv6_rules.specs.declared.sid.Reason.TheVariants as reasons
+use Rattle.srv6_rules.specs.Packet.{Packet, Content, V6}
+use Rattle.srv6_rules.specs.Endpoint.{at_address}
+use Rattle.net_model.specs.declared.net.Hit.{Hit}
+use Rattle.net_model.specs.declared.net.Hit.TheVariants as hits
+use Rattle.net_model.specs.Network.{Network}
+use Rattle.net_model.specs.Keeps.{Keeps, IsLinkSet}
+use Rattle.net_model.specs.Best.{lookup_of}
+use Rattle.walk_rules.specs.declared.place.How.TheVariants.{Arrived}
+use Rattle.walk_rules.specs.declared.place.Place.{Place}
+use Rattle.walk_rules.specs.declared.place.Outcome.{Outcome}
+use Rattle.walk_rules.specs.declared.place.Outcome.TheVariants as outcomes
+use Rattle.walk_rules.specs.Way.{Way, Away, Over, Own, Into, way_of, way_by_hit, is_multicast_of, IsWayFrom}
+use Rattle.walk_rules.specs.Relation.{IsHow}
+use Rattle.walk_rules.specs.Treatment.{Gave, treated, sent, dropped, goes, lowered, member_of, free_step_of}
+use Rattle.walk_rules.specs.Walk.{Stage, walk_by, free_walk_of, next_place, arrival, decisions}
+use Rattle.walk_rules.proofs.PublicLaws.{way-from, sent-low, sent-high}
+use Rattle.step_traces.specs.declared.steps.Step.{Step}
+use Rattle.step_traces.specs.Traces.{Ends, Crossed, left_behind}
+use Rattle.loose_graph.specs.declared.spots.Spot.{Spot}
+use Rattle.loose_graph.specs.declared.spots.Spot.TheVariants as spots
+use Rattle.loose_graph.specs.declared.spots.Start.{Start}
+use Rattle.loose_graph.specs.Walks.{Picks, later, spot_at, End, over, nowhere, walk, walk_first, walk_from}
+use Rattle.loose_graph.proofs.Walking.{walk-is, over-nowhere, first-stop, Behind}
+use Rattle.loose_ways.specs.Stops.{ends_in, Stop, stop_by, first_stop, room_of, Coming, coming_by, coming_at, coming, coming_of}
+use Rattle.loose_ways.specs.Graphs.{Numbers, arrived, spot_behind, next_spot, spot_by, lowers_by, start_at, IsLeft, IsGraph}
+use Rattle.loose_ways.proofs.Quiet.{IsQuiet, quiet-stops, address-quiet, into-quiet, left-on, end-there, over-map}
+
+first-lost : (graph : List Spot) (lowers : Bool) (room : ℕ) (picks : Picks) → walk_first graph lowers room picks spots.Lost ≡ None
+first-lost graph false room picks = refl
+first-lost graph true zero picks = refl
+first-lost graph true (suc room) picks = refl
+
+walk-lost : (graph : List Spot) (room : ℕ) (picks : Picks) (v : ℕ) → spot_at graph v ≡ spots.Lost → walk graph room picks v ≡ None
+walk-lost graph room picks v lost =
+    walk-is graph room picks v ∙ ap (walk_first graph true room picks) lost ∙ first-lost graph true room picks
+
+-- a packet that has come over a link lowers its hop limit with the next one
+arrived-lowers : (net : Network) (node destination : ℕ) → lowers_by (way_of net (arrived node) destination) ≡ true
+unfolding way_of
+arrived-lowers net node destination = by_kind (is_multicast_of families.V6 destination)
+  where
+    by_hit : (h : Hit) → lowers_by (way_by_hit net true h) ≡ true
+    by_hit (hits.Sid n) = refl
+    by_hit hits.Address = refl
+    by_hit (hits.Route n) = refl
+    by_hit hits.Nothing = refl
+
+    by_kind : (b : Bool) → lowers_by (if b then Away reasons.Multicast
+        else way_by_hit net true (lookup_of net node 0 families.V6 destination)) ≡ true
+    by_kind true = refl
+    by_kind false = by_hit (lookup_of net node 0 families.V6 destination)
+
+walk-nowhere : (net : Network) (fuel : ℕ) (content : Content) (pick : ℕ → ℕ) (taken : ℕ) → free_walk_of fuel net None content pick taken ≡ []
+unfolding walk_by
+walk-nowhere net zero content pick taken = refl
+walk-nowhere net (suc fuel) content pick taken = refl
+
+-- the choices that are left
+abbrev pub ArePicks : Picks → (ℕ → ℕ) → ℕ → Type 0
+ArePicks picks pick taken = (k : ℕ) → picks k ≡ pick (taken + k)
+
+picks-later : (picks : Picks) (pick : ℕ → ℕ) (taken : ℕ) → ArePicks picks pick taken → ArePicks (later picks) pick (taken + 1)
+picks-later picks pick taken same k =
+    let n : taken + suc k ≡ taken + 1 + k = omega arith in same (suc k) ∙ ap pick n
+
+module _ (net : Network) (keeps : Keeps net) (a : ℕ) (steps : List Step) (numbers : Numbers) (graph : List Spot)
+    (is : IsGraph net a steps numbers graph) where
+  -- where stages come by what the first gives
+  abbrev comes_by : ℕ → Place → Packet → (ℕ → ℕ) → ℕ → List Step → Gave → Option Coming
+  comes_by more place p pick taken ts gave =
+      option_and_then (coming_at net a numbers.code)
+      (stop_by (ends_in net)
+      (λ us. first_stop (ends_in net) us
+      (free_walk_of more net (next_place net place gave.outcome) gave.after pick (taken + decisions gave.outcome)))
+      ts (record { place = place; before = V6 p; gave = gave }) gave.outcome)
+
+  stage-comes : (more : ℕ) (place : Place) (p : Packet) (pick : ℕ → ℕ) (taken : ℕ) (ts : List Step) (gave : Gave)
+      → free_step_of net place (V6 p) (pick taken) ≡ gave
+      → coming net a numbers.code ts (free_walk_of (suc more) net (Some place) (V6 p) pick taken)
+      ≡ comes_by more place p pick taken ts gave
+  unfolding walk_by
+  stage-comes more place p pick taken ts gave e = ap (comes_by more place p pick taken ts) e
+
+  quiet-comes : (more : ℕ) (place : Place) (p : Packet) (pick : ℕ → ℕ) (taken : ℕ) (ts : List Step) (gave : Gave) (w : Way)
+      → IsQuiet gave.outcome → way_of net place a ≡ w
+      → comes_by more place p pick taken ts gave
+      ≡ coming_by numbers.code (record { stage = record { place = place; before = V6 p; gave = gave }; left = ts }) w
+  quiet-comes more place p pick taken ts gave w quiet way =
+      ap (option_and_then (coming_at net a numbers.code))
+      (quiet-stops (ends_in net)
+      (λ us. first_stop (ends_in net) us
+      (free_walk_of more net (next_place net place gave.outcome) gave.after pick (taken + decisions gave.outcome)))
+      ts (record { place = place; before = V6 p; gave = gave }) gave.outcome quiet)
+      ∙ ap (coming_by numbers.code (record { stage = record { place = place; before = V6 p; gave = gave }; left = ts })) way
+
+  -- at a node to which a packet came over a link, with so much room
+  abbrev pub ArrivedHolds : ℕ → Type 0
+  ArrivedHolds room = (fuel : ℕ) → room < fuel → (ts : List Step) → IsLeft steps ts → (node : ℕ) → node < length net.nodes
+      → (p : Packet) → p.destination ≡ a → p.hop_limit - 1 ≡ room → (pick : ℕ → ℕ) (picks : Picks) (taken : ℕ) → ArePicks picks pick taken
+      → option_map coming_of (walk graph room picks (numbers.spot node (length ts)))
+      ≡ coming net a numbers.code ts (free_walk_of fuel net (Some (arrived node)) (V6 p) pick taken)
+
+  -- behind a link
+  behind-link : (room more : ℕ) → room < more → ArrivedHolds room → (place : Place) → place.family ≡ families.V6
+      → (ts : List Step) → IsLeft steps ts → (link : ℕ) (q : Packet) → q.destination ≡ a → q.hop_limit - 1 ≡ room
+      → (pick : ℕ → ℕ) (picks : Picks) (taken : ℕ) → ArePicks picks pick taken
+      → (o : Option (List Step)) → left_behind (ends_in net) ts (Crossed link) ≡ o → (e : Option ℕ) → ends_in net link ≡ e
+      → option_map coming_of (walk graph room picks (spot_behind numbers o e))
+      ≡ option_and_then (coming_at net a numbers.code)
+      (option_and_then (λ us. first_stop (ends_in net) us (free_walk_of more net (arrival e place) (V6 q) pick taken)) o)
+  behind-link room more l holds place family ts left link q to_a low pick picks taken same None o_is e e_is =
+      ap (option_map coming_of) (walk-lost graph room picks numbers.lost is.lost)
+  behind-link room more l holds place family ts left link q to_a low pick picks taken same (Some us) o_is None e_is =
+      ap (option_map coming_of) (walk-lost graph room picks numbers.lost is.lost)
+      ∙ ap (λ (ss : List Stage). option_and_then (coming_at net a numbers.code) (first_stop (ends_in net) us ss))
+      (sym (walk-nowhere net more (V6 q) pick taken))
+  behind-link room more l holds place family ts left link q to_a low pick picks taken same (Some us) o_is (Some node) e_is =
+      holds more l us (left-on steps ts us (ends_in net) (Crossed link) left o_is) node (end-there net keeps link node e_is) q to_a low
+      pick picks taken same
+      ∙ ap (λ (f : Family). coming net a numbers.code us
+      (free_walk_of more net (Some (record { node = node; how = Arrived 0; family = f })) (V6 q) pick taken)) (sym family)
+
+  -- over a set, where the packet is sent on the member that the choice names
+  over-comes : (room more : ℕ) → room < more → ArrivedHolds room → (place : Place) → place.family ≡ families.V6
+      → (ts : List Step) → IsLeft steps ts → (set : List ℕ) → 0 < length set → (p q : Packet) → q.destination ≡ a → q.hop_limit - 1 ≡ room
+      → (pick : ℕ → ℕ) (picks : Picks) (taken : ℕ) → ArePicks picks pick taken
+      → option_map coming_of (over (walk graph room) picks (map (next_spot net numbers ts) set))
+      ≡ comes_by more place p pick taken ts (goes (outcomes.Send (member_of set (pick taken))) (V6 q))
+  over-comes room more l holds place family ts left set some p q to_a low pick picks taken same =
+      let n : taken + 0 ≡ taken = omega arith in
+      let first : picks 0 ≡ pick taken = same 0 ∙ ap pick n in
+      ap (option_map coming_of) (over-map (walk graph room) picks (next_spot net numbers ts) set some)
+      ∙ ap (λ (c : ℕ). option_map coming_of (walk graph room (later picks) (next_spot net numbers ts (member_of set c)))) first
+      ∙ behind-link room more l holds place family ts left (member_of set (pick taken)) q to_a low pick (later picks) (taken + 1)
+      (picks-later picks pick taken same)
+      (left_behind (ends_in net) ts (Crossed (member_of set (pick taken)))) refl (ends_in net (member_of set (pick taken))) refl
+
+  -- where a packet comes by the way that its place gives it
+  way-comes : (place : Place) → place.family ≡ families.V6 → (w : Way) → IsWayFrom net place.node w → way_of net place a ≡ w
+      → (room more : ℕ) → Behind (lowers_by w) room (λ r. (r < more) × ArrivedHolds r)
+      → (ts : List Step) → IsLeft steps ts → (p : Packet) → p.destination ≡ a → p.hop_limit - 1 ≡ room
+      → (pick : ℕ → ℕ) (picks : Picks) (taken : ℕ) → ArePicks picks pick taken
+      → free_step_of net place (V6 p) (pick taken) ≡ treated net place.node w p (pick taken)
+      → option_map coming_of (walk_first graph (lowers_by w) room picks (spot_by net numbers ts w))
+      ≡ coming net a numbers.code ts (free_walk_of (suc more) net (Some place) (V6 p) pick taken)
+  way-comes place family (Away reason) from way room more behind ts left p to_a low pick picks taken same gives =
+      ap (option_map coming_of) (first-lost graph true room picks)
+      ∙ sym (stage-comes more place p pick taken ts (treated net place.node (Away reason) p (pick taken)) gives
+      ∙ quiet-comes more place p pick taken ts (treated net place.node (Away reason) p (pick taken)) (Away reason) tt way)
+  way-comes place family Own from way room more behind ts left p to_a low pick picks taken same gives =
+      ap (option_map coming_of) (first-lost graph true room picks)
+      ∙ sym (stage-comes more place p pick taken ts (treated net place.node Own p (pick taken)) gives
+      ∙ quiet-comes more place p pick taken ts (treated net place.node Own p (pick taken)) Own
+      (address-quiet net place.node p (at_address p)) way)
+  way-comes place family (Into n) from way room more behind ts left p to_a low pick picks taken same gives =
+      ap (option_map coming_of) (first-stop graph true room picks (numbers.code n (length ts)))
+      ∙ ap (λ (r : ℕ). Some (record { answer = numbers.code n (length ts); room = r })) (sym low)
+      ∙ sym (stage-comes more place p pick taken ts (treated net place.node (Into n) p (pick taken)) gives
+      ∙ quiet-comes more place p pick taken ts (treated net place.node (Into n) p (pick taken)) (Into n)
+      (into-quiet net place.node n (slice_get net.sids n) p) way)
+  way-comes place family (Over set false) from way room more behind ts left p to_a low pick picks taken same gives =
+      over-comes room more behind.0 behind.1 place family ts left set from.some p p to_a low pick picks taken same
+      ∙ sym (stage-comes more place p pick taken ts (goes (outcomes.Send (member_of set (pick taken))) (V6 p)) gives)
+  way-comes place family (Over set true) from way zero more behind ts left p to_a low pick picks taken same gives =
+      let few : p.hop_limit ≤ 1 = omega arith in
+      let gave : Gave = dropped net place.node reasons.HopLimit 0 (V6 p) in
+      ap (option_map coming_of) (over-nowhere picks (map (next_spot net numbers ts) set))
+      ∙ sym (stage-comes more place p pick taken ts gave (gives ∙ sent-low net place.node set p (pick taken) few)
+      ∙ quiet-comes more place p pick taken ts gave (Over set true) tt way)
+  way-comes place family (Over set true) from way (suc room) more behind ts left p to_a low pick picks taken same gives =
+      let many : 1 < p.hop_limit = omega arith in
+      let q : Packet = lowered true p in
+      let less : p.hop_limit - 1 - 1 ≡ room = omega arith in
+      over-comes room more behind.0 behind.1 place family ts left set from.some p q to_a less pick picks taken same
+      ∙ sym (stage-comes more place p pick taken ts (goes (outcomes.Send (member_of set (pick taken))) (V6 q))
+      (gives ∙ sent-high net place.node set p (pick taken) many))
+
+  place-comes : (place : Place) → place.family ≡ families.V6 → IsHow net place.node place.how
+      → (room more : ℕ) → Behind (lowers_by (way_of net place a)) room (λ r. (r < more) × ArrivedHolds r)
+      → (ts : List Step) → IsLeft steps ts → (p : Packet) → p.destination ≡ a → p.hop_limit - 1 ≡ room
+      → (pick : ℕ → ℕ) (picks : Picks) (taken : ℕ) → ArePicks picks pick taken
+      → option_map coming_of (walk_from graph room picks (start_at net numbers ts place a))
+      ≡ coming net a numbers.code ts (free_walk_of (suc more) net (Some place) (V6 p) pick taken)
+  place-comes place family how room more behind ts left p to_a low pick picks taken same =
+      way-comes place family (way_of net place a) (way-from net place a keeps how) refl room more behind ts left p to_a low
+      pick picks taken same
+      (ap (λ (d : ℕ). treated net place.node (way_of net place d) p (pick taken)) to_a)
+
+  arrived-from : (room more : ℕ) → Behind true room (λ r. (r < more) × ArrivedHolds r) → (ts : List Step) → IsLeft steps ts
+      → (node : ℕ) → node < length net.nodes
+      → (p : Packet) → p.destination ≡ a → p.hop_limit - 1 ≡ room → (pick : ℕ → ℕ) (picks : Picks) (taken : ℕ) → ArePicks picks pick taken
+      → option_map coming_of (walk graph room picks (numbers.spot node (length ts)))
+      ≡ coming net a numbers.code ts (free_walk_of (suc more) net (Some (arrived node)) (V6 p) pick taken)
+  arrived-from room more behind ts left node there p to_a low pick picks taken same =
+      let lowers = arrived-lowers net node a in
+      ap (option_map coming_of)
+      (walk-is graph room picks (numbers.spot node (length ts))
+      ∙ ap (walk_first graph true room picks) (is.at ts node left there)
+      ∙ ap (λ (b : Bool). walk_first graph b room picks (spot_by net numbers ts (way_of net (arrived node) a))) (sym lowers))
+      ∙ place-comes (arrived node) refl tt room more
+      (subst (λ (b : Bool). Behind b room (λ r. (r < more) × ArrivedHolds r)) (sym lowers) behind) ts left p to_a low pick picks taken same
+
+  pub arrived-holds : (room : ℕ) → ArrivedHolds room
+  arrived-holds zero zero l ts left node there p to_a low pick picks taken same = absurd (omega arith)
+  arrived-holds zero (suc more) l ts left node there p to_a low pick picks taken same =
+      arrived-from zero more tt ts left node there p to_a low pick picks taken same
+  arrived-holds (suc room) zero l ts left node there p to_a low pick picks taken same = absurd (omega arith)
+  arrived-holds (suc room) (suc more) l ts left node there p to_a low pick picks taken same =
+      arrived-from (suc room) more (omega arith, arrived-holds room) ts left node there p to_a low pick picks taken same
+
+  pub start-comes : (place : Place) → place.family ≡ families.V6 → IsHow net place.node place.how → (fuel : ℕ)
+      → (ts : List Step) → IsLeft steps ts → (p : Packet) → p.destination ≡ a → p.hop_limit + 1 < fuel → (pick : ℕ → ℕ)
+      → option_map coming_of (walk_from graph (p.hop_limit - 1) pick (start_at net numbers ts place a))
+      ≡ coming net a numbers.code ts (free_walk_of fuel net (Some place) (V6 p) pick 0)
+  start-comes place family how zero ts left p to_a l pick = absurd (omega arith)
+  start-comes place family how (suc more) ts left p to_a l pick =
+      place-comes place family how (p.hop_limit - 1) more
+      (behind (lowers_by (way_of net place a)) (p.hop_limit - 1) (omega arith)) ts left p to_a refl pick pick 0
+      (λ k. (let n : k ≡ 0 + k = omega arith in ap pick n))
+    where
+      behind : (b : Bool) (room : ℕ) → room < more → Behind b room (λ r. (r < more) × ArrivedHolds r)
+      behind false room l = (l, arrived-holds room)
+      behind true zero l = tt
+      behind true (suc room) l = (omega arith, arrived-holds room)

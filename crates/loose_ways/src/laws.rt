@@ -1,0 +1,53 @@
+//! Laws about the definitions, each the contract of a function that does nothing.
+
+ghost use Rattle.std.specs.Prelude.{◌≡◌, ◌-◌, ◌+◌, ◌<◌, ◌≤◌, ◌↔◌, List, ℕ, length, Some};
+ghost use Rattle.std.specs.Option.{option_map};
+ghost use Rattle.srv6_rules.specs.Packet.{Packet, V6};
+ghost use Rattle.srv6_rules.specs.declared.sid.Family.{Family};
+ghost use Rattle.net_model.specs.Network.{Network};
+ghost use Rattle.net_model.specs.Keeps.{Keeps};
+ghost use Rattle.walk_rules.specs.declared.place.Place.{Place};
+ghost use Rattle.walk_rules.specs.Relation.{IsPlace};
+ghost use Rattle.walk_rules.specs.Walk.{choice_at, free_walk_of};
+ghost use Rattle.step_traces.specs.declared.steps.Step.{Step};
+ghost use Rattle.loose_graph.specs.declared.spots.Spot.{Spot};
+ghost use Rattle.loose_graph.specs.declared.spots.Found.{Found};
+ghost use Rattle.loose_graph.specs.Walks.{walk_from};
+ghost use Rattle.loose_graph.specs.Finding.{found_from};
+ghost use Rattle.loose_ways.specs.Stops.{answer_of_coming, coming, coming_of};
+ghost use Rattle.loose_ways.specs.Graphs.{IsGraph, IsLeft, Numbers, graph_in, numbers_in, start_at};
+
+/// The stages of a packet's walk come to a SID, with so many steps left and so much of the hop limit,
+/// exactly where the walk over the graph comes to that answer with that room, under the same choices.
+/// Two stages more than its hop limit says are enough (own rule).
+pub fn walks_are_ways_over_the_graph()
+    ensures { (net : Network) (steps ts : List Step) (numbers : Numbers) (graph : List Spot)
+        → (place : Place) (p : Packet) (pick : ℕ → ℕ) (fuel : ℕ)
+        → Keeps net → IsGraph net p.destination steps numbers graph → IsLeft steps ts
+        → IsPlace net place → place.family ≡ Family.V6 → p.hop_limit + 1 < fuel
+        → option_map coming_of (walk_from graph (p.hop_limit - 1) pick
+        (start_at net numbers ts place p.destination))
+        ≡ coming net p.destination numbers.code ts (free_walk_of fuel net (Some place) (V6 p) pick 0) }
+{}
+
+/// Under every list of choices the stages of a packet's walk come to one SID with one number of steps
+/// left exactly where that is found from its start in the graph, and the greatest number of lowerings
+/// on the way, over all choices, is at most the hop limit less one (own rule).
+pub fn all_choices_come_where_the_graph_finds()
+    ensures { (net : Network) (steps ts : List Step) (numbers : Numbers) (graph : List Spot)
+        → (place : Place) (p : Packet) (fuel answer : ℕ)
+        → Keeps net → IsGraph net p.destination steps numbers graph → IsLeft steps ts
+        → IsPlace net place → place.family ≡ Family.V6 → p.hop_limit + 1 < fuel
+        → ((choices : List ℕ) → 0 < length choices
+        → answer_of_coming (coming net p.destination numbers.code ts
+        (free_walk_of fuel net (Some place) (V6 p) (choice_at choices) 0)) ≡ Some answer)
+        ↔ ((f : Found) × (found_from graph (start_at net numbers ts place p.destination) ≡ Some f)
+        × (f.answer ≡ answer) × (f.most ≤ p.hop_limit - 1)) }
+{}
+
+/// The graph of rows, one of nodes for each number of steps left, is such a graph (own rule).
+pub fn networks_have_graphs()
+    ensures { (net : Network) (destination : ℕ) (steps : List Step) (code : ℕ → ℕ → ℕ)
+        → IsGraph net destination steps (numbers_in net steps code)
+        (graph_in net destination steps code) }
+{}

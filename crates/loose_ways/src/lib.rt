@@ -1,0 +1,14 @@
+//! The way of a packet to one destination, with steps of which one may be to reach a node, as a way
+//! over a graph of spots.
+//!
+//! `specs/Stops.antt` says, of the stages of a walk, to which SID they come first and with how many
+//! steps left; `specs/Graphs.antt` which graph stands for it: a spot for each node and number of steps
+//! left, made of look-ups alone. The functions of `laws` do nothing: their contracts are the laws of
+//! those definitions.
+#![tactic(auto)]
+
+mod laws;
+
+pub use laws::{
+    all_choices_come_where_the_graph_finds, networks_have_graphs, walks_are_ways_over_the_graph,
+};
