@@ -1,0 +1,83 @@
+-- Steps that follow one another have links that lead to one place.
+use Rattle.std.proofs.Common.{◌≡◌, ℕ, Bool, true, false, ◌&&◌, nat_le, if◌then◌else◌, List, [], ◌∷◌, slice_get, Option, Some, None, IsTrue, sym, ap, ◌∙◌}
+use Rattle.std.specs.Prelude.{is_some}
+use Rattle.std.specs.Option.{option_and_then}
+use Rattle.std.proofs.lemmas.Bool.{false≢true}
+use Rattle.srv6_rules.specs.declared.sid.Behaviour.{Behaviour}
+use Rattle.srv6_rules.specs.declared.sid.SidEntry.{SidEntry}
+use Rattle.srv6_rules.specs.Behaviours.{behaviour_policy}
+use Rattle.srv6_rules.specs.Packet.{Packet}
+use Rattle.srv6_rules.specs.Endpoint.{Endpoint, Onward, Exposed, Delivered, Refused, at_sid}
+use Rattle.net_model.specs.declared.parts.NamedPolicy.{NamedPolicy}
+use Rattle.net_model.specs.Network.{Network}
+use Rattle.walk_rules.specs.declared.place.Place.{Place}
+use Rattle.walk_rules.specs.Way.{Way, Away, Over, Own, Into, way_of}
+use Rattle.walk_rules.specs.Treatment.{allow_of, lowered}
+use Rattle.walk_rules.specs.Walk.{far_end, arrival}
+use Rattle.intent_reader.specs.Rules.{node_after, stand_after}
+use Rattle.intent_reader.specs.declared.intent.Step.{Step}
+use Rattle.intent_reader.specs.declared.intent.Step.TheVariants.{Links, Function}
+use Rattle.leg_table.proofs.Links.{far_end-is, link_ends, step_opens}
+use Rattle.deep_walks.specs.Moves.{is_in}
+use Rattle.deep_walks.specs.Deep.{LooksOn, IsJoined, AreJoined, Loses}
+use Rattle.deep_choices.specs.Look.{leads, look_links, look_bound, look_onward, look_at_sid, look_in, look_by, step_events, world}
+
+module _ (net : Network) (t : Step) where
+  -- links that lie in the step lead to one place
+  abbrev OnePlace : Type 0
+  OnePlace = (place : Place) (k l : ℕ) → IsTrue (is_in step_events t k) → IsTrue (is_in step_events t l) → leads net place k ≡ leads net place l
+
+  links-on : OnePlace → (place : Place) (set : List ℕ) (p : Packet) → LooksOn step_events t (look_links net place set p)
+  links-on one place [] p = one place
+  links-on one place (link ∷ links) p = one place
+
+  over-on : OnePlace → (place : Place) (set : List ℕ) (p : Packet) (b : Bool)
+      → LooksOn step_events t (if b then Loses else look_links net place set p)
+  over-on one place set p true = tt
+  over-on one place set p false = links-on one place set p
+
+  bound-on : (place : Place) (n : ℕ) (b : Behaviour) (q : Packet) (o : Option NamedPolicy) → LooksOn step_events t (look_bound net place n b q o)
+  bound-on place n b q None = tt
+  bound-on place n b q (Some named) = tt
+
+  onward-on : (place : Place) (n : ℕ) (b : Behaviour) (q : Packet) (o : Option ℕ) → LooksOn step_events t (look_onward net place n b q o)
+  onward-on place n b q None = tt
+  onward-on place n b q (Some number) = bound-on place n b q (slice_get net.policies number)
+
+  sid-on : (place : Place) (n : ℕ) (b : Behaviour) (e : Endpoint) → LooksOn step_events t (look_at_sid net place n b e)
+  sid-on place n b (Onward q) = onward-on place n b q (behaviour_policy b)
+  sid-on place n b (Exposed family bytes) = tt
+  sid-on place n b (Delivered q) = tt
+  sid-on place n b (Refused reason at) = tt
+
+  in-on : (place : Place) (n : ℕ) (p : Packet) (o : Option SidEntry) → LooksOn step_events t (look_in net place n o p)
+  in-on place n p None = tt
+  in-on place n p (Some s) = sid-on place n s.behaviour (at_sid s (allow_of (slice_get net.nodes place.node)) p)
+
+  way-on : OnePlace → (place : Place) (p : Packet) (way : Way) → LooksOn step_events t (look_by net place way p)
+  way-on one place p (Away reason) = tt
+  way-on one place p (Over set lower) = over-on one place set (lowered lower p) (lower && nat_le p.hop_limit 1)
+  way-on one place p Own = tt
+  way-on one place p (Into n) = in-on place n p (slice_get net.sids n)
+
+  look-joined : OnePlace → (limit : ℕ) → IsJoined (world net limit) t
+  look-joined one limit place p = way-on one place p (way_of net place p.destination)
+
+rest-stands : (net : Network) (o : Option ℕ) (ts : List Step) → is_some (option_and_then (λ next. stand_after net next ts) o) ≡ true
+    → (to : ℕ) × (is_some (stand_after net to ts) ≡ true)
+rest-stands net None ts h = absurd (false≢true h)
+rest-stands net (Some to) ts h = (to, h)
+
+pub steps-joined : (net : Network) (limit node : ℕ) (ts : List Step) → is_some (stand_after net node ts) ≡ true
+    → AreJoined (world net limit) ts
+steps-joined net limit node [] stands = tt
+steps-joined net limit node (Links set ∷ ts) stands =
+    let opened = step_opens net node set ts stands in
+    let end : (k : ℕ) → IsTrue (is_in step_events (Links set) k) → far_end (slice_get net.links k) ≡ Some opened.0 = λ k here.
+    far_end-is (slice_get net.links k) ∙ link_ends net opened.0 set k opened.1 here in (
+      look-joined net (Links set) (λ place k l mine yours. ap (λ o. arrival o place) (end k mine ∙ sym (end l yours))) limit,
+      steps-joined net limit opened.0 ts opened.2,
+    )
+steps-joined net limit node (Function sid ∷ ts) stands =
+    let rest = rest-stands net (node_after net node (Function sid)) ts stands in
+    (look-joined net (Function sid) (λ place k l mine yours. absurd (false≢true mine)) limit, steps-joined net limit rest.0 ts rest.1)

@@ -1,0 +1,4 @@
+pub mod Look
+pub mod Walks
+pub mod Rides
+pub mod Starts

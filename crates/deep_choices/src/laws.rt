@@ -1,0 +1,90 @@
+//! Laws of the definitions: each is the contract of an empty function.
+
+ghost use Rattle.std.specs.Prelude.{Bool, ◌≡◌, ◌<◌, List, [], ◌∷◌, ℕ, Some, suc, true, is_some};
+ghost use Rattle.std.specs.Option.{option_and_then, option_map};
+ghost use Rattle.srv6_rules.specs.Packet.{Content, Packet, V6};
+ghost use Rattle.srv6_rules.specs.Policies.{outer_by};
+ghost use Rattle.srv6_rules.specs.declared.policy.Policy.{Policy};
+ghost use Rattle.srv6_rules.specs.declared.sid.Family.{Family};
+ghost use Rattle.net_model.specs.Keeps.{Keeps};
+ghost use Rattle.net_model.specs.Network.{Network};
+ghost use Rattle.walk_rules.specs.declared.place.Place.{Place};
+ghost use Rattle.walk_rules.specs.Relation.{IsHow, IsPlace};
+ghost use Rattle.intent_reader.specs.Rules.{stand_after};
+ghost use Rattle.intent_reader.specs.declared.intent.Step.{Step};
+ghost use Rattle.leg_table.specs.Ride as rides;
+ghost use Rattle.own_hands.specs.OwnHands.{handed_own, most_stages};
+ghost use Rattle.deep_stages.specs.Walks.{deep_walk};
+ghost use Rattle.deep_walks.specs.Deep.{AreJoined, deep_at, open_at, own_move, tunnel_of};
+ghost use Rattle.deep_walks.specs.Legs.{HasPath, Path, ride_of};
+ghost use Rattle.deep_walks.specs.Moves.{End, got_of};
+ghost use Rattle.deep_choices.specs.Look.{step_events, world};
+ghost use Rattle.deep_choices.specs.Rides.{met_there};
+ghost use Rattle.deep_choices.specs.Starts.{IsHead, StartsBehind};
+ghost use Rattle.deep_choices.specs.Walks.{AlwaysHandsFrom, HandsFrom, handed_of};
+
+/// Under any choices a network's walk hands over what the machine's walk does, after as many stages:
+/// from a place where nothing is below, and from one where packets are, `n + 1` stages behind the
+/// push of the lowest header (RFC 8986 sections 4.13 and 4.14).
+pub fn a_network_walks_as_its_machine()
+    ensures alone { (net : Network) (fuel : ℕ) (place : Place) (p : Packet) →
+        (pick : ℕ → ℕ) (n taken : ℕ) →
+        handed_own net n (deep_walk fuel net (Some place) (V6 p) [] pick taken)
+        ≡ option_map handed_of
+        (got_of step_events (own_move (world net most_stages)) fuel (open_at place p) pick taken) }
+    ensures under { (net : Network) (fuel : ℕ) (place : Place) (p q : Packet) (below : List Packet) →
+        (pick : ℕ → ℕ) (n taken : ℕ) →
+        handed_own net n (deep_walk fuel net (Some place) (V6 p) (q ∷ below) pick taken)
+        ≡ option_map handed_of
+        (got_of step_events (own_move (world net most_stages)) fuel
+        (deep_at p (q ∷ below) (suc n) place) pick taken) }
+{}
+
+/// The links of steps, each of which starts where the one before it ended, lead a packet to one
+/// place (own rule).
+pub fn steps_that_follow_lead_to_one_place()
+    ensures { (net : Network) (limit node : ℕ) (ts : List Step) →
+        is_some (stand_after net node ts) ≡ true → AreJoined (world net limit) ts }
+{}
+
+/// A header that is pushed at a place of the network, and walks alone along a beginning of steps that
+/// go on from there, leads to a place of the network where an IPv6 packet goes on: the steps up to it
+/// are done, and those that are left go on from it. Policies push such headers (RFC 8986 sections
+/// 4.13 and 4.14; own rule).
+pub fn a_pushed_header_leads_to_a_start()
+    ensures starts { (net : Network) (limit : ℕ) (ts : List Step) (place : Place) (new : Packet) →
+        (e : End Step ℕ Place) →
+        Keeps net → IsHead new → IsPlace net place →
+        is_some (stand_after net place.node ts) ≡ true →
+        tunnel_of (world net limit) ts place new ≡ Some e → StartsBehind net ts place.node e }
+    ensures head { (policy : Policy) (reduced : Bool) → IsHead (outer_by policy reduced Family.V6 []) }
+{}
+
+/// The ride of the own packet to its next execution is the ride by look-ups alone, where the hop limit
+/// is above the lowerings of that ride, and what the SID at its end does with the packet then
+/// (RFC 8200 section 3; own rule).
+pub fn a_ride_is_by_look_ups()
+    ensures { (net : Network) (limit : ℕ) (ts : List Step) (place : Place) (p : Packet) →
+        Keeps net → IsHow net place.node place.how → 0 < p.hop_limit →
+        ride_of (world net limit) ts place p
+        ≡ option_and_then (met_there net limit p) (rides.ride_of net p.destination ts place) }
+{}
+
+/// Where the links of each step lead to one place, a packet comes from a place, for all choices, to
+/// its own hand-over with the steps as its trace exactly where there is a path of legs and a finish
+/// along the steps; and each choice then executes the path's SIDs on the own packet, and hands over
+/// what the path does (own rule).
+pub fn a_network_hands_over_exactly_along_a_path()
+    ensures has { (net : Network) (ts : List Step) (place : Place) (p : Packet) →
+        AreJoined (world net most_stages) ts → AlwaysHandsFrom net ts place p →
+        (path : Path ℕ Place Content) × HasPath (world net most_stages) ts place p path }
+    ensures hands { (net : Network) (ts : List Step) (place : Place) (p : Packet) →
+        AreJoined (world net most_stages) ts →
+        (path : Path ℕ Place Content) → HasPath (world net most_stages) ts place p path →
+        AlwaysHandsFrom net ts place p }
+    ensures each { (net : Network) (ts : List Step) (place : Place) (p : Packet) →
+        AreJoined (world net most_stages) ts →
+        (path : Path ℕ Place Content) → HasPath (world net most_stages) ts place p path →
+        (choices : List ℕ) (h : HandsFrom net ts place p choices) →
+        (h.handed.sids ≡ path.sids) × (h.handed.content ≡ path.bared.inside) }
+{}

@@ -1,0 +1,14 @@
+//! A network as a machine that walks packets under pushed headers.
+//!
+//! `specs/Look.antt` says what a node does with the header on top, whatever it carries; with that a
+//! network is a world of `deep_walks`, so what holds there for all choices holds of its walks:
+//! `specs/Walks.antt` has what they hand over along steps. The functions of `laws` do nothing: their
+//! contracts are the laws.
+#![tactic(auto)]
+
+mod laws;
+
+pub use laws::{
+    a_network_hands_over_exactly_along_a_path, a_network_walks_as_its_machine,
+    a_ride_is_by_look_ups, steps_that_follow_lead_to_one_place,
+};
