@@ -46,6 +46,9 @@ ruled net h =
       sids = titles.1;
     }
 
+pub distinct_routes : (net : Network) → IsNetwork net → are_distinct same_route net.routes ≡ true
+distinct_routes net h = (and_parts _ _ (and_parts _ _ (ruled net h).routes).1).1
+
 network_from : (net : Network) → Ruled net → IsNetwork net
 unfolding is_network
 network_from net r =

@@ -6,3 +6,11 @@ pub mod Apart
 pub mod Across
 pub mod Grounds
 pub mod Keeping
+pub mod Symmetry
+pub mod RouteNumbers
+pub mod Meant
+pub mod PlanLemmas
+pub mod SameItems
+pub mod Longest
+pub mod Partners
+pub mod LookupLaws

@@ -123,7 +123,7 @@ numbered_any titles n s (t ∷ ss) =
       | Some u ↦ ap (λ b. same_sid s t || b) (numbered_any titles (n + 1) s ss)
     ]
 
-any_same : {X : Type 0} (p q : X → Bool) → ((x : X) → p x ≡ q x) → (xs : List X) → list_any p xs ≡ list_any q xs
+pub any_same : {X : Type 0} (p q : X → Bool) → ((x : X) → p x ≡ q x) → (xs : List X) → list_any p xs ≡ list_any q xs
 any_same p q f [] = refl
 any_same p q f (x ∷ xs) = ap₂ (λ a b. a || b) (f x) (any_same p q f xs)
 

@@ -1,5 +1,8 @@
 //! The entries of a network's tables, by name.
 
+use srv6_rules::Family;
+use v6_addr::Prefix;
+
 /// An entry of a description (own rule).
 #[derive(Clone, Copy, Debug, PartialEq, Eq)]
 pub enum EntryId {
@@ -9,4 +12,23 @@ pub enum EntryId {
     Sid(u32),
     /// A node's own address, by the node's number.
     Address(u32),
+}
+
+/// An entry of a description, as it is compared with those of another.
+#[derive(Clone, Copy)]
+pub(crate) struct PlanEntry {
+    /// Which it is.
+    pub id: EntryId,
+    /// The node of its table.
+    pub node: u32,
+    /// The table's number.
+    pub table: u32,
+    /// The family of the packets that are looked up in the table.
+    pub family: Family,
+    /// Its prefix.
+    pub prefix: Prefix,
+    /// The number of a SID's title, in its own description.
+    pub title: Option<u32>,
+    /// Both descriptions have it.
+    pub kept: bool,
 }

@@ -1,6 +1,9 @@
 //! What keeps a network from passing from one description to another.
 
+ghost use Rattle.std.specs.Prelude.{◌≡◌};
+
 use crate::entry::EntryId;
+use std::alloc::AllocError;
 use text_faults::TableKind;
 
 /// Why a network cannot pass from an old description to a new one (own rules).
@@ -27,4 +30,14 @@ pub enum PlanFault {
     },
     /// Want of memory.
     NoMemory,
+}
+
+impl From<AllocError> for PlanFault {
+    ghost use Rattle.update_plan.specs.declared.fault.PlanFault.TheVariants.{NoMemory};
+
+    ghost from_gives = { λ _ why. why ≡ NoMemory };
+
+    fn from(_: AllocError) -> PlanFault {
+        PlanFault::NoMemory
+    }
 }

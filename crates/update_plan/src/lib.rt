@@ -7,10 +7,19 @@
 //! fault. The functions of `laws` do nothing: their contracts are the laws of those definitions.
 #![tactic(auto)]
 
+mod conflicts;
+mod differ;
 mod entry;
+mod equal;
 mod fault;
+mod gather;
+mod joined;
+mod known_routes;
 mod laws;
+mod limits;
+mod plan;
 
 pub use entry::EntryId;
 pub use fault::PlanFault;
-pub use laws::joined_networks_keep_the_rules;
+pub use laws::{joined_networks_keep_the_rules, joined_networks_look_up_as_both, own_matches_stay};
+pub use plan::plan_parts;

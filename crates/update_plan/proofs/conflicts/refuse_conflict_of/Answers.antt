@@ -1,0 +1,16 @@
+use Rattle.std.proofs.Common.{List, Ok, ap, ◌∙◌}
+use Rattle.std.specs.Prelude.{Option, find, map}
+use Rattle.update_plan.specs.declared.entry.PlanEntry.{PlanEntry}
+use Rattle.update_plan.specs.Planning.{Item, conflict, conflict_or}
+use Rattle.update_plan.specs.Entries.{item_of}
+use Rattle.update_plan.proofs.Meant.{among_added}
+use Rattle.update_plan.proofs.conflicts.refuse_conflict_of.Goals as goal
+
+pub returns-then-a : goal.returns-then-a
+returns-then-a c =
+    let a = item_of c.args.titles.now.before.now c.args.a.now in
+    let titles = c.args.titles.now.after.now in
+    c.refuse_conflict_among.ensures
+    ∙ ap (λ (o : Option Item). conflict_or a o (Ok tt))
+    (ap (λ (es : List PlanEntry). find (conflict a) (map (item_of titles) es)) c.requires
+    ∙ among_added titles a c.args.news.now c.if-a.true)

@@ -1,0 +1,12 @@
+use Rattle.std.proofs.Common.{ap, ◌∙◌}
+use Rattle.std.specs.Prelude.{option_and_then, slice_get}
+use Rattle.update_plan.specs.RouteKeys.{equal_at}
+use Rattle.update_plan.proofs.RouteNumbers.{told}
+use Rattle.update_plan.proofs.known_routes.has_equal.Goals as goal
+
+pub returns : goal.returns
+returns c =
+    let q = c.args.q.now in
+    let routes = c.args.routes.now in
+    c.equal_at.ensures ∙ told routes q c.number_of.result c.requires.distinct
+    (rw c.number_of.ensures (c.requires.numbers q))

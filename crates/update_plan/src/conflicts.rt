@@ -1,0 +1,108 @@
+//! Entries of two descriptions that cannot both be there.
+
+ghost use Rattle.std.specs.Prelude.{◌≡◌, find, map, Ok, Err};
+ghost use Rattle.std.specs.List.{filter};
+ghost use Rattle.update_plan.specs.Planning.{in_one_table, meet, conflict, conflict_or, conflicting};
+ghost use Rattle.update_plan.specs.Entries.{item_of, is_added};
+
+use crate::entry::PlanEntry;
+use crate::equal::same_title;
+use crate::fault::PlanFault;
+use net_model::{Name, same_family};
+use v6_addr::Prefix;
+
+/// The titles of both descriptions.
+#[derive(Drop)]
+pub(crate) struct BothTitles<'a> {
+    /// Those of the old one.
+    pub before: &'a [Name],
+    /// Those of the new one.
+    pub after: &'a [Name],
+}
+
+/// Whether one prefix holds the other's first address, and so the other.
+fn meet(p: &Prefix, q: &Prefix) -> bool
+    ensures { result ≡ meet p.now q.now }
+{
+    p.holds(q.value()) || q.holds(p.value())
+}
+
+/// Whether two entries stand in one table.
+fn are_in_one_table(titles: &BothTitles<'_>, a: &PlanEntry, b: &PlanEntry) -> bool
+    ensures { result ≡ in_one_table (item_of titles.now.before.now a.now) (item_of titles.now.after.now b.now) }
+{
+    a.node == b.node && a.table == b.table && same_family(a.family, b.family)
+}
+
+/// Whether an old entry and a new one are in conflict.
+fn are_in_conflict(titles: &BothTitles<'_>, a: &PlanEntry, b: &PlanEntry) -> bool
+    ensures { result ≡ conflict (item_of titles.now.before.now a.now) (item_of titles.now.after.now b.now) }
+{
+    !(a.kept && b.kept)
+        && ((are_in_one_table(titles, a, b) && meet(&a.prefix, &b.prefix))
+            || same_title(titles.before, titles.after, a.title, b.title))
+}
+
+/// Refuses the first of the new entries that is in conflict with the old one.
+fn refuse_conflict_among(
+    titles: &BothTitles<'_>,
+    a: &PlanEntry,
+    news: &[PlanEntry],
+) -> Result<(), PlanFault>
+    ensures { result ≡ conflict_or (item_of titles.now.before.now a.now)
+        (find (conflict (item_of titles.now.before.now a.now)) (map (item_of titles.now.after.now) news.now))
+        (Ok tt) }
+{
+    let mut rest = news;
+    while let [b, more @ ..] = rest {
+        if are_in_conflict(titles, a, b) {
+            return Err(PlanFault::Conflict {
+                before: a.id,
+                after: b.id,
+            });
+        }
+        rest = more;
+    }
+    Ok(())
+}
+
+/// Refuses the first of the new entries that is in conflict with the old one. Of two kept entries
+/// none is, so a kept one is compared with those alone that are added.
+fn refuse_conflict_of(
+    titles: &BothTitles<'_>,
+    a: &PlanEntry,
+    news: &[PlanEntry],
+    added: &[PlanEntry],
+) -> Result<(), PlanFault>
+    requires { added.now ≡ filter is_added news.now }
+    ensures { result ≡ conflict_or (item_of titles.now.before.now a.now)
+        (find (conflict (item_of titles.now.before.now a.now)) (map (item_of titles.now.after.now) news.now))
+        (Ok tt) }
+{
+    if a.kept {
+        refuse_conflict_among(titles, a, added)
+    } else {
+        refuse_conflict_among(titles, a, news)
+    }
+}
+
+/// Refuses the first old entry that is in conflict with a new one, and the first such new one.
+pub(crate) fn refuse_conflict(
+    titles: &BothTitles<'_>,
+    olds: &[PlanEntry],
+    news: &[PlanEntry],
+    added: &[PlanEntry],
+) -> Result<(), PlanFault>
+    requires { added.now ≡ filter is_added news.now }
+    ensures { result ≡ conflicting (map (item_of titles.now.after.now) news.now)
+        (map (item_of titles.now.before.now) olds.now) }
+{
+    let mut rest = olds;
+    while let [a, more @ ..] = rest {
+        if let Err(why) = refuse_conflict_of(titles, a, news, added) {
+            return Err(why);
+        }
+        rest = more;
+    }
+    Ok(())
+}
