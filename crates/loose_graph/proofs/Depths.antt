@@ -191,12 +191,16 @@ module _ (spots : List Spot) where
 
 -- ---- one graph over another
 
+pub found-lost : (spots : List Spot) (depth w : ℕ) → spot_at spots w ≡ Lost → found_in spots depth w ≡ None
+found-lost spots zero w lost = refl
+found-lost spots (suc depth) w lost = ap (found_by true (found_in spots depth)) lost
+
 module _ (under answer_under : ℕ → ℕ) (spots nodes : List Spot) (stands : StandsOver under answer_under spots nodes) where
   under-in : (depth v : ℕ) (f : Found) → found_in spots depth v ≡ Some f
       → found_in nodes depth (under v) ≡ Some (found_under answer_under f)
   under-in zero v f e = absurd (none-some f e)
   under-in (suc depth) v f e =
-      by-under under answer_under (found_in spots depth) (found_in nodes depth) (under-in depth) true
+      by-under spots under answer_under (found_in spots depth) (found_in nodes depth) (under-in depth) (found-lost spots depth) true
       (spot_at spots v) (spot_at nodes (under v)) f (stands v) e
 
   pub under-at : (v : ℕ) (f : Found) → found_at spots v ≡ Some f → found_at nodes (under v) ≡ Some (found_under answer_under f)

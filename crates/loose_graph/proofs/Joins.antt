@@ -6,6 +6,7 @@ use Rattle.std.proofs.lemmas.List.{map-id}
 use Rattle.loose_graph.specs.declared.spots.Spot.{Spot}
 use Rattle.loose_graph.specs.declared.spots.Spot.TheVariants.{Lost, Stop, Over}
 use Rattle.loose_graph.specs.declared.spots.Found.{Found}
+use Rattle.loose_graph.specs.Walks.{spot_at}
 use Rattle.loose_graph.specs.Finding.{Finds, joined, found_over, found_by, lowered, found_under, IsOver}
 use Rattle.loose_graph.proofs.Options.{map-some, then-some, if-some, some-same, none-some, found-same}
 
@@ -151,13 +152,18 @@ over-under under au finds below all (w ∷ ws) h e =
     = ap (option_and_then (λ (f : Found). joined below f (map under ws))) (all w first.0 first.1) in
     open_one ∙ joined-under under au finds below all first.0 ws h first.2
 
-pub by-under : (under answer_under : ℕ → ℕ) (finds below : Finds) → IsUnder under answer_under finds below
-    → (lowers : Bool) (spot under_spot : Spot) (f : Found) → IsOver under answer_under spot under_spot
+pub by-under : (graph : List Spot) (under answer_under : ℕ → ℕ) (finds below : Finds) → IsUnder under answer_under finds below
+    → ((w : ℕ) → spot_at graph w ≡ Lost → finds w ≡ None)
+    → (lowers : Bool) (spot under_spot : Spot) (f : Found) → IsOver graph under answer_under spot under_spot
     → found_by lowers finds spot ≡ Some f → found_by lowers below under_spot ≡ Some (found_under answer_under f)
-by-under under au finds below all lowers Lost us f is e = absurd (none-some f e)
-by-under under au finds below all lowers (Stop answer) us f is e =
+by-under graph under au finds below all none lowers Lost us f is e = absurd (none-some f e)
+by-under graph under au finds below all none lowers (Stop answer) us f is e =
     ap (found_by lowers below) is ∙ ap (option_map (found_under au)) e
-by-under under au finds below all lowers (Over set) us f is e =
+by-under graph under au finds below all none lowers (Over set) us f (inl lost) e =
+    let m = map-some (lowered lowers) (found_over finds set) f e in
+    let at = over-agrees finds set m.0 m.1 lost.0 lost.1 in
+    absurd (none-some at.found (sym (none (slice_index set lost.0) lost.2) ∙ at.here))
+by-under graph under au finds below all none lowers (Over set) us f (inr is) e =
     let m = map-some (lowered lowers) (found_over finds set) f e in
     let one = over-under under au finds below all set m.0 m.1 in
     ap (found_by lowers below) is ∙ ap (option_map (lowered lowers)) one ∙ ap (λ (x : Found). Some (found_under au x)) m.2

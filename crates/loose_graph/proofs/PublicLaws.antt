@@ -7,17 +7,18 @@ use Rattle.loose_graph.specs.declared.spots.Found.{Found}
 use Rattle.loose_graph.specs.Finding.{IsOver, StandsOver, found_at, found_by, found_from, found_over, found_under, lowered}
 use Rattle.loose_graph.proofs.Options.{map-some, some-same, none-some}
 use Rattle.loose_graph.proofs.Joins.{by-under, over-taken}
-use Rattle.loose_graph.proofs.Depths.{fewer, under-at, under-few}
+use Rattle.loose_graph.proofs.Depths.{fewer, found-lost, under-at, under-few}
 
 pub few-at : (spots : List Spot) (v : ℕ) (f : Found) → found_at spots v ≡ Some f → f.most < length spots
 few-at spots v f e = fewer spots (length spots) v f e
 
 module _ (under answer_under : ℕ → ℕ) (spots nodes : List Spot) (stands : StandsOver under answer_under spots nodes) where
-  pub under-from : (start below : Start) (f : Found) → start.lowers ≡ below.lowers → IsOver under answer_under start.spot below.spot
+  pub under-from : (start below : Start) (f : Found) → start.lowers ≡ below.lowers → IsOver spots under answer_under start.spot below.spot
       → found_from spots start ≡ Some f → found_from nodes below ≡ Some (found_under answer_under f)
   under-from start below f same is e =
       ap (λ (b : Bool). found_by b (found_at nodes) below.spot) (sym same)
-      ∙ by-under under answer_under (found_at spots) (found_at nodes) (under-at under answer_under spots nodes stands) start.lowers
+      ∙ by-under spots under answer_under (found_at spots) (found_at nodes) (under-at under answer_under spots nodes stands)
+      (found-lost spots (length spots)) start.lowers
       start.spot below.spot f is e
 
   pub few-from : (start : Start) (f : Found) → found_from spots start ≡ Some f → f.most ≤ length nodes

@@ -1,5 +1,5 @@
 -- What is found at a spot: the answer of all choices, and the greatest number of lowerings among them. (own rule)
-use Rattle.std.specs.Prelude.{◌≡◌, ℕ, zero, suc, ◌+◌, max, ◌==◌, Bool, true, if◌then◌else◌, List, [], ◌∷◌, length, map, Option, Some, None}
+use Rattle.std.specs.Prelude.{◌≡◌, ℕ, zero, suc, ◌+◌, ◌<◌, ◌⊎◌, max, ◌==◌, Bool, true, if◌then◌else◌, List, [], ◌∷◌, length, map, slice_index, Option, Some, None}
 use Rattle.std.specs.Option.{option_map, option_and_then}
 use Rattle.loose_graph.specs.declared.spots.Spot.{Spot}
 use Rattle.loose_graph.specs.declared.spots.Spot.TheVariants.{Lost, Stop, Over}
@@ -52,13 +52,17 @@ found_from spots start = found_by start.lowers (found_at spots) start.spot
 abbrev pub found_under : (ℕ → ℕ) → Found → Found
 found_under answer_under f = record { most = f.most; answer = answer_under f.answer }
 
--- a spot stands over one of a smaller graph: where it stops so does that one, and where it goes on that one goes to the spots under
--- its next ones. It may be lost where that one isn't.
-abbrev pub IsOver : (ℕ → ℕ) → (ℕ → ℕ) → Spot → Spot → Type 0
-IsOver under answer_under Lost below = Unit {0}
-IsOver under answer_under (Stop answer) below = below ≡ Stop (answer_under answer)
-IsOver under answer_under (Over set) below = below ≡ Over (map under set)
+-- one of the spots of a set is lost
+abbrev pub HasLost : List Spot → List ℕ → Type 0
+HasLost spots set = (place : ℕ) × (place < length set) × (spot_at spots (slice_index set place) ≡ Lost)
+
+-- a spot of a graph stands over one of a smaller graph: where it stops so does that one, and where it goes on, to no spot that is lost,
+-- that one goes to the spots under its next ones. It may be lost where that one isn't.
+abbrev pub IsOver : List Spot → (ℕ → ℕ) → (ℕ → ℕ) → Spot → Spot → Type 0
+IsOver spots under answer_under Lost below = Unit {0}
+IsOver spots under answer_under (Stop answer) below = below ≡ Stop (answer_under answer)
+IsOver spots under answer_under (Over set) below = HasLost spots set ⊎ (below ≡ Over (map under set))
 
 -- a graph stands over another, as one of nodes and steps left over that of the nodes
 abbrev pub StandsOver : (ℕ → ℕ) → (ℕ → ℕ) → List Spot → List Spot → Type 0
-StandsOver under answer_under spots nodes = (v : ℕ) → IsOver under answer_under (spot_at spots v) (spot_at nodes (under v))
+StandsOver under answer_under spots nodes = (v : ℕ) → IsOver spots under answer_under (spot_at spots v) (spot_at nodes (under v))

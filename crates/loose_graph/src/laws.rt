@@ -60,7 +60,7 @@ pub fn lowerings_are_fewer_than_nodes()
         → f.most < length nodes }
     ensures start { (under answer_under : ℕ → ℕ) (spots nodes : List Spot)
         → StandsOver under answer_under spots nodes → (start below : Start) (f : Found)
-        → start.lowers ≡ below.lowers → IsOver under answer_under start.spot below.spot
+        → start.lowers ≡ below.lowers → IsOver spots under answer_under start.spot below.spot
         → found_from spots start ≡ Some f → found_from nodes below ≡ Some (found_under answer_under f) }
     ensures few_from { (under answer_under : ℕ → ℕ) (spots nodes : List Spot)
         → StandsOver under answer_under spots nodes → (start : Start) (f : Found)

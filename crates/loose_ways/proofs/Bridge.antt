@@ -1,5 +1,5 @@
 -- Where all choices come, by what is found in the graph.
-use Rattle.std.proofs.Common.{◌≡◌, ℕ, ◌+◌, ◌-◌, ◌<◌, ◌≤◌, ◌↔◌, List, length, Option, Some, None, refl, sym, ◌∙◌, ap, subst, arith}
+use Rattle.std.proofs.Common.{◌≡◌, ℕ, ◌+◌, ◌-◌, ◌<◌, ◌≤◌, ◌↔◌, List, length, Option, Some, None, refl, sym, ◌∙◌, ap}
 use Rattle.std.specs.Option.{option_map}
 use Rattle.srv6_rules.specs.declared.sid.Family.TheVariants as families
 use Rattle.srv6_rules.specs.Packet.{Packet, V6}
@@ -15,7 +15,7 @@ use Rattle.loose_graph.specs.declared.spots.Found.{Found}
 use Rattle.loose_graph.specs.Walks.{End, walk_from, answer_of, picks_of, AlwaysComesFrom}
 use Rattle.loose_graph.specs.Finding.{found_from}
 use Rattle.loose_graph.proofs.Comings.{lists-enough, complete-from, enough-from, needed-from}
-use Rattle.loose_ways.specs.Stops.{Coming, coming, coming_of, answer_of_coming}
+use Rattle.loose_ways.specs.Stops.{coming, coming_of, answer_of_coming}
 use Rattle.loose_ways.specs.Graphs.{Numbers, start_at, IsLeft, IsGraph}
 use Rattle.loose_ways.proofs.Simulating.{start-comes}
 

@@ -2,3 +2,4 @@ pub mod Quiet
 pub mod Simulating
 pub mod Bridge
 pub mod Making
+pub mod Nodes

@@ -1,19 +1,18 @@
 -- The graph of rows is one of the network.
-use Rattle.std.proofs.Common.{◌≡◌, ℕ, zero, suc, ◌+◌, ◌*◌, ◌<◌, ◌≤◌, List, [], ◌∷◌, ◌++◌, length, slice_get, Option, Some, None, refl, sym, ◌∙◌, ap, subst, arith, length-append}
+use Rattle.std.proofs.Common.{◌≡◌, ℕ, zero, suc, ◌+◌, ◌*◌, ◌<◌, List, [], ◌∷◌, ◌++◌, length, slice_get, Some, refl, ◌∙◌, ap, arith, length-append}
 use Rattle.std.proofs.lemmas.Option.{slice_get_past}
 use Rattle.net_model.specs.Network.{Network}
 use Rattle.walk_rules.specs.Way.{way_of}
 use Rattle.step_traces.specs.declared.steps.Step.{Step}
 use Rattle.loose_graph.specs.declared.spots.Spot.{Spot}
-use Rattle.loose_graph.specs.declared.spots.Spot.TheVariants as spots
 use Rattle.loose_graph.specs.Walks.{spot_of, spot_at}
-use Rattle.loose_ways.specs.Graphs.{Numbers, arrived, spot_by, IsLeft, IsGraph, row_from, rows_of, numbers_in, graph_in}
+use Rattle.loose_ways.specs.Graphs.{Numbers, arrived, spot_by, IsLeft, IsGraph, row_from, rows_of, numbers_of, graph_in}
 
-row-length : (value : ℕ → Spot) (node count : ℕ) → length (row_from value node count) ≡ count
+pub row-length : (value : ℕ → Spot) (node count : ℕ) → length (row_from value node count) ≡ count
 row-length value node zero = refl
 row-length value node (suc count) = ap (λ (k : ℕ). suc k) (row-length value (suc node) count)
 
-row-get : (value : ℕ → Spot) (node count k : ℕ) → k < count → slice_get (row_from value node count) k ≡ Some (value (node + k))
+pub row-get : (value : ℕ → Spot) (node count k : ℕ) → k < count → slice_get (row_from value node count) k ≡ Some (value (node + k))
 row-get value node zero k l = absurd (omega arith)
 row-get value node (suc count) zero l = let n : node ≡ node + 0 = omega arith in ap (λ (v : ℕ). Some (value v)) n
 row-get value node (suc count) (suc k) l =
@@ -31,7 +30,7 @@ get-behind (x ∷ xs) ys zero k e = absurd (omega arith)
 get-behind (x ∷ xs) ys (suc n) k e = get-behind xs ys n k (omega arith)
 
 module _ (net : Network) (numbers : Numbers) (a : ℕ) where
-  rows-length : (ts : List Step) → length (rows_of net numbers a ts) ≡ (length ts + 1) * length net.nodes
+  pub rows-length : (ts : List Step) → length (rows_of net numbers a ts) ≡ (length ts + 1) * length net.nodes
   rows-length [] =
       let one = row-length (λ node. spot_by net numbers [] (way_of net (arrived node) a)) 0 (length net.nodes) in omega (arith, one)
   rows-length (t ∷ ts) =
@@ -69,18 +68,18 @@ module _ (net : Network) (numbers : Numbers) (a : ℕ) where
       get-before (rows_of net numbers a (finished ++ ts)) (row_from value 0 (length net.nodes)) n inside
       ∙ rows-at finished ts node n l e
 
-pub graph-is : (net : Network) (destination : ℕ) (steps : List Step) (code : ℕ → ℕ → ℕ)
-    → IsGraph net destination steps (numbers_in net steps code) (graph_in net destination steps code)
-graph-is net a steps code =
-    record { at = at; lost = ap spot_of (slice_get_past (graph_in net a steps code) ((length steps + 1) * length net.nodes) (omega (arith, long))) }
+pub graph-is : (net : Network) (destination : ℕ) (steps : List Step)
+    → IsGraph net destination steps (numbers_of net (length steps)) (graph_in net destination steps)
+graph-is net a steps =
+    record { at = at; lost = ap spot_of (slice_get_past (graph_in net a steps) ((length steps + 1) * length net.nodes) (omega (arith, long))) }
   where
-    long : length (graph_in net a steps code) ≡ (length steps + 1) * length net.nodes
-    long = rows-length net (numbers_in net steps code) a steps
+    long : length (graph_in net a steps) ≡ (length steps + 1) * length net.nodes
+    long = rows-length net (numbers_of net (length steps)) a steps
 
     at : (ts : List Step) (node : ℕ) → IsLeft steps ts → node < length net.nodes
-        → spot_at (graph_in net a steps code) (length ts * length net.nodes + node)
-        ≡ spot_by net (numbers_in net steps code) ts (way_of net (arrived node) a)
+        → spot_at (graph_in net a steps) (length ts * length net.nodes + node)
+        ≡ spot_by net (numbers_of net (length steps)) ts (way_of net (arrived node) a)
     at ts node left there =
         ap spot_of
-        (ap (λ (xs : List Step). slice_get (rows_of net (numbers_in net steps code) a xs) (length ts * length net.nodes + node)) left.1
-        ∙ rows-at net (numbers_in net steps code) a left.0 ts node (length ts * length net.nodes + node) there refl)
+        (ap (λ (xs : List Step). slice_get (rows_of net (numbers_of net (length steps)) a xs) (length ts * length net.nodes + node)) left.1
+        ∙ rows-at net (numbers_of net (length steps)) a left.0 ts node (length ts * length net.nodes + node) there refl)

@@ -1,11 +1,11 @@
 -- What sends nothing stops, and where sent packets go.
-use Rattle.std.proofs.Common.{◌≡◌, ℕ, zero, suc, ◌+◌, ◌%◌, ◌<◌, ◌==◌, Bool, true, false, if◌then◌else◌, List, [], ◌∷◌, ◌++◌, map, length, slice_index, slice_get, Option, Some, None, refl, sym, ◌∙◌, ap, subst, arith, mod-lt, append_assoc}
+use Rattle.std.proofs.Common.{◌≡◌, ℕ, ◌%◌, ◌<◌, ◌==◌, Bool, true, false, if◌then◌else◌, List, [], ◌∷◌, ◌++◌, map, length, slice_index, slice_get, Option, Some, None, refl, sym, ◌∙◌, ap, subst, arith, mod-lt, append_assoc}
 use Rattle.std.proofs.lemmas.List.{get_or-map, length-map}
 use Rattle.srv6_rules.specs.Packet.{Packet, spelling}
 use Rattle.srv6_rules.specs.Behaviours.{behaviour_policy, behaviour_reduces}
 use Rattle.srv6_rules.specs.declared.sid.Family.TheVariants as families
 use Rattle.srv6_rules.specs.Policies.{Encapsulating, Outer, TooBig, InnerHop, pushed_by}
-use Rattle.srv6_rules.specs.Endpoint.{Endpoint, Onward, Exposed, Delivered, Refused, at_sid, at_address}
+use Rattle.srv6_rules.specs.Endpoint.{Endpoint, Onward, Exposed, Delivered, Refused, at_sid}
 use Rattle.srv6_rules.specs.declared.sid.Behaviour.{Behaviour}
 use Rattle.srv6_rules.specs.declared.sid.SidEntry.{SidEntry}
 use Rattle.net_model.specs.declared.parts.Link.{Link}
@@ -14,7 +14,7 @@ use Rattle.net_model.specs.Network.{Network}
 use Rattle.net_model.specs.Keeps.{Keeps, EndsElsewhere}
 use Rattle.walk_rules.specs.declared.place.Outcome.{Outcome}
 use Rattle.walk_rules.specs.declared.place.Outcome.TheVariants as outcomes
-use Rattle.walk_rules.specs.Treatment.{allow_of, treated_at_address, pushed_at_sid, bound_at_sid, onward_at_sid, treated_at_sid, treated_in, dropped}
+use Rattle.walk_rules.specs.Treatment.{allow_of, treated_at_address, pushed_at_sid, bound_at_sid, onward_at_sid, treated_at_sid, treated_in}
 use Rattle.walk_rules.specs.Walk.{Stage, far_end}
 use Rattle.step_traces.specs.declared.steps.Step.{Step}
 use Rattle.step_traces.specs.declared.steps.Step.TheVariants.{Links, Function, Reach}
@@ -71,7 +71,7 @@ into-quiet net node n (Some s) p = sid-quiet net node n s.behaviour p (at_sid s 
 
 -- ---- steps that are left
 
-left-steps : (to : Ends) (ts us : List Step) (e : Event) → left_behind to ts e ≡ Some us → IsLeft ts us
+pub left-steps : (to : Ends) (ts us : List Step) (e : Event) → left_behind to ts e ≡ Some us → IsLeft ts us
 left-steps to [] us e h = absurd (cc)
 left-steps to (Links set ∷ ts) us (Crossed link) h =
     let i = if-some (has_link set link) (Some ts) us h in

@@ -1,34 +1,31 @@
 -- The stages of a walk go as the walk over the graph does.
-use Rattle.std.proofs.Common.{◌≡◌, ℕ, zero, suc, ◌+◌, ◌-◌, ◌<◌, ◌≤◌, ◌&&◌, nat_le, Bool, true, false, if◌then◌else◌, List, [], ◌∷◌, map, length, slice_get, Option, Some, None, refl, sym, ◌∙◌, ap, subst, arith}
+use Rattle.std.proofs.Common.{◌≡◌, ℕ, zero, suc, ◌+◌, ◌-◌, ◌<◌, ◌≤◌, Bool, true, false, if◌then◌else◌, List, [], map, length, slice_get, Option, Some, None, refl, sym, ◌∙◌, ap, subst, arith}
 use Rattle.std.specs.Option.{option_map, option_and_then}
 use Rattle.srv6_rules.specs.declared.sid.Family.{Family}
 use Rattle.srv6_rules.specs.declared.sid.Family.TheVariants as families
-use Rattle.srv6_rules.specs.declared.sid.Reason.{Reason}
 use Rattle.srv6_rules.specs.declared.sid.Reason.TheVariants as reasons
 use Rattle.srv6_rules.specs.Packet.{Packet, Content, V6}
 use Rattle.srv6_rules.specs.Endpoint.{at_address}
 use Rattle.net_model.specs.declared.net.Hit.{Hit}
 use Rattle.net_model.specs.declared.net.Hit.TheVariants as hits
 use Rattle.net_model.specs.Network.{Network}
-use Rattle.net_model.specs.Keeps.{Keeps, IsLinkSet}
+use Rattle.net_model.specs.Keeps.{Keeps}
 use Rattle.net_model.specs.Best.{lookup_of}
 use Rattle.walk_rules.specs.declared.place.How.TheVariants.{Arrived}
 use Rattle.walk_rules.specs.declared.place.Place.{Place}
-use Rattle.walk_rules.specs.declared.place.Outcome.{Outcome}
 use Rattle.walk_rules.specs.declared.place.Outcome.TheVariants as outcomes
 use Rattle.walk_rules.specs.Way.{Way, Away, Over, Own, Into, way_of, way_by_hit, is_multicast_of, IsWayFrom}
 use Rattle.walk_rules.specs.Relation.{IsHow}
-use Rattle.walk_rules.specs.Treatment.{Gave, treated, sent, dropped, goes, lowered, member_of, free_step_of}
+use Rattle.walk_rules.specs.Treatment.{Gave, treated, dropped, goes, lowered, member_of, free_step_of}
 use Rattle.walk_rules.specs.Walk.{Stage, walk_by, free_walk_of, next_place, arrival, decisions}
 use Rattle.walk_rules.proofs.PublicLaws.{way-from, sent-low, sent-high}
 use Rattle.step_traces.specs.declared.steps.Step.{Step}
-use Rattle.step_traces.specs.Traces.{Ends, Crossed, left_behind}
+use Rattle.step_traces.specs.Traces.{Crossed, left_behind}
 use Rattle.loose_graph.specs.declared.spots.Spot.{Spot}
 use Rattle.loose_graph.specs.declared.spots.Spot.TheVariants as spots
-use Rattle.loose_graph.specs.declared.spots.Start.{Start}
-use Rattle.loose_graph.specs.Walks.{Picks, later, spot_at, End, over, nowhere, walk, walk_first, walk_from}
+use Rattle.loose_graph.specs.Walks.{Picks, later, spot_at, over, walk, walk_first, walk_from}
 use Rattle.loose_graph.proofs.Walking.{walk-is, over-nowhere, first-stop, Behind}
-use Rattle.loose_ways.specs.Stops.{ends_in, Stop, stop_by, first_stop, room_of, Coming, coming_by, coming_at, coming, coming_of}
+use Rattle.loose_ways.specs.Stops.{ends_in, stop_by, first_stop, Coming, coming_by, coming_at, coming, coming_of}
 use Rattle.loose_ways.specs.Graphs.{Numbers, arrived, spot_behind, next_spot, spot_by, lowers_by, start_at, IsLeft, IsGraph}
 use Rattle.loose_ways.proofs.Quiet.{IsQuiet, quiet-stops, address-quiet, into-quiet, left-on, end-there, over-map}
 

@@ -1,12 +1,12 @@
 -- The graph of the places to which a packet comes on its way to one destination, with the steps that it has still to take. (own rule)
-use Rattle.std.specs.Prelude.{◌≡◌, ℕ, zero, suc, ◌+◌, ◌*◌, ◌<◌, Bool, true, false, List, [], ◌∷◌, ◌++◌, map, length, Option, Some, None}
+use Rattle.std.specs.Prelude.{◌≡◌, ℕ, zero, suc, ◌+◌, ◌*◌, ◌<◌, Bool, true, List, [], ◌∷◌, ◌++◌, map, length, Option, Some, None}
 use Rattle.srv6_rules.specs.declared.sid.Family.TheVariants as families
 use Rattle.net_model.specs.Network.{Network}
 use Rattle.walk_rules.specs.declared.place.How.TheVariants.{Arrived}
 use Rattle.walk_rules.specs.declared.place.Place.{Place}
 use Rattle.walk_rules.specs.Way.{Way, Away, Over, Own, Into, way_of}
 use Rattle.step_traces.specs.declared.steps.Step.{Step}
-use Rattle.step_traces.specs.Traces.{Ends, Crossed, left_behind}
+use Rattle.step_traces.specs.Traces.{Crossed, left_behind}
 use Rattle.loose_graph.specs.declared.spots.Spot.{Spot}
 use Rattle.loose_graph.specs.declared.spots.Spot.TheVariants as spots
 use Rattle.loose_graph.specs.declared.spots.Start.{Start}
@@ -68,20 +68,44 @@ abbrev pub row_from : (ℕ → Spot) → ℕ → ℕ → List Spot
 row_from value node zero = []
 row_from value node (suc count) = value node ∷ row_from value (suc node) count
 
+-- what a packet meets that has come to a node
+abbrev pub spot_of_node : Network → Numbers → ℕ → List Step → ℕ → Spot
+spot_of_node net numbers destination ts node = spot_by net numbers ts (way_of net (arrived node) destination)
+
 -- a row of nodes for each number of steps left, from none up
 abbrev pub rows_of : Network → Numbers → ℕ → List Step → List Spot
-rows_of net numbers destination [] = row_from (λ node. spot_by net numbers [] (way_of net (arrived node) destination)) 0 (length net.nodes)
+rows_of net numbers destination [] = row_from (spot_of_node net numbers destination []) 0 (length net.nodes)
 rows_of net numbers destination (t ∷ ts) =
-    rows_of net numbers destination ts
-    ++ row_from (λ node. spot_by net numbers (t ∷ ts) (way_of net (arrived node) destination)) 0 (length net.nodes)
+    rows_of net numbers destination ts ++ row_from (spot_of_node net numbers destination (t ∷ ts)) 0 (length net.nodes)
 
--- and its numbers; nothing stands at the one behind the last row
-abbrev pub numbers_in : Network → List Step → (ℕ → ℕ → ℕ) → Numbers
-numbers_in net steps code = record {
+-- its numbers, for so many steps; nothing stands at the one behind the last row. An answer tells the SID and the steps that are left,
+-- of which there are fewer than 64
+abbrev pub numbers_of : Network → ℕ → Numbers
+numbers_of net count = record {
   spot = λ node left. left * length net.nodes + node;
-  lost = (length steps + 1) * length net.nodes;
-  code = code;
+  lost = (count + 1) * length net.nodes;
+  code = λ n left. n * 64 + left;
 }
 
-abbrev pub graph_in : Network → ℕ → List Step → (ℕ → ℕ → ℕ) → List Spot
-graph_in net destination steps code = rows_of net (numbers_in net steps code) destination steps
+abbrev pub graph_in : Network → ℕ → List Step → List Spot
+graph_in net destination steps = rows_of net (numbers_of net (length steps)) destination steps
+
+-- ---- the graph of the nodes alone
+
+-- the node behind a link; the number of nodes stands for out of the network
+abbrev pub node_or : ℕ → Option ℕ → ℕ
+node_or size None = size
+node_or size (Some node) = node
+
+abbrev pub node_behind : Network → ℕ → ℕ
+node_behind net link = node_or (length net.nodes) (ends_in net link)
+
+-- a packet stops at any SID, and goes over links whatever the steps say
+abbrev pub node_spot_by : Network → Way → Spot
+node_spot_by net (Away reason) = spots.Lost
+node_spot_by net (Over set lower) = spots.Over (map (node_behind net) set)
+node_spot_by net Own = spots.Lost
+node_spot_by net (Into n) = spots.Stop 0
+
+abbrev pub nodes_in : Network → ℕ → List Spot
+nodes_in net destination = row_from (λ node. node_spot_by net (way_of net (arrived node) destination)) 0 (length net.nodes)

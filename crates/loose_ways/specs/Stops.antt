@@ -1,6 +1,6 @@
 -- Where a packet is first executed, along steps of which one may be to reach a node. (own rule)
-use Rattle.std.specs.Prelude.{◌≡◌, ℕ, ◌-◌, ◌<◌, List, [], ◌∷◌, length, slice_get, Option, Some, None}
-use Rattle.std.specs.Option.{option_map, option_and_then}
+use Rattle.std.specs.Prelude.{ℕ, ◌-◌, List, [], ◌∷◌, length, slice_get, Option, Some, None}
+use Rattle.std.specs.Option.{option_and_then}
 use Rattle.srv6_rules.specs.Packet.{Content, V6, V4, Unreadable}
 use Rattle.net_model.specs.Network.{Network}
 use Rattle.walk_rules.specs.declared.place.Outcome.{Outcome}

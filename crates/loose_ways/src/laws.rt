@@ -12,10 +12,11 @@ ghost use Rattle.walk_rules.specs.Walk.{choice_at, free_walk_of};
 ghost use Rattle.step_traces.specs.declared.steps.Step.{Step};
 ghost use Rattle.loose_graph.specs.declared.spots.Spot.{Spot};
 ghost use Rattle.loose_graph.specs.declared.spots.Found.{Found};
+ghost use Rattle.loose_graph.specs.declared.spots.Start.{Start};
 ghost use Rattle.loose_graph.specs.Walks.{walk_from};
-ghost use Rattle.loose_graph.specs.Finding.{found_from};
+ghost use Rattle.loose_graph.specs.Finding.{found_at, found_from};
 ghost use Rattle.loose_ways.specs.Stops.{answer_of_coming, coming, coming_of};
-ghost use Rattle.loose_ways.specs.Graphs.{IsGraph, IsLeft, Numbers, graph_in, numbers_in, start_at};
+ghost use Rattle.loose_ways.specs.Graphs.{IsGraph, IsLeft, Numbers, graph_in, numbers_of, start_at};
 
 /// The stages of a packet's walk come to a SID, with so many steps left and so much of the hop limit,
 /// exactly where the walk over the graph comes to that answer with that room, under the same choices.
@@ -47,7 +48,17 @@ pub fn all_choices_come_where_the_graph_finds()
 
 /// The graph of rows, one of nodes for each number of steps left, is such a graph (own rule).
 pub fn networks_have_graphs()
-    ensures { (net : Network) (destination : ℕ) (steps : List Step) (code : ℕ → ℕ → ℕ)
-        → IsGraph net destination steps (numbers_in net steps code)
-        (graph_in net destination steps code) }
+    ensures { (net : Network) (destination : ℕ) (steps : List Step)
+        → IsGraph net destination steps (numbers_of net (length steps))
+        (graph_in net destination steps) }
+{}
+
+/// What is found in that graph takes fewer lowerings than there are nodes, though it has a spot for
+/// each node and each number of steps left; from a start at most as many (own rule).
+pub fn lowerings_are_fewer_than_the_nodes()
+    ensures spot { (net : Network) (destination : ℕ) (steps : List Step) (v : ℕ) (f : Found) → Keeps net
+        → found_at (graph_in net destination steps) v ≡ Some f → f.most < length net.nodes }
+    ensures start { (net : Network) (destination : ℕ) (steps : List Step) (start : Start) (f : Found)
+        → Keeps net → found_from (graph_in net destination steps) start ≡ Some f
+        → f.most ≤ length net.nodes }
 {}

@@ -10,5 +10,6 @@
 mod laws;
 
 pub use laws::{
-    all_choices_come_where_the_graph_finds, networks_have_graphs, walks_are_ways_over_the_graph,
+    all_choices_come_where_the_graph_finds, lowerings_are_fewer_than_the_nodes,
+    networks_have_graphs, walks_are_ways_over_the_graph,
 };

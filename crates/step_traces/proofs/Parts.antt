@@ -1,9 +1,9 @@
 -- A step's part, read event by event.
-use Rattle.std.proofs.Common.{◌≡◌, ◌≢◌, ℕ, ◌==◌, Bool, true, false, if◌then◌else◌, List, [], ◌∷◌, ◌++◌, map, Option, Some, None, refl, sym, ◌∙◌, ap, subst, eqb-true, eq-eqb, append_assoc}
+use Rattle.std.proofs.Common.{◌≡◌, ◌≢◌, ℕ, ◌==◌, Bool, true, false, if◌then◌else◌, List, [], ◌∷◌, ◌++◌, map, Option, Some, None, refl, ◌∙◌, ap, eqb-true, eq-eqb, append_assoc}
 use Rattle.std.specs.Option.{option_and_then}
 use Rattle.step_traces.specs.declared.steps.Step.{Step}
 use Rattle.step_traces.specs.declared.steps.Step.TheVariants.{Links, Function, Reach}
-use Rattle.step_traces.specs.Traces.{Event, Crossed, Executed, Ends, LeadsElsewhere, AllLeadElsewhere, has_link, IsPart, Matches, left_by_reach, left_behind, left_by}
+use Rattle.step_traces.specs.Traces.{Event, Crossed, Ends, LeadsElsewhere, AllLeadElsewhere, IsPart, Matches, left_by_reach, left_by}
 
 pub neq-eqb : (a b : ℕ) → a ≢ b → (a == b) ≡ false
 neq-eqb a b ne = by_test (a == b) refl

@@ -1,11 +1,11 @@
 -- Traces that split, and the steps that they leave.
-use Rattle.std.proofs.Common.{◌≡◌, ◌≢◌, ℕ, ◌==◌, ◌↔◌, Bool, true, false, if◌then◌else◌, List, [], ◌∷◌, ◌++◌, map, Option, Some, None, refl, sym, ◌∙◌, ap, subst, eqb-true, eq-eqb, append_assoc}
+use Rattle.std.proofs.Common.{◌≡◌, ℕ, ◌==◌, ◌↔◌, Bool, true, false, if◌then◌else◌, List, [], ◌∷◌, ◌++◌, map, Option, Some, None, refl, sym, ◌∙◌, ap, subst, eqb-true, append_assoc}
 use Rattle.std.specs.Option.{option_and_then}
 use Rattle.std.proofs.lemmas.Bool.{eqb-false}
 use Rattle.std.proofs.lemmas.List.{append-nil}
 use Rattle.step_traces.specs.declared.steps.Step.{Step}
 use Rattle.step_traces.specs.declared.steps.Step.TheVariants.{Links, Function, Reach}
-use Rattle.step_traces.specs.Traces.{Event, Crossed, Executed, Ends, LeadsElsewhere, AllLeadElsewhere, has_link, IsPart, Matches, left_by_reach, left_behind, left_by, is_done, follows, IsBegun, Leaves, IsStrict, meets, meet_each}
+use Rattle.step_traces.specs.Traces.{Event, Crossed, Executed, Ends, LeadsElsewhere, AllLeadElsewhere, has_link, IsPart, Matches, left_by_reach, left_behind, left_by, is_done, follows, IsBegun, Leaves, IsStrict, meet_each}
 use Rattle.step_traces.proofs.Parts.{then-some, if-some, some-same, begun-left, matched-left}
 
 -- ---- from left to split
