@@ -9,6 +9,7 @@
 //! The laws about the definitions are the contracts of empty functions.
 #![tactic(auto)]
 
+pub mod figures;
 mod judge;
 mod judge_sids;
 mod laws;

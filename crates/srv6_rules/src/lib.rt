@@ -12,6 +12,7 @@ pub mod chain_laws;
 pub mod compressed;
 mod compression;
 pub mod encapsulation;
+pub mod figures;
 pub mod header_laws;
 pub mod icmp;
 pub mod ip4;

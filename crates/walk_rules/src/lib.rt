@@ -7,6 +7,7 @@
 //! goes on from a SID, the next place, and how a walk ended.
 #![tactic(auto)]
 
+pub mod figures;
 mod laws;
 mod limits;
 mod next;
