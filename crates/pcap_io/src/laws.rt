@@ -3,7 +3,7 @@
 ghost use Rattle.std.specs.Prelude.{◌≡◌, ◌<◌, ◌≤◌, ◌+◌, ◌^◌, ℕ, suc, Bool, List, [], ◌∷◌, ◌++◌, length, drop, All, Ok};
 ghost use Rattle.std.specs.List.{flat_map};
 ghost use Rattle.pcap_io.specs.declared.head.CaptureHead.{CaptureHead};
-ghost use Rattle.pcap_io.specs.declared.numbers.TheConstants.{HEAD_LEN, MAX_FRAMES};
+ghost use Rattle.pcap_io.specs.declared.numbers.TheConstants.{HEAD_LEN, MAX_FRAMES, SNAPLEN, PIECE, MICROS_MAGIC, NANOS_MAGIC, PCAPNG_MAGIC, MAJOR, MINOR, ETHERNET, RAW_IP, IPV6, ETHERTYPE_V6, ETHERTYPE_V4};
 ghost use Rattle.srv6_rules.specs.declared.numbers.TheConstants.{MAX_PACKET_LEN};
 ghost use Rattle.pcap_io.specs.Head.{Unread, FitsHead, head_bytes, head_of};
 ghost use Rattle.pcap_io.specs.Frames.{Spelled, Fits, Reading, Splits, HoldsNoFrame, frame_bytes, frame_len, behind, by_version, with_front, numbered_from, frames_of};
@@ -79,4 +79,17 @@ pub fn written_captures_are_read()
         → frames_of written_head MAX_FRAMES 1 (drop HEAD_LEN
         (written_head_bytes ++ flat_map (frame_bytes written_head.little) frames))
         ≡ record { frames = numbered_from written_head.link 1 frames; rest = [] } }
+{}
+
+/// The figures of the format (libpcap's savefile): the head's 24 bytes, the magics of captures with
+/// microseconds and with nanoseconds, the first bytes of a pcapng file, version 2.4, the link types
+/// of Ethernet, of IP and of IPv6, and the EtherTypes of IPv6 (RFC 2464 section 3) and of IPv4 (RFC
+/// 894); and the own limits: 65,536 frames, pieces of 64 KiB, and the snaplen that is written.
+pub fn captures_have_their_figures()
+    ensures head { (HEAD_LEN ≡ 24) × (MICROS_MAGIC ≡ 0xa1b2c3d4)
+        × (NANOS_MAGIC ≡ 0xa1b23c4d) × (PCAPNG_MAGIC ≡ 0x0a0d0d0a) × (MAJOR ≡ 2)
+        × (MINOR ≡ 4) }
+    ensures links { (ETHERNET ≡ 1) × (RAW_IP ≡ 101) × (IPV6 ≡ 229)
+        × (ETHERTYPE_V6 ≡ 0x86dd) × (ETHERTYPE_V4 ≡ 0x0800) }
+    ensures limits { (MAX_FRAMES ≡ 65536) × (SNAPLEN ≡ 262144) × (PIECE ≡ 65536) }
 {}

@@ -20,8 +20,8 @@ pub use fault::{CaptureFault, CutFrame, FrameLimit, TakeFault};
 pub use frame::{Body, Frame, packet_in};
 pub use head::{CaptureHead, LinkType, link_of, read_head};
 pub use laws::{
-    frames_are_spelled, frames_do_not_depend_on_pieces, heads_are_spelled,
-    no_frame_is_spelled_there, spelled_frames_are_read, spelled_heads_are_read,
+    captures_have_their_figures, frames_are_spelled, frames_do_not_depend_on_pieces,
+    heads_are_spelled, no_frame_is_spelled_there, spelled_frames_are_read, spelled_heads_are_read,
     written_captures_are_read,
 };
 pub use lent::{LentBody, LentFrame};

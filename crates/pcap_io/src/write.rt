@@ -1,6 +1,7 @@
 //! The capture that is written.
 
-ghost use Rattle.std.specs.Prelude.{◌≡◌, ◌++◌, ◌≤◌, true, length, OnOk, OnErr};
+ghost use Rattle.std.specs.Prelude.{◌≡◌, ◌+◌, ◌<◌, ◌++◌, ◌≤◌, true, length, OnOk, OnErr};
+ghost use Rattle.std.specs.Vec.{vec_len, vec_capacity};
 ghost use Rattle.pcap_io.specs.Capture.{written_head_bytes, written_frame_bytes};
 ghost use Rattle.pcap_io.specs.Frames.{numbers_of_frame};
 
@@ -49,12 +50,16 @@ pub fn write_head(out: &mut Vec<u8>) -> Result<(), NoMemory>
 
 /// Writes the frame of a packet at the end: the packet's number as seconds, `link` as
 /// microseconds, the packet's length in bytes twice, and the packet. After want of memory nothing
-/// is written. (own rules)
+/// is written; none is wanting where there is room for the frame, and no room is given back. (own
+/// rules)
 pub fn write_frame(out: &mut Vec<u8>, number: u32, link: u32, packet: &[u8]) -> Result<(), NoMemory>
     requires { length packet.now ≤ MAX_PACKET_LEN }
     ensures ok { OnOk result (out.new.items
         ≡ out.old.items ++ written_frame_bytes number link packet.now) }
     ensures err { OnErr result (out.new.items ≡ out.old.items) }
+    ensures full { OnErr result
+        (vec_capacity out.old < vec_len out.old + (16 + length packet.now)) }
+    ensures room { vec_capacity out.old ≤ vec_capacity out.new }
 {
     let before = out.len();
     out.extend_from_slice(&frame_head(number, link, packet.len() as u32))?;
