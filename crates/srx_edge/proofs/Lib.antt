@@ -1,3 +1,4 @@
 pub mod Sends
 pub mod Takes
+pub mod Known
 pub mod PublicLaws

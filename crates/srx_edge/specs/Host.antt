@@ -1,6 +1,7 @@
--- What is seen of the adapters: what they stand on, and what they count. They tell nothing.
-use Rattle.std.specs.Prelude.{◌≡◌, ℕ, ◌<◌, ◌≤◌, false, List, length, None, Result, Ok, Err, ⊤}
+-- What is seen of the adapters: what they stand on, and what they count. Streams tell nothing.
+use Rattle.std.specs.Prelude.{◌≡◌, ℕ, ◌<◌, ◌≤◌, false, List, length, Option, None, Some, IfSome, IsSomeAnd, Result, Ok, Err, ⊤}
 use Rattle.std.specs.Global.{Vec}
+use Rattle.srx_edge.specs.Edge.{file_named}
 use Rattle.srx_edge.specs.FilesRead.{FilesSeen}
 use Rattle.srx_edge.specs.Sources.{SourceSeen}
 use Rattle.srx_edge.specs.Sinks.{SinkSeen}
@@ -12,8 +13,13 @@ use Rattle.srx_edge.specs.declared.host_files.HostFiles.{HostFiles}
 use Rattle.srx_edge.specs.declared.host_source.HostSource.{HostSource}
 use Rattle.srx_edge.specs.declared.host_sink.HostSink.{HostSink}
 
-abbrev pub host_files_seen : {R : Type 0} → HostFiles R → FilesSeen
-host_files_seen files = record { told = None; asked = None; faults = files.faults; stopped = files.stopped; sure = false }
+abbrev pub opener_of : {O : Type 0} → HostFiles O → O
+opener_of files = files.opener
+
+-- they tell what their opener tells
+abbrev pub host_files_seen : {O : Type 0} → (O → Option (List (List ℕ × List ℕ))) → HostFiles O → FilesSeen
+host_files_seen told files =
+    record { told = told files.opener; asked = None; faults = files.faults; stopped = files.stopped; sure = false }
 
 abbrev pub reader_of : {R : Type 0} → HostSource R → R
 reader_of source = source.reader
@@ -28,12 +34,13 @@ writer_of sink = sink.writer
 abbrev pub host_sink_seen : {W : Type 0} → HostSink W → SinkSeen
 host_sink_seen sink = record { held = None; faults = sink.faults; wants = 0; stopped = sink.stopped }
 
--- what is fetched of a file is within the limit, and a refusal names the limit
-abbrev pub Fetched : ℕ → Result (Vec ℕ) FileFault → Type 0
-Fetched limit (Ok bytes) = length bytes.items ≤ limit
-Fetched limit (Err faults.Failed) = ⊤
-Fetched limit (Err (faults.TooBig most)) = most ≡ limit
-Fetched limit (Err faults.NoMemory) = ⊤
+-- what is fetched of a file is within the limit, and is the file of this name where files are told; a refusal names the limit
+abbrev pub Fetched : List ℕ → ℕ → Option (List (List ℕ × List ℕ)) → Result (Vec ℕ) FileFault → Type 0
+Fetched name limit told (Ok bytes) = (length bytes.items ≤ limit) × IfSome told (λ files. file_named files name ≡ Some bytes.items)
+Fetched name limit told (Err faults.Failed) = ⊤
+Fetched name limit told (Err (faults.TooBig most)) =
+    (most ≡ limit) × IfSome told (λ files. IsSomeAnd (file_named files name) (λ bytes. limit < length bytes))
+Fetched name limit told (Err faults.NoMemory) = ⊤
 
 -- a write that takes no byte of a piece that isn't empty isn't answered as one that passed
 abbrev pub NeverStuck : List ℕ → Result ℕ SinkFault → Type 0
