@@ -1,5 +1,5 @@
-//! Tests of the crates from `base` to `policy_encap` that have to do with addresses, captures, files
-//! and headers in bytes, over what these crates make public: one file a crate, named for it.
+//! Tests of the crates from `base` to `policy_encap` that have to do with addresses, captures and
+//! headers in bytes, over what these crates make public: one file a crate, named for it.
 //! `packets` judges bytes that hold a packet and nothing else. Here they are proved once, and the
 //! crates aren't proved again with their tests.
 #![tactic(auto)]
@@ -34,7 +34,5 @@ mod prefix_table_tests;
 mod replace_csid_tests;
 #[cfg(test)]
 mod srh_codec_tests;
-#[cfg(test)]
-mod srx_edge_tests;
 #[cfg(test)]
 mod v6_addr_tests;
