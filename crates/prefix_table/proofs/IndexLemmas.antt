@@ -1,13 +1,15 @@
 -- The places of entries by the keys of their prefixes, and the lengths of keys.
-use Rattle.std.proofs.Common.{◌≡◌, ◌↔◌, ℕ, zero, suc, ◌+◌, ◌-◌, ◌/◌, ◌^◌, ◌<◌, ◌≤◌, ◌⊎◌, Bool, true, ◌==◌, ◌&&◌, cond, List, [], ◌∷◌, ◌++◌, length, get_or, slice_get, Option, Some, None, Contains, refl, sym, ap, ◌∙◌, subst, arith, inl, inr}
-use Rattle.std.specs.Prelude.{is_some, IsTrue}
+use Rattle.std.proofs.Common.{◌≡◌, ◌↔◌, ℕ, zero, suc, ◌+◌, ◌-◌, ◌/◌, ◌^◌, ◌<◌, ◌≤◌, ◌⊎◌, Bool, true, false, ◌==◌, ◌&&◌, cond, List, [], ◌∷◌, ◌++◌, length, get_or, slice_get, Option, Some, None, Contains, refl, sym, ap, ◌∙◌, subst, arith, inl, inr}
+use Rattle.std.specs.Prelude.{is_some, nat_lt, if◌then◌else◌, option_map, map, IsTrue}
 use Rattle.std.specs.declared.cmp.Ordering.{Ordering}
 use Rattle.std.specs.declared.cmp.Ordering.TheVariants.{Less, Equal, Greater}
 use Rattle.std.specs.Ordering.{nat_cmp, ordering_then, is_eq}
-use Rattle.std.specs.List.{insert}
+use Rattle.std.specs.List.{insert, remove}
+use Rattle.std.specs.BTreeMap.{BTreeMap}
 use Rattle.std.specs.BTreeMap as map
 use Rattle.std.specs.Map.{lookup}
-use Rattle.std.proofs.lemmas.Bool.{cases_Bool, cases_lt, cases_eq, both_ways, and_parts, eqb-true, false≢true}
+use Rattle.std.proofs.lemmas.Map.Made.{lookup-map_values}
+use Rattle.std.proofs.lemmas.Bool.{cases_Bool, cases_lt, cases_eq, both_ways, and_parts, and_from, eqb-true, eq-eqb, false≢true}
 use Rattle.std.proofs.lemmas.Bool.Decides.{nat_tests}
 use Rattle.std.proofs.lemmas.List.Edits.{length-insert, get_or-insert_at, get_or-insert_below, get_or-insert_above}
 use Rattle.std.proofs.lemmas.Option.{none-some, slice_get-get_or, slice_get_within, get_or_from_slice_get}
@@ -16,7 +18,7 @@ use Rattle.v6_addr.proofs.PublicLaws.{same_value, Holds_own_value}
 use Rattle.prefix_table.specs.declared.index.Key.{Key}
 use Rattle.prefix_table.specs.declared.index.Index.{Index}
 use Rattle.prefix_table.specs.Table.{HasPrefix, IsTable, HoldsNone, IsBest, HasAround}
-use Rattle.prefix_table.specs.Index.{key_cmp, key_at, key_of, place_at, AreFalling, HasLength, Keeps, AreLengths, HasNoKey, IsLongest, HasBelow, HasShorter, IsIndex, IsWhole}
+use Rattle.prefix_table.specs.Index.{key_cmp, key_at, key_of, place_at, AreFalling, HasLength, Keeps, AreLengths, HasNoKey, IsLongest, HasBelow, HasShorter, closed, ClosesGap, IsIndex, IsWhole}
 use Rattle.prefix_table.proofs.TableLemmas.{same_prefix, is_table_push}
 
 -- ---- keys
@@ -35,10 +37,13 @@ key_is k q =
     ∙ (ap (λ b. b && is_eq (nat_cmp k.bits q.bits)) (number_is_eq k.len q.len)
     ∙ ap (λ b. (k.len == q.len) && b) (number_is_eq k.bits q.bits))
 
-key_same : (k q : Key) → is_eq (key_cmp k q) ≡ true → k ≡ q
+pub key_same : (k q : Key) → is_eq (key_cmp k q) ≡ true → k ≡ q
 key_same k q is =
     let parts = and_parts (k.len == q.len) (k.bits == q.bits) (sym (key_is k q) ∙ is) in
     λ i. record { len = eqb-true k.len q.len parts.0 i; bits = eqb-true k.bits q.bits parts.1 i }
+
+pub key_self : (k : Key) → is_eq (key_cmp k k) ≡ true
+key_self k = key_is k k ∙ and_from (k.len == k.len) (k.bits == k.bits) (eq-eqb k.len k.len refl) (eq-eqb k.bits k.bits refl)
 
 -- ---- the list of lengths
 
@@ -178,13 +183,51 @@ lengths_kept old new are falling keeps same = record {
   each = λ k i is. keeps k.len (are.each k i (sym (same_places old new same k) ∙ is));
 }
 
+-- ---- a key is taken out
+
+gap_of : (b : Bool) (gone : ℕ) (o : Option ℕ) → option_map (closed gone) (cond b None o) ≡ cond b None (option_map (closed gone) o)
+gap_of true gone o = refl
+gap_of false gone o = refl
+
+pub closes_gap : (old new : Index) (mid : BTreeMap Key ℕ) (key : Key) (gone : ℕ) → map.Updates key_cmp old.places mid key None
+    → new.places.entries ≡ map (λ (e : Key × ℕ). (e.0, closed gone e.1)) mid.entries → ClosesGap old new key gone
+closes_gap old new mid key gone update is k =
+    let there : place_at new k ≡ option_map (closed gone) (map.get key_cmp mid k) =
+    ap (lookup (λ q. is_eq (key_cmp k q))) is ∙ lookup-map_values (closed gone) (λ q. is_eq (key_cmp k q)) mid.entries in
+    there ∙ (ap (option_map (closed gone)) (update.0 k) ∙ gap_of (is_eq (key_cmp key k)) gone (place_at old k))
+
+-- what has a place when the gap is closed had one before, and isn't the key that was taken out
+abbrev pub ComesFrom : Index → Key → ℕ → Key → ℕ → Type 0
+ComesFrom old key gone k i = (is_eq (key_cmp key k) ≡ false) × ((m : ℕ) × (place_at old k ≡ Some m) × (closed gone m ≡ i))
+
+came_from : (gone i : ℕ) (o : Option ℕ) → option_map (closed gone) o ≡ Some i → (m : ℕ) × (o ≡ Some m) × (closed gone m ≡ i)
+came_from gone i None e = absurd (none-some i e)
+came_from gone i (Some m) e = (m, refl, cc)
+
+pub gap_cases : (old new : Index) (key k : Key) (gone i : ℕ) → ClosesGap old new key gone → place_at new k ≡ Some i
+    → ComesFrom old key gone k i
+gap_cases old new key k gone i closes is =
+    elim (cases_Bool (is_eq (key_cmp key k))) [
+      | inl here ↦ let none : place_at new k ≡ None = rw here at (closes k) in absurd (none-some i (sym none ∙ is))
+      | inr apart ↦ let got : place_at new k ≡ option_map (closed gone) (place_at old k) = rw apart at (closes k) in
+          (apart, came_from gone i (place_at old k) (sym got ∙ is))
+    ]
+
+pub lengths_taken : (old new : Index) (key : Key) (gone : ℕ) → AreLengths old → new.lengths.items ≡ old.lengths.items
+    → ClosesGap old new key gone → AreLengths new
+lengths_taken old new key gone are same closes = record {
+  falling = subst AreFalling (sym same) are.falling;
+  each = λ k i is. let was = (gap_cases old new key k gone i closes is).1 in
+      subst (λ ls. HasLength ls k.len) (sym same) (are.each k was.0 was.1);
+}
+
 -- ---- the longest key of an address
 
 -- none of the keys of the first lengths has a place
 abbrev pub HasNoneBefore : Index → ℕ → ℕ → Type 0
 HasNoneBefore index a n = (i : ℕ) → i < n → place_at index (key_at a (get_or index.lengths.items i 0)) ≡ None
 
-known : (o : Option ℕ) → ((i : ℕ) → o ≡ Some i → ⊥) → o ≡ None
+pub known : (o : Option ℕ) → ((i : ℕ) → o ≡ Some i → ⊥) → o ≡ None
 known None never = refl
 known (Some i) never = absurd (never i refl)
 
@@ -231,10 +274,10 @@ longest_none index a n are all none len =
 
 -- ---- entries
 
-place_of : {X : Type 0} (xs : List X) (x : X) → Contains xs x → (k : ℕ) × (slice_get xs k ≡ Some x)
+pub place_of : {X : Type 0} (xs : List X) (x : X) → Contains xs x → (k : ℕ) × (slice_get xs k ≡ Some x)
 place_of xs x c = (c.0, slice_get-get_or xs c.0 x c.1 ∙ ap Some c.2)
 
-contains_at : {X : Type 0} (xs : List X) (x : X) (k : ℕ) → slice_get xs k ≡ Some x → Contains xs x
+pub contains_at : {X : Type 0} (xs : List X) (x : X) (k : ℕ) → slice_get xs k ≡ Some x → Contains xs x
 contains_at xs x k e = (k, slice_get_within xs k x e, get_or_from_slice_get xs k x x e)
 
 get_left : {X : Type 0} (xs : List X) (y x : X) (k : ℕ) → slice_get xs k ≡ Some x → slice_get (xs ++ y ∷ []) k ≡ Some x
@@ -268,7 +311,7 @@ key_by_holds : (p : PrefixValue) (a : ℕ) → Holds p a → key_of p ≡ key_at
 unfolding Holds
 key_by_holds p a held = λ i. record { len = p.len; bits = sym held i }
 
-one_prefix : (p q : PrefixValue) → IsPrefix p → IsPrefix q → key_of p ≡ key_of q → p ≡ q
+pub one_prefix : (p q : PrefixValue) → IsPrefix p → IsPrefix q → key_of p ≡ key_of q → p ≡ q
 one_prefix p q is_p is_q same =
     let len : p.len ≡ q.len = ap (λ (k : Key). k.len) same in
     same_prefix p q (same_value p q q.value is_p is_q len (holds_by_key p q.value q.len same) (Holds_own_value q)) len
@@ -304,7 +347,7 @@ module _ {T : Type 0} where
 
   -- ---- whether a prefix is there
 
-  has_by_place : (es : List (PrefixValue × T)) (index : Index) (p : PrefixValue) (i : ℕ) → IsTable es → IsIndex es index → IsPrefix p
+  pub has_by_place : (es : List (PrefixValue × T)) (index : Index) (p : PrefixValue) (i : ℕ) → IsTable es → IsIndex es index → IsPrefix p
       → place_at index (key_of p) ≡ Some i → HasPrefix es p
   has_by_place es index p i table is is_prefix at =
       let it = is.leads (key_of p) i at in

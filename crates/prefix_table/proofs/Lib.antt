@@ -1,3 +1,5 @@
 pub mod TableLemmas
 pub mod IndexLemmas
+pub mod EditLemmas
+pub mod TakeLemmas
 pub mod PublicLaws

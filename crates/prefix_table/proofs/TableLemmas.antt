@@ -8,17 +8,17 @@ use Rattle.v6_addr.specs.Address.{PrefixValue, IsPrefix, Holds}
 use Rattle.v6_addr.proofs.PublicLaws.{same_value}
 use Rattle.prefix_table.specs.Table.{HasPrefix, EachOnce, IsTable, IsBest, IsBestMatch, IsBetter}
 
-contains_none : {X : Type 0} (x : X) → Contains [] x → ⊥
+pub contains_none : {X : Type 0} (x : X) → Contains [] x → ⊥
 contains_none x c = omega (arith, c.1)
 
-contains_cases : {X : Type 0} (y : X) (ys : List X) (x : X) → Contains (y ∷ ys) x → (y ≡ x) ⊎ Contains ys x
+pub contains_cases : {X : Type 0} (y : X) (ys : List X) (x : X) → Contains (y ∷ ys) x → (y ≡ x) ⊎ Contains ys x
 contains_cases y ys x (zero, within, is) = inl is
 contains_cases y ys x (suc k, within, is) = inr (k, omega arith, is)
 
-contains_first : {X : Type 0} (y : X) (ys : List X) → Contains (y ∷ ys) y
+pub contains_first : {X : Type 0} (y : X) (ys : List X) → Contains (y ∷ ys) y
 contains_first y ys = (zero, omega arith, refl)
 
-contains_later : {X : Type 0} (y : X) (ys : List X) (x : X) → Contains ys x → Contains (y ∷ ys) x
+pub contains_later : {X : Type 0} (y : X) (ys : List X) (x : X) → Contains ys x → Contains (y ∷ ys) x
 contains_later y ys x c = (suc c.0, omega (arith, c.1), c.2)
 
 pub same_prefix : (p q : PrefixValue) → p.value ≡ q.value → p.len ≡ q.len → p ≡ q
@@ -26,7 +26,7 @@ same_prefix p q value len = λ i. record { value = value i; len = len i }
 
 module _ {T : Type 0} where
   -- an entry whose prefix is known by a path
-  has_by : (xs : List (PrefixValue × T)) (e : PrefixValue × T) (p : PrefixValue) → Contains xs e → e.0 ≡ p → HasPrefix xs p
+  pub has_by : (xs : List (PrefixValue × T)) (e : PrefixValue × T) (p : PrefixValue) → Contains xs e → e.0 ≡ p → HasPrefix xs p
   has_by xs e p c same = (e.1, subst (λ q. Contains xs (q, e.1)) same c)
 
   -- ---- one entry more

@@ -1,7 +1,7 @@
 -- Where the entries of a table stand, by the lengths and the first bits of their prefixes.
-use Rattle.std.specs.Prelude.{◌≡◌, ℕ, ◌-◌, ◌/◌, ◌^◌, ◌<◌, ◌≤◌, List, length, slice_get, slice_index, Option, Some, None, IsSome}
+use Rattle.std.specs.Prelude.{◌≡◌, ℕ, ◌-◌, ◌/◌, ◌^◌, ◌<◌, ◌≤◌, nat_lt, if◌then◌else◌, cond, option_map, List, length, slice_get, slice_index, Option, Some, None, IsSome}
 use Rattle.std.specs.declared.cmp.Ordering.{Ordering}
-use Rattle.std.specs.Ordering.{nat_cmp, ordering_then}
+use Rattle.std.specs.Ordering.{nat_cmp, ordering_then, is_eq}
 use Rattle.std.specs.BTreeMap as map
 use Rattle.v6_addr.specs.Address.{PrefixValue}
 use Rattle.prefix_table.specs.declared.index.Key.{Key}
@@ -55,6 +55,15 @@ HasBelow index a len other = (other < len) × IsSome (place_at index (key_at a o
 
 abbrev pub HasShorter : Index → ℕ → ℕ → Type 0
 HasShorter index a len = (other : ℕ) × HasBelow index a len other
+
+-- where an entry stands once the entry at a place is gone: those behind it come one down
+abbrev pub closed : ℕ → ℕ → ℕ
+closed gone place = if nat_lt gone place then place - 1 else place
+
+-- a key has lost its place, and those behind it have come one down
+abbrev pub ClosesGap : Index → Index → Key → ℕ → Type 0
+ClosesGap old new key gone =
+    (k : Key) → place_at new k ≡ cond (is_eq (key_cmp key k)) None (option_map (closed gone) (place_at old k))
 
 -- each entry has the place of its prefix's key, and each place is that of an entry with the key
 pub record IsIndex {T : Type 0} (entries : List (PrefixValue × T)) (index : Index) : Type 0 where

@@ -1,5 +1,5 @@
 -- A table of prefixes as a plain list of pairs, each a prefix and its value, in the order of insertion.
-use Rattle.std.specs.Prelude.{◌≡◌, ℕ, ◌<◌, ◌≤◌, List, [], ◌∷◌, Option, Some, None, Contains}
+use Rattle.std.specs.Prelude.{◌≡◌, ℕ, Bool, ◌<◌, ◌≤◌, ◌==◌, ◌&&◌, if◌then◌else◌, List, [], ◌∷◌, Option, Some, None, Contains}
 use Rattle.v6_addr.specs.Address.{PrefixValue, IsPrefix, Holds, IsInside}
 use Rattle.prefix_table.specs.declared.fault.TableFault.{TableFault}
 use Rattle.prefix_table.specs.declared.fault.TableFault.TheVariants.{Taken, NoMemory}
@@ -7,6 +7,25 @@ use Rattle.prefix_table.specs.declared.fault.TableFault.TheVariants.{Taken, NoMe
 -- a prefix is that of one of the entries
 abbrev pub HasPrefix : {T : Type 0} → List (PrefixValue × T) → PrefixValue → Type 0
 HasPrefix {T} entries p = (t : T) × Contains entries (p, t)
+
+-- two prefixes are one
+abbrev pub is_one_prefix : PrefixValue → PrefixValue → Bool
+is_one_prefix p q = (p.value == q.value) && (p.len == q.len)
+
+-- the value of a prefix
+abbrev pub value_at : {T : Type 0} → List (PrefixValue × T) → PrefixValue → Option T
+value_at [] p = None
+value_at (e ∷ es) p = if is_one_prefix e.0 p then Some e.1 else value_at es p
+
+-- the entries of the other prefixes, in their order
+abbrev pub without : {T : Type 0} → List (PrefixValue × T) → PrefixValue → List (PrefixValue × T)
+without [] p = []
+without (e ∷ es) p = if is_one_prefix e.0 p then without es p else e ∷ without es p
+
+-- the entries with a value in place of that of a prefix; where the prefix isn't there nothing changes
+abbrev pub with_value : {T : Type 0} → List (PrefixValue × T) → PrefixValue → T → List (PrefixValue × T)
+with_value [] p t = []
+with_value (e ∷ es) p t = if is_one_prefix e.0 p then (e.0, t) ∷ with_value es p t else e ∷ with_value es p t
 
 -- each prefix stands once: none stands again after its entry
 abbrev pub EachOnce : {T : Type 0} → List (PrefixValue × T) → Type 0

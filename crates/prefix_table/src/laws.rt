@@ -1,8 +1,8 @@
 //! Laws of the definitions: each is the contract of an empty function.
 
-ghost use Rattle.std.specs.Prelude.{◌≡◌, ℕ, List, [], ◌∷◌, ◌++◌, Option, Some};
+ghost use Rattle.std.specs.Prelude.{◌≡◌, ◌↔◌, ℕ, true, List, [], ◌∷◌, ◌++◌, if◌then◌else◌, Option, Some, None, IsSome, Contains};
 ghost use Rattle.v6_addr.specs.Address.{PrefixValue};
-ghost use Rattle.prefix_table.specs.Table.{IsTable, IsBest, IsBestMatch, IsBetter};
+ghost use Rattle.prefix_table.specs.Table.{IsTable, HasPrefix, IsBest, IsBestMatch, IsBetter, is_one_prefix, value_at, without, with_value};
 
 /// A law: since each prefix stands once, the longest entry that holds an address is one (RFC 1812
 /// section 5.2.4.3, rule 2).
@@ -20,4 +20,32 @@ pub fn best_with_one_more<T>()
     ensures no_better { (entries : List (PrefixValue × T)) (a : ℕ) (e : PrefixValue × T)
         (best : Option (PrefixValue × T)) → IsBestMatch entries a best → ¬ IsBetter best a e
         → IsBestMatch (entries ++ e ∷ []) a best }
+{}
+
+/// A law: a table has a value at the prefixes of its entries alone, and it is the entry's (own
+/// rule).
+pub fn values_are_of_entries<T>()
+    ensures one { (p q : PrefixValue) → is_one_prefix p q ≡ true ↔ p ≡ q }
+    ensures there { (entries : List (PrefixValue × T)) (p : PrefixValue)
+        → IsSome (value_at entries p) ↔ HasPrefix entries p }
+    ensures value { (entries : List (PrefixValue × T)) (p : PrefixValue) (t : T) → IsTable entries
+        → Contains entries (p, t) → value_at entries p ≡ Some t }
+{}
+
+/// A law: an entry more, an entry less and another value change what stands at that prefix alone,
+/// and leave a table (own rule).
+pub fn edits_change_one_prefix<T>()
+    ensures more { (entries : List (PrefixValue × T)) (p q : PrefixValue) (t : T)
+        → ¬ HasPrefix entries p → value_at (entries ++ (p, t) ∷ []) q
+        ≡ (if is_one_prefix p q then Some t else value_at entries q) }
+    ensures less { (entries : List (PrefixValue × T)) (p q : PrefixValue)
+        → value_at (without entries p) q
+        ≡ (if is_one_prefix p q then None else value_at entries q) }
+    ensures other { (entries : List (PrefixValue × T)) (p q : PrefixValue) (t : T)
+        → HasPrefix entries p → value_at (with_value entries p t) q
+        ≡ (if is_one_prefix p q then Some t else value_at entries q) }
+    ensures less_is_table { (entries : List (PrefixValue × T)) (p : PrefixValue) → IsTable entries
+        → IsTable (without entries p) }
+    ensures other_is_table { (entries : List (PrefixValue × T)) (p : PrefixValue) (t : T)
+        → IsTable entries → IsTable (with_value entries p t) }
 {}

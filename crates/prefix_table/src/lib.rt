@@ -10,5 +10,5 @@ mod laws;
 mod table;
 
 pub use fault::TableFault;
-pub use laws::{best_is_one, best_with_one_more};
+pub use laws::{best_is_one, best_with_one_more, edits_change_one_prefix, values_are_of_entries};
 pub use table::Table;

@@ -4,7 +4,7 @@ ghost use Rattle.std.specs.Prelude.{◌≡◌, ℕ, ◌<◌, ◌≤◌, ◌↔�
 ghost use Rattle.std.specs.Vec.{vec_len, vec_capacity};
 ghost use Rattle.std.specs.BTreeMap as map;
 ghost use Rattle.v6_addr.specs.Address.{PrefixValue};
-ghost use Rattle.prefix_table.specs.Table.{HasPrefix, InsertFails, IsTable, HoldsNone, IsBest, HasAround};
+ghost use Rattle.prefix_table.specs.Table.{HasPrefix, InsertFails, IsTable, HoldsNone, IsBest, HasAround, value_at, without, with_value};
 ghost use Rattle.prefix_table.specs.Index.{key_cmp, place_at, AreLengths};
 ghost use Rattle.prefix_table.specs.declared.index.Key.{Key};
 
@@ -101,6 +101,38 @@ impl<T> Table<T> {
             Ok(()) => {
                 self.entries.push((p, t))?;
                 Ok(())
+            }
+        }
+    }
+
+    /// Takes the entry with a prefix out, and gives its value; the others stay in their order (own
+    /// rule). `None` exactly where the prefix is not there. It takes no memory.
+    pub fn remove(&mut self, p: &Prefix) -> Option<T>
+    where
+        T: Drop,
+        ensures value { result ≡ value_at self.old p.now }
+        ensures others { self.new ≡ without self.old p.now }
+    {
+        match self.index.take(key_of(*p)) {
+            None => None,
+            Some(place) => Some(self.entries.remove(place).1),
+        }
+    }
+
+    /// Puts a value in place of that of a prefix, and gives the old one (own rule). `None` exactly
+    /// where the prefix is not there, and then nothing changes. It takes no memory.
+    pub fn replace(&mut self, p: &Prefix, t: T) -> Option<T>
+    where
+        T: Copy + Drop,
+        ensures value { result ≡ value_at self.old p.now }
+        ensures entries { self.new ≡ with_value self.old p.now t }
+    {
+        match self.index.place(key_of(*p)) {
+            None => None,
+            Some(place) => {
+                let old = self.entries[place].1;
+                self.entries[place] = (*p, t);
+                Some(old)
             }
         }
     }
