@@ -1,6 +1,6 @@
 //! A packet's bytes with spare room in front of them.
 
-ghost use Rattle.std.specs.Prelude.{◌≡◌, ◌+◌, ◌-◌, ◌<◌, ◌≤◌, ◌++◌, [], length, take, drop, replicate, slice_set, IfOk, OnOk, OnErr};
+ghost use Rattle.std.specs.Prelude.{◌≡◌, ◌+◌, ◌-◌, ◌<◌, ◌≤◌, ◌++◌, [], length, max, take, drop, replicate, slice_set, IfOk, OnOk, OnErr};
 
 use base::NoMemory;
 use srv6_rules::numbers::MAX_PACKET_LEN;
@@ -124,11 +124,12 @@ impl PktBuf {
         self.front = front;
     }
 
-    /// Gives at least so many spare bytes in front; the packet's bytes stay. Where as many are
-    /// spare nothing changes and no memory is taken. With want of memory nothing changes either
-    /// (own rule).
+    /// Gives at least so many spare bytes in front, and no more where fewer are spare; the packet's
+    /// bytes stay. Where as many are spare nothing changes and no memory is taken. With want of
+    /// memory nothing changes either (own rule).
     pub fn reserve_front(&mut self, n: usize) -> Result<(), NoMemory>
         ensures room { OnOk result (n ≤ self.new.front) }
+        ensures front { OnOk result (self.new.front ≡ max n self.old.front) }
         ensures bytes { self.new.bytes ≡ self.old.bytes }
         ensures enough { n ≤ self.old.front → self.new ≡ self.old }
         ensures err { OnErr result (self.new ≡ self.old) }
