@@ -1,6 +1,6 @@
 -- A policy's header put in front of a packet in its own bytes, at a SID that binds the policy.
-use Rattle.std.proofs.Common.{◌≡◌, ℕ, ◌+◌, ◌*◌, ◌<◌, ◌≤◌, Bool, true, false, nat_lt, if◌then◌else◌, List, Option, Some, None, length, slice_get, refl, sym, ap, subst, ◌∙◌, arith, inl, inr}
-use Rattle.std.specs.Prelude.{Ok, Err}
+use Rattle.std.proofs.Common.{◌≡◌, ℕ, ◌+◌, ◌<◌, ◌≤◌, Bool, true, false, nat_lt, List, Some, length, slice_get, refl, sym, ap, ◌∙◌, arith, inl, inr}
+use Rattle.std.specs.Prelude.{Err}
 use Rattle.std.proofs.lemmas.Bool.{cases_Bool}
 use Rattle.srv6_rules.specs.declared.numbers.TheConstants.{MAX_PACKET_LEN}
 use Rattle.srv6_rules.specs.declared.policy.Policy.{Policy}
@@ -52,20 +52,18 @@ onward-most s allow bytes q len alone is long =
     let most = alone-most bytes alone in
     omega arith
 
-same-packet : (p q : Packet) → Onward p ≡ Onward q → p ≡ q
+pub same-packet : (p q : Packet) → Onward p ≡ Onward q → p ≡ q
 same-packet p q e = cc
 
 pub big-after : (e : Endpoint) (policy : Policy) (reduced : Bool) (q outer : Packet) (big : Bool) → e ≡ Onward q
-    → pushed_by policy reduced families.V6 (spelling q) ≡ judged_by big outer → IsBigAfter e policy reduced big
+    → pushed_by policy reduced families.V6 (spelling q) ≡ judged_by big outer → IsBigAfter e policy reduced (Some big)
 big-after e policy reduced q outer true is by = (q, (is, (length outer.payload, by)))
-big-after e policy reduced q outer false is by = λ x on.
-    let P : Packet → Type 0 = λ y. (o : Packet) × (pushed_by policy reduced families.V6 (spelling y) ≡ Outer o) in
-    subst P (same-packet q x (sym is ∙ on)) (outer, by)
+big-after e policy reduced q outer false is by = (q, (is, (outer, by)))
 
 -- and then it is dropped
 pub dropped-big : (net : Network) (node n : ℕ) (s : SidEntry) (allow : List ℕ) (p : Packet) (number : ℕ) (named : NamedPolicy)
     (policy : Policy) → behaviour_policy s.behaviour ≡ Some number → slice_get net.policies number ≡ Some named → policy ≡ named.policy
-    → IsBigAfter (at_sid s allow p) policy (behaviour_reduces s.behaviour) true
+    → IsBigAfter (at_sid s allow p) policy (behaviour_reduces s.behaviour) (Some true)
     → dropped net node reasons.TooBig 0 (V6 p) ≡ treated_at_sid net node n s.behaviour p (at_sid s allow p)
 dropped-big net node n s allow p number named policy binds there is big =
     let q : Packet = big.0 in

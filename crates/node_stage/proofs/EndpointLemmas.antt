@@ -9,7 +9,7 @@ use Rattle.srv6_rules.specs.declared.sid.Csid.{Csid}
 use Rattle.srv6_rules.specs.declared.sid.Csid.TheVariants as csids
 use Rattle.srv6_rules.specs.declared.sid.SidEntry.{SidEntry}
 use Rattle.srv6_rules.specs.CompressedSteps.{is_next}
-use Rattle.srv6_rules.specs.Endpoint.{Endpoint, Onward, Delivered, at_sid}
+use Rattle.srv6_rules.specs.Endpoint.{Endpoint, Onward, Exposed, Delivered, Refused, at_sid}
 use Rattle.srv6_rules.specs.Packet.{Packet, Content, V6, Spells, content_of, packet_at, spelling}
 use Rattle.srv6_rules.specs.declared.numbers.TheConstants.{MAX_PACKET_LEN}
 use Rattle.srv6_rules.proofs.PublicLaws.{length-spelling}
@@ -18,12 +18,13 @@ use Rattle.net_model.specs.Keeps.{Keeps}
 use Rattle.net_model.specs.declared.parts.NamedPolicy.{NamedPolicy}
 use Rattle.net_model.specs.declared.parts.Node.{Node}
 use Rattle.walk_rules.specs.declared.place.Outcome.TheVariants as outcomes
-use Rattle.walk_rules.specs.Treatment.{Gave, goes, onward_from, allow_of, pushed_at_sid, bound_at_sid, onward_at_sid, treated_at_sid, treated_in}
+use Rattle.walk_rules.specs.Treatment.{Gave, goes, judged, onward_from, allow_of, pushed_at_sid, bound_at_sid, onward_at_sid, treated_at_address, treated_at_sid, treated_in}
 use Rattle.endpoint_chain.specs.declared.outcome.EndOutcome.{EndOutcome}
 use Rattle.endpoint_chain.specs.declared.outcome.EndOutcome.TheVariants as ends
 use Rattle.endpoint_chain.specs.Outcomes.{Leaves, ComesOf}
 use Rattle.policy_encap.specs.Answers.{Makes}
 use Rattle.node_stage.specs.declared.staged.Staged.{Staged}
+use Rattle.node_stage.specs.Fronted.{FrontedContent}
 use Rattle.node_stage.specs.Staging.{Stages}
 use Rattle.node_stage.proofs.ReadingLemmas.{spells-content}
 
@@ -120,8 +121,15 @@ sid-treated net node n s m allow p there at is =
     ap (λ (a : List ℕ). treated_at_sid net node n s.behaviour p (at_sid s a p)) by
     ∙ sym (ap (λ (o : Option SidEntry). treated_in net node n o p) there)
 
--- what is given of a packet of another name
-pub stages-as : (net : Network) (node : ℕ) (p q : Packet) (r : Result Staged Content) (gave other : Gave) → p ≡ q → gave ≡ other
-    → Stages net node (V6 p) r gave → Stages net node (V6 q) r other
-stages-as net node p q r gave other same is h =
-    subst (λ (g : Gave). Stages net node (V6 q) r g) is (subst (λ (x : Packet). Stages net node (V6 x) r gave) same h)
+-- what is given is what is to be given
+pub stages-as : (net : Network) (node : ℕ) (before : FrontedContent) (r : Result Staged FrontedContent) (gave other : Gave) → gave ≡ other
+    → Stages net node before r gave → Stages net node before r other
+stages-as net node before r gave other is h = let P : Gave → Type 0 = λ g. Stages net node before r g in subst P is h
+
+-- nothing is sent from an address, so that no MTU is judged
+pub own-judged : (net : Network) (node : ℕ) (p : Packet) (e : Endpoint)
+    → judged net node (V6 p) (treated_at_address net node p e) ≡ treated_at_address net node p e
+own-judged net node p (Onward q) = refl
+own-judged net node p (Exposed family bytes) = refl
+own-judged net node p (Delivered q) = refl
+own-judged net node p (Refused reason at) = refl

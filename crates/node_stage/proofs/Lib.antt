@@ -3,3 +3,4 @@ pub mod ReadingLemmas
 pub mod ReadingLemmas4
 pub mod EndpointLemmas
 pub mod StageLemmas
+pub mod FrontLemmas

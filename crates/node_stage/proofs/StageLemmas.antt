@@ -51,7 +51,7 @@ told_step net place content taken choice told slot same h =
     tells_same told slot (step_of net place taken choice) (step_of net place content choice) (ap (λ c. step_of net place c choice) same) h
 
 gave_is : (told : Told) (slot : List ℕ) (step : Gave) → Tells told slot step
-    → let gave : Gave = record { outcome = told.outcome; after = told.after; error = step.error } in gave ≡ step
+    → let gave : Gave = record { outcome = told.outcome; after = told.after.content; error = step.error } in gave ≡ step
 gave_is told slot step h = rw (h.0, h.1) refl
 
 module _ (net : Network) (place : Place) (content : Content) (choice : ℕ) (told : Told) (slot : List ℕ) where
@@ -59,12 +59,12 @@ module _ (net : Network) (place : Place) (content : Content) (choice : ℕ) (tol
   step = step_of net place content choice
 
   abbrev gave : Gave
-  gave = record { outcome = told.outcome; after = told.after; error = step.error }
+  gave = record { outcome = told.outcome; after = told.after.content; error = step.error }
 
   pub told_tells : Tells told slot step → TellsOfError told.outcome step.error
   told_tells h = subst (λ (o : Outcome). TellsOfError o step.error) (sym h.0) (step-tells net place content choice)
 
-  pub told_relation : Keeps net → IsPlace net place → Tells told slot step → IsStage net place content told.outcome told.after step.error
+  pub told_relation : Keeps net → IsPlace net place → Tells told slot step → IsStage net place content told.outcome told.after.content step.error
   told_relation keeps is h = stage_of_relation net place content choice gave keeps is (gave_is told slot step h)
 
   pub told_place : Keeps net → IsPlace net place → Tells told slot step → IfSome (next_place net place told.outcome) (IsPlace net)

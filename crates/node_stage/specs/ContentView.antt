@@ -1,9 +1,10 @@
--- The content that a `Content` holds.
+-- What is held at a node in a buffer: a packet, or bytes that do not read as one, and how many bytes are spare in front.
 use Rattle.srv6_rules.specs.Packet as packets
-use Rattle.node_stage.specs.declared.content.Held.{Held}
-use Rattle.node_stage.specs.declared.content.Held.TheVariants.{V6, V4, Unreadable}
+use Rattle.node_stage.specs.declared.content_buf.Held.{Held}
+use Rattle.node_stage.specs.declared.content_buf.Held.TheVariants.{V6, V4, Unreadable}
+use Rattle.node_stage.specs.Fronted.{FrontedContent}
 
-abbrev pub content_view : Held → packets.Content
-content_view (V6 p) = packets.V6 p
-content_view (V4 p) = packets.V4 p
-content_view (Unreadable bytes reason) = packets.Unreadable bytes.bytes reason
+abbrev pub content_view : Held → FrontedContent
+content_view (V6 p) = record { content = packets.V6 p.packet; front = p.front }
+content_view (V4 p) = record { content = packets.V4 p.packet; front = p.front }
+content_view (Unreadable bytes reason) = record { content = packets.Unreadable bytes.bytes reason; front = bytes.front }

@@ -1,5 +1,5 @@
 -- What a stage of the code gives and tells.
-use Rattle.std.specs.Prelude.{◌≡◌, ℕ, Bool, true, false, List, [], is_some, Result, Ok, Err}
+use Rattle.std.specs.Prelude.{◌≡◌, ◌≢◌, ℕ, ◌<◌, Bool, true, false, List, is_some, Option, Some, None, Result, Ok, Err}
 use Rattle.srv6_rules.specs.declared.sid.Reason.{Reason}
 use Rattle.srv6_rules.specs.declared.policy.Policy.{Policy}
 use Rattle.srv6_rules.specs.declared.sid.Family.TheVariants as families
@@ -10,14 +10,25 @@ use Rattle.net_model.specs.Network.{Network}
 use Rattle.walk_rules.specs.declared.place.Outcome.TheVariants as outcomes
 use Rattle.walk_rules.specs.Treatment.{Gave, dropped, error_from, goes}
 use Rattle.icmp6_errors.specs.Answer.{error_bytes}
+use Rattle.policy_encap.specs.declared.headers.TheConstants.{MAX_FRONT}
+use Rattle.node_stage.specs.Fronted.{FrontedContent, front_after}
 use Rattle.node_stage.specs.declared.error.Told.{Told}
 use Rattle.node_stage.specs.declared.staged.Staged.{Staged}
 use Rattle.node_stage.specs.declared.staged.Staged.TheVariants.{Goes, Drops}
 
 -- what a stage at a node of a network gives
 abbrev pub gave_of : Network → ℕ → Staged → Gave
-gave_of net node (Goes outcome after) = goes outcome after
-gave_of net node (Drops reason detail content) = dropped net node reason detail content
+gave_of net node (Goes outcome after) = goes outcome after.content
+gave_of net node (Drops reason detail content) = dropped net node reason detail content.content
+
+-- as many are spare in front as are after a stage of what stood there before
+abbrev pub FrontOf : Network → ℕ → FrontedContent → Staged → Type 0
+FrontOf net node before (Goes outcome after) = after.front ≡ front_after net node before outcome
+FrontOf net node before (Drops reason detail content) = content.front ≡ before.front
+
+-- what a stage gives, and what is spare after it
+abbrev pub StagesAll : Network → ℕ → FrontedContent → Staged → Gave → Type 0
+StagesAll net node before staged gave = (gave_of net node staged ≡ gave) × FrontOf net node before staged
 
 -- what is given where a node with an address drops what stands there
 abbrev pub dropped_from : ℕ → Reason → ℕ → Content → Gave
@@ -27,21 +38,22 @@ dropped_from from reason detail content =
 
 -- what is told is what is given, and the slot has the bytes of the error
 abbrev pub Tells : Told → List ℕ → Gave → Type 0
-Tells told slot gave = (told.outcome ≡ gave.outcome) × (told.after ≡ gave.after) × (slot ≡ error_bytes gave.error)
+Tells told slot gave = (told.outcome ≡ gave.outcome) × (told.after.content ≡ gave.after) × (slot ≡ error_bytes gave.error)
 
--- what a stage gives, or, for want of memory, what stood there before
-abbrev pub Stages : Network → ℕ → Content → Result Staged Content → Gave → Type 0
-Stages net node before (Ok staged) gave = gave_of net node staged ≡ gave
-Stages net node before (Err kept) gave = kept ≡ before
+-- what a stage gives, or, for want of memory, what stood there before, with less room than the longest header of a policy takes
+abbrev pub Stages : Network → ℕ → FrontedContent → Result Staged FrontedContent → Gave → Type 0
+Stages net node before (Ok staged) gave = StagesAll net node before staged gave
+Stages net node before (Err kept) gave = (kept ≡ before) × (before.front < MAX_FRONT)
 
--- what is told, or, for want of memory, what stood there before, with what the slot held
-abbrev pub TellsOrKeeps : Content → List ℕ → Result Told Content → List ℕ → Gave → Type 0
-TellsOrKeeps before held (Ok told) slot gave = Tells told slot gave
-TellsOrKeeps before held (Err kept) slot gave = (kept ≡ before) × (slot ≡ held)
+-- what is told, and what is spare then; or, for want of memory, what stood there before, with what the slot held
+abbrev pub TellsOrKeeps : Network → ℕ → FrontedContent → List ℕ → Result Told FrontedContent → List ℕ → Gave → Type 0
+TellsOrKeeps net node before held (Ok told) slot gave = Tells told slot gave × (told.after.front ≡ front_after net node before told.outcome)
+TellsOrKeeps net node before held (Err kept) slot gave = (kept ≡ before) × (before.front < MAX_FRONT) × (slot ≡ held)
 
--- the header of a policy makes a packet that goes on too long, in the full or the reduced form; or it makes none too long
-abbrev pub IsBigAfter : Endpoint → Policy → Bool → Bool → Type 0
-IsBigAfter e policy reduced true =
+-- whether the header of a policy makes a packet that goes on too long, in the full or the reduced form; none where no packet goes on
+abbrev pub IsBigAfter : Endpoint → Policy → Bool → Option Bool → Type 0
+IsBigAfter e policy reduced None = (q : Packet) → e ≢ Onward q
+IsBigAfter e policy reduced (Some true) =
     (q : Packet) × ((e ≡ Onward q) × ((n : ℕ) × (pushed_by policy reduced families.V6 (spelling q) ≡ TooBig n)))
-IsBigAfter e policy reduced false =
-    (q : Packet) → e ≡ Onward q → (outer : Packet) × (pushed_by policy reduced families.V6 (spelling q) ≡ Outer outer)
+IsBigAfter e policy reduced (Some false) =
+    (q : Packet) × ((e ≡ Onward q) × ((outer : Packet) × (pushed_by policy reduced families.V6 (spelling q) ≡ Outer outer)))

@@ -1,104 +1,75 @@
 //! What a node holds: a packet of either family, or bytes that do not read as one.
 
-ghost use Rattle.std.specs.Prelude.{◌≡◌, ◌^◌, ◌<◌, ◌++◌, length, All, IfOk, OnOk, OnErr};
-ghost use Rattle.srv6_rules.specs.Packet.{bytes_of, IsContent};
+ghost use Rattle.std.specs.Prelude.{◌≡◌, ◌++◌, length, IfOk, OnOk, OnErr};
+ghost use Rattle.srv6_rules.specs.Packet.{bytes_of, entered, IsContent};
 
-use crate::packet::Packet;
-use crate::packet4::Packet4;
+use crate::content_buf::ContentBuf;
 use pkt_buf::PktBuf;
-use srv6_rules::Reason;
+use srv6_rules::Family;
 use std::alloc::{AllocError, Global};
 use std::marker::Model;
-use std::mem;
 
-#[derive(Debug, Drop)]
-pub(crate) enum Held {
-    V6(Packet),
-    V4(Packet4),
-    Unreadable(PktBuf, Reason),
-}
-
-/// A packet of IPv6 or IPv4, or bytes that do not read as one and why (own rule).
+/// A packet of IPv6 or IPv4, or bytes that do not read as one and why, whatever is spare in front
+/// (own rule).
 #[derive(Debug, Drop)]
 pub struct Content {
-    pub(crate) held: Held,
+    pub(crate) buf: ContentBuf,
 }
 
 impl Model for Content {
     ghost use Rattle.srv6_rules.specs.Packet.{Content as ContentValue};
-    ghost use Rattle.node_stage.specs.ContentView.{content_view};
 
     ghost Value = { ContentValue };
 
-    ghost view = { λ c. content_view c.held };
+    ghost view = { λ c. c.buf.content };
 }
 
-/// Each byte is below 256.
-fn are_bytes(bytes: &[u8])
-    ensures { All (λ b. b < 2 ^ 8) bytes.now }
-{}
-
 impl Content {
-    ghost use Rattle.srv6_rules.specs.Packet.{V6, V4, Unreadable};
-
-    /// The content that an IPv6 packet is.
-    pub(crate) fn of(packet: Packet) -> Content
-        ensures { result ≡ V6 packet }
+    /// What enters a node with the bytes of a buffer as a packet of a family, in place: of bytes that
+    /// do not read at most 65,575 are kept (own rule).
+    pub fn enter_buf(family: Family, buf: PktBuf) -> Content
+        ensures { result ≡ entered family buf.bytes }
     {
         Content {
-            held: Held::V6(packet),
+            buf: ContentBuf::enter_buf(family, buf),
         }
     }
 
-    /// The content that an IPv4 packet is.
-    pub(crate) fn of4(packet: Packet4) -> Content
-        ensures { result ≡ V4 packet }
+    /// What enters a node with these bytes as a packet of a family, in place, as from a buffer (own
+    /// rule).
+    pub fn enter(family: Family, bytes: Vec<u8>) -> Content
+        ensures { result ≡ entered family bytes.items }
     {
-        Content {
-            held: Held::V4(packet),
-        }
+        Content::enter_buf(family, PktBuf::of(bytes))
     }
 
-    /// Bytes that do not read, for a reason.
-    pub(crate) fn unreadable(bytes: PktBuf, reason: Reason) -> Content
-        ensures { result ≡ Unreadable bytes.bytes reason }
+    /// The same, with what is spare in front of it, in place (own rule).
+    pub fn into_buf(self) -> ContentBuf
+        ensures { result.content ≡ self }
     {
-        Content {
-            held: Held::Unreadable(bytes, reason),
-        }
+        self.buf
     }
 
-    /// Takes the content out without taking memory; what is left is no use.
-    pub(crate) fn take(&mut self, alloc: Global) -> Content
-        ensures { result ≡ self.old }
+    /// The bytes in their buffer: those that spell the packet, or those that do not read (own rule).
+    pub fn into_bytes(self) -> PktBuf
+        ensures { result.bytes ≡ bytes_of self }
     {
-        let empty = PktBuf::of(Vec::new(alloc));
-        mem::replace(self, Content::unreadable(empty, Reason::Truncated))
+        self.buf.into_bytes()
     }
 
     /// The same once more, in memory of its own (own rule).
     pub fn copy(&self, alloc: Global) -> Result<Content, AllocError>
         ensures { IfOk result (λ copy. copy ≡ self.now) }
     {
-        match &self.held {
-            Held::V6(packet) => Ok(Content::of(packet.copy(alloc)?)),
-            Held::V4(packet) => Ok(Content::of4(packet.copy(alloc)?)),
-            Held::Unreadable(bytes, reason) => {
-                let bytes = bytes.view().to_vec(alloc)?;
-                Ok(Content::unreadable(PktBuf::of(bytes), *reason))
-            }
-        }
+        let buf = self.buf.copy(alloc)?;
+        Ok(Content { buf })
     }
 
     /// The bytes: those that spell the packet, or those that do not read (own rule).
     pub fn bytes(&self) -> &[u8]
         ensures { result.now ≡ bytes_of self.now }
     {
-        match &self.held {
-            Held::V6(packet) => packet.bytes(),
-            Held::V4(packet) => packet.bytes(),
-            Held::Unreadable(bytes, _) => bytes.view(),
-        }
+        self.buf.bytes()
     }
 
     /// Appends the bytes; with want of memory nothing is appended (own rule).
@@ -121,10 +92,6 @@ impl Content {
     pub fn keeps_rules(&self)
         ensures { IsContent self.now }
     {
-        match &self.held {
-            Held::V6(packet) => packet.keeps_rules(),
-            Held::V4(packet) => packet.keeps_rules(),
-            Held::Unreadable(bytes, _) => are_bytes(bytes.view()),
-        }
+        self.buf.keeps_rules();
     }
 }

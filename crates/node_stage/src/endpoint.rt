@@ -1,23 +1,27 @@
 //! A packet at the node's own address and at its SIDs.
 
-ghost use Rattle.std.specs.Prelude.{◌≡◌, ℕ, true, false, ◌<◌, ◌≤◌, ◌-◌, List, Some, None, length, slice_get};
+ghost use Rattle.std.specs.Prelude.{◌≡◌, ℕ, true, false, ◌<◌, ◌≤◌, ◌-◌, List, Some, None, length, max, slice_get};
 ghost use Rattle.srv6_rules.specs.Behaviours.{behaviour_policy, behaviour_reduces, goes_on};
 ghost use Rattle.srv6_rules.specs.CompressedSteps.{SuitsCompression, is_next};
-ghost use Rattle.srv6_rules.specs.Endpoint.{at_address, at_sid};
+ghost use Rattle.srv6_rules.specs.Endpoint.{Onward, at_address, at_sid};
 ghost use Rattle.srv6_rules.specs.Packet.{Packet as PacketValue, V6, content_of, packet_at};
 ghost use Rattle.srv6_rules.specs.Encapsulation.{header_bytes};
 ghost use Rattle.srv6_rules.specs.declared.sid.Family.TheVariants.{V6 as V6Family};
 ghost use Rattle.srv6_rules.specs.Policies.{IsPolicy, Outer, pushed_by};
 ghost use Rattle.net_model.specs.Network.{Network};
+ghost use Rattle.pkt_buf.specs.BufferView.{Buffer};
 ghost use Rattle.net_model.specs.declared.parts.NamedPolicy.{NamedPolicy};
-ghost use Rattle.walk_rules.specs.Treatment.{dropped, goes, onward_from, treated_at_address, treated_at_sid, treated_in};
+ghost use Rattle.walk_rules.specs.Treatment.{allow_of, goes, onward_from, treated_at_address, treated_at_sid, treated_in};
 ghost use Rattle.walk_rules.specs.declared.place.Outcome.TheVariants.{Again};
 ghost use Rattle.endpoint_chain.specs.declared.outcome.EndOutcome.TheVariants.{On};
+ghost use Rattle.endpoint_chain.specs.Fronts.{FrontAfter};
 ghost use Rattle.endpoint_chain.specs.Outcomes.{ComesOf, HoldsAlone};
 ghost use Rattle.policy_encap.specs.Answers.{Makes};
-ghost use Rattle.node_stage.specs.Staging.{IsBigAfter, Stages, gave_of};
+ghost use Rattle.node_stage.specs.declared.staged.Staged.TheVariants.{Drops};
+ghost use Rattle.node_stage.specs.Fronted.{FrontedContent, front_behind, fronted, fronted_at};
+ghost use Rattle.node_stage.specs.Staging.{FrontOf, IsBigAfter, Stages, StagesAll, gave_of};
 
-use crate::content::Content;
+use crate::content_buf::ContentBuf;
 use crate::packet::Packet;
 use crate::staged::{Staged, dropped_for, refused};
 use base::NoMemory;
@@ -33,14 +37,16 @@ use walk_rules::{Outcome, exposed_from, onward_from};
 
 /// At the node's own address.
 pub(crate) fn treated_at_address(packet: Packet) -> Staged
-    ensures { (net : Network) (node : ℕ)
-        → gave_of net node result ≡ treated_at_address net node packet (at_address packet) }
+    ensures gave { (net : Network) (node : ℕ) → gave_of net node result
+        ≡ treated_at_address net node packet.packet (at_address packet.packet) }
+    ensures front { (net : Network) (node : ℕ) → FrontOf net node
+        (fronted (V6 packet.packet) packet.front) result }
 {
     match fault_at_address(&packet.view()) {
         Some(fault) => refused(fault, packet),
         None => Staged::Goes {
             outcome: Outcome::Local,
-            after: Content::of(packet),
+            after: ContentBuf::of(packet),
         },
     }
 }
@@ -51,8 +57,9 @@ fn step_at_sid(sid: &SidEntry, allow: &[u8], bytes: &mut PktBuf) -> EndOutcome
     requires usp { goes_on sid.now ≡ false → sid.now.usp ≡ false }
     requires next { goes_on sid.now ≡ false → is_next sid.now.csid ≡ false }
     requires packet { HoldsAlone bytes.old.bytes }
-    ensures { ComesOf (at_sid sid.now allow.now (packet_at bytes.old.bytes)) bytes.old.bytes
+    ensures outcome { ComesOf (at_sid sid.now allow.now (packet_at bytes.old.bytes)) bytes.old.bytes
         bytes.new.bytes result }
+    ensures front { FrontAfter bytes.old bytes.new result }
 {
     if sid.goes_on() {
         end_step(sid, allow, bytes)
@@ -63,15 +70,18 @@ fn step_at_sid(sid: &SidEntry, allow: &[u8], bytes: &mut PktBuf) -> EndOutcome
 
 /// A packet goes on from a SID with a number and stays at the node.
 fn again(sid: u32, entry: &SidEntry, bytes: PktBuf) -> Staged
-    ensures { (net : Network) (node : ℕ) → gave_of net node result
+    ensures gave { (net : Network) (node : ℕ) → gave_of net node result
         ≡ goes (Again sid (onward_from sid entry.now.behaviour)) (content_of bytes.bytes) }
+    ensures front { (net : Network) (node : ℕ) (before : FrontedContent)
+        → bytes.front ≡ front_behind net (slice_get net.sids sid) before.front
+        → FrontOf net node before result }
 {
     Staged::Goes {
         outcome: Outcome::Again {
             sid,
             how: onward_from(sid, &entry.behaviour),
         },
-        after: Content::read(bytes),
+        after: ContentBuf::read(bytes),
     }
 }
 
@@ -79,12 +89,17 @@ fn again(sid: u32, entry: &SidEntry, bytes: PktBuf) -> Staged
 /// policy's header is put in front (RFC 8986 section 4); what is exposed is read as a packet of its
 /// family.
 fn given(sid: u32, entry: &SidEntry, outcome: EndOutcome, bytes: PktBuf) -> Staged
-    ensures { (net : Network) (node : ℕ) (allow old : List ℕ) → HoldsAlone old
+    ensures gave { (net : Network) (node : ℕ) (allow old : List ℕ) → HoldsAlone old
         → (outcome ≡ On → behaviour_policy entry.now.behaviour ≡ None)
         → ComesOf (at_sid entry.now allow (packet_at old)) old bytes.bytes outcome
         → gave_of net node result
         ≡ treated_at_sid net node sid entry.now.behaviour (packet_at old)
         (at_sid entry.now allow (packet_at old)) }
+    ensures front { (net : Network) (node : ℕ) (allow : List ℕ) (old : Buffer)
+        → slice_get net.sids sid ≡ Some entry.now → allow ≡ allow_of (slice_get net.nodes node)
+        → HoldsAlone old.bytes → (outcome ≡ On → behaviour_policy entry.now.behaviour ≡ None)
+        → ComesOf (at_sid entry.now allow (packet_at old.bytes)) old.bytes bytes.bytes outcome
+        → FrontAfter old bytes outcome → FrontOf net node (fronted_at old) result }
 {
     match outcome {
         EndOutcome::On => again(sid, entry, bytes),
@@ -94,30 +109,33 @@ fn given(sid: u32, entry: &SidEntry, outcome: EndOutcome, bytes: PktBuf) -> Stag
                 how: exposed_from(sid, &entry.behaviour),
                 family,
             },
-            after: Content::read_as(family, bytes),
+            after: ContentBuf::read_as(family, bytes),
         },
         EndOutcome::Local => Staged::Goes {
             outcome: Outcome::Local,
-            after: Content::read(bytes),
+            after: ContentBuf::read(bytes),
         },
         EndOutcome::Drop { reason, at } => Staged::Drops {
             reason,
             detail: at,
-            content: Content::read(bytes),
+            content: ContentBuf::read(bytes),
         },
     }
 }
 
-/// At a SID with a number that binds no policy, of a node that takes some upper layers at its SIDs.
+/// At a SID with a number, of a node that takes some upper layers at its SIDs; the packet does not go
+/// on from the SID where the SID binds a policy.
 fn treated_at_sid(sid: u32, entry: &SidEntry, allow: &[u8], packet: Packet) -> Staged
-    requires unbound { behaviour_policy entry.now.behaviour ≡ None }
+    requires unbound { (q : PacketValue) → at_sid entry.now allow.now packet.packet ≡ Onward q
+        → behaviour_policy entry.now.behaviour ≡ None }
     requires suits { SuitsCompression entry.now }
     requires usp { goes_on entry.now ≡ false → entry.now.usp ≡ false }
     requires next { goes_on entry.now ≡ false → is_next entry.now.csid ≡ false }
-    ensures { (net : Network) (node : ℕ)
-        → gave_of net node result
-        ≡ treated_at_sid net node sid entry.now.behaviour packet
-        (at_sid entry.now allow.now packet) }
+    ensures { (net : Network) (node : ℕ) → slice_get net.sids sid ≡ Some entry.now
+        → allow.now ≡ allow_of (slice_get net.nodes node)
+        → StagesAll net node (fronted (V6 packet.packet) packet.front) result
+        (treated_at_sid net node sid entry.now.behaviour packet.packet
+        (at_sid entry.now allow.now packet.packet)) }
 {
     let mut bytes = packet.into_bytes();
     let outcome = step_at_sid(entry, allow, &mut bytes);
@@ -125,8 +143,8 @@ fn treated_at_sid(sid: u32, entry: &SidEntry, allow: &[u8], packet: Packet) -> S
 }
 
 /// Whether a policy's header would make the packet in these bytes too long after the step of a SID
-/// that binds the policy; known before anything is written.
-fn is_too_big_after(entry: &SidEntry, policy: &Policy, allow: &[u8], bytes: &[u8]) -> bool
+/// that binds the policy; none where no packet goes on. It is known before anything is written.
+fn is_too_big_after(entry: &SidEntry, policy: &Policy, allow: &[u8], bytes: &[u8]) -> Option<bool>
     requires goes_on { goes_on entry.now ≡ true }
     requires suits { SuitsCompression entry.now }
     requires policy { IsPolicy policy.now }
@@ -135,8 +153,8 @@ fn is_too_big_after(entry: &SidEntry, policy: &Policy, allow: &[u8], bytes: &[u8
         (behaviour_reduces entry.now.behaviour) result }
 {
     match onward_len(entry, allow, bytes) {
-        Some(len) => is_too_big(policy, entry.behaviour.reduces(), len),
-        None => false,
+        Some(len) => Some(is_too_big(policy, entry.behaviour.reduces(), len)),
+        None => None,
     }
 }
 
@@ -160,14 +178,13 @@ fn push_in_room(policy: &Policy, reduced: bool, bytes: &mut PktBuf)
 
 /// A packet is dropped as it came, since a policy's header would make it too long.
 fn too_big(packet: Packet) -> Staged
-    ensures { (net : Network) (node : ℕ)
-        → gave_of net node result ≡ dropped net node Reason.TooBig 0 (V6 packet) }
+    ensures { result ≡ Drops Reason.TooBig 0 (fronted (V6 packet.packet) packet.front) }
 {
-    dropped_for(Reason::TooBig, Content::of(packet))
+    dropped_for(Reason::TooBig, ContentBuf::of(packet))
 }
 
 /// At a SID with a number that binds a policy, in bytes with room for the policy's header, which does
-/// not make the packet too long after the SID's step.
+/// not make the packet too long that goes on from the SID.
 fn bound_in_room(
     sid: u32,
     entry: &SidEntry,
@@ -181,13 +198,15 @@ fn bound_in_room(
     requires packet { HoldsAlone bytes.bytes }
     requires room { MAX_FRONT ≤ bytes.front }
     requires fits { IsBigAfter (at_sid entry.now allow.now (packet_at bytes.bytes)) policy.now
-        (behaviour_reduces entry.now.behaviour) false }
-    ensures { (net : Network) (node number : ℕ) (named : NamedPolicy)
+        (behaviour_reduces entry.now.behaviour) (Some false) }
+    ensures { (net : Network) (node number front : ℕ) (named : NamedPolicy)
+        → slice_get net.sids sid ≡ Some entry.now
         → behaviour_policy entry.now.behaviour ≡ Some number
         → slice_get net.policies number ≡ Some named → policy.now ≡ named.policy
-        → gave_of net node result
-        ≡ treated_at_sid net node sid entry.now.behaviour (packet_at bytes.bytes)
-        (at_sid entry.now allow.now (packet_at bytes.bytes)) }
+        → bytes.front ≡ max MAX_FRONT front
+        → StagesAll net node (fronted (V6 (packet_at bytes.bytes)) front) result
+        (treated_at_sid net node sid entry.now.behaviour (packet_at bytes.bytes)
+        (at_sid entry.now allow.now (packet_at bytes.bytes))) }
 {
     let outcome = end_step(entry, allow, &mut bytes);
     match outcome {
@@ -195,51 +214,87 @@ fn bound_in_room(
             push_in_room(policy, entry.behaviour.reduces(), &mut bytes);
             again(sid, entry, bytes)
         }
-        EndOutcome::Hand { .. } | EndOutcome::Local | EndOutcome::Drop { .. } => {
-            given(sid, entry, outcome, bytes)
-        }
+        EndOutcome::Hand { .. } => unreachable!(),
+        EndOutcome::Local => unreachable!(),
+        EndOutcome::Drop { .. } => unreachable!(),
+    }
+}
+
+/// At a SID with a number that binds a policy, for a packet that goes on from it; whether the policy's
+/// header would make it too long is known. For want of memory, which comes only where there is less
+/// room than the longest header has, the packet is given back as it was.
+fn bound_by(
+    sid: u32,
+    entry: &SidEntry,
+    policy: &Policy,
+    allow: &[u8],
+    big: bool,
+    packet: Packet,
+) -> Result<Staged, ContentBuf>
+    requires goes_on { goes_on entry.now ≡ true }
+    requires suits { SuitsCompression entry.now }
+    requires policy { IsPolicy policy.now }
+    requires big { IsBigAfter (at_sid entry.now allow.now packet.packet) policy.now
+        (behaviour_reduces entry.now.behaviour) (Some big) }
+    ensures { (net : Network) (node number : ℕ) (named : NamedPolicy)
+        → slice_get net.sids sid ≡ Some entry.now
+        → behaviour_policy entry.now.behaviour ≡ Some number
+        → slice_get net.policies number ≡ Some named → policy.now ≡ named.policy
+        → Stages net node (fronted (V6 packet.packet) packet.front) result
+        (treated_at_sid net node sid entry.now.behaviour packet.packet
+        (at_sid entry.now allow.now packet.packet)) }
+{
+    if big {
+        return Ok(too_big(packet));
+    }
+    let mut bytes = packet.into_bytes();
+    match bytes.reserve_front(MAX_FRONT) {
+        Ok(()) => Ok(bound_in_room(sid, entry, policy, allow, bytes)),
+        Err(NoMemory) => Err(ContentBuf::of(Packet::alone(bytes))),
     }
 }
 
 /// At a SID with a number that binds a policy: after the SID's own step the policy's header is put in
 /// front, in the form of the SID's behaviour, and a packet for which it would be too long is dropped
-/// as it came (RFC 8986 sections 4.13 and 4.14). All is done in the packet's own bytes: that the header
-/// would be too long is known before the step, and room in front of the packet is made before it. For
-/// want of memory, which comes only where there is less room than the longest header has, the packet
-/// is given back as it was.
+/// as it came (RFC 8986 sections 4.13 and 4.14). All is done in the packet's own bytes: that the packet
+/// goes on, and that the header would be too long, is known before the step, and room in front of the
+/// packet is made before it.
 fn bound_at_sid(
     sid: u32,
     entry: &SidEntry,
     policy: &Policy,
     allow: &[u8],
     packet: Packet,
-) -> Result<Staged, Content>
+) -> Result<Staged, ContentBuf>
     requires goes_on { goes_on entry.now ≡ true }
     requires suits { SuitsCompression entry.now }
     requires policy { IsPolicy policy.now }
     ensures { (net : Network) (node number : ℕ) (named : NamedPolicy)
+        → slice_get net.sids sid ≡ Some entry.now
         → behaviour_policy entry.now.behaviour ≡ Some number
         → slice_get net.policies number ≡ Some named → policy.now ≡ named.policy
-        → Stages net node (V6 packet) result
-        (treated_at_sid net node sid entry.now.behaviour packet
-        (at_sid entry.now allow.now packet)) }
+        → allow.now ≡ allow_of (slice_get net.nodes node)
+        → Stages net node (fronted (V6 packet.packet) packet.front) result
+        (treated_at_sid net node sid entry.now.behaviour packet.packet
+        (at_sid entry.now allow.now packet.packet)) }
 {
-    if is_too_big_after(entry, policy, allow, packet.bytes()) {
-        return Ok(too_big(packet));
-    }
-    let mut bytes = packet.into_bytes();
-    match bytes.reserve_front(MAX_FRONT) {
-        Ok(()) => Ok(bound_in_room(sid, entry, policy, allow, bytes)),
-        Err(NoMemory) => Err(Content::of(Packet::alone(bytes))),
+    match is_too_big_after(entry, policy, allow, packet.bytes()) {
+        Some(big) => bound_by(sid, entry, policy, allow, big, packet),
+        None => Ok(treated_at_sid(sid, entry, allow, packet)),
     }
 }
 
 /// At a SID of a node of the network.
-pub(crate) fn treated_in(net: &Net, node: u32, sid: u32, packet: Packet) -> Result<Staged, Content>
+pub(crate) fn treated_in(
+    net: &Net,
+    node: u32,
+    sid: u32,
+    packet: Packet,
+) -> Result<Staged, ContentBuf>
     requires node { node < length net.now.nodes }
     requires sid { sid < length net.now.sids }
-    ensures { Stages net.now node (V6 packet) result
-        (treated_in net.now node sid (slice_get net.now.sids sid) packet) }
+    ensures { Stages net.now node (fronted (V6 packet.packet) packet.front) result
+        (treated_in net.now node sid (slice_get net.now.sids sid) packet.packet) }
 {
     net.keeps_rules();
     let entry = net.sid(sid);

@@ -6,7 +6,7 @@ ghost use Rattle.icmp6_errors.specs.Answer.{error_bytes};
 ghost use Rattle.walk_rules.specs.Treatment.{error_from};
 ghost use Rattle.node_stage.specs.Staging.{Tells, dropped_from};
 
-use crate::content::{Content, Held};
+use crate::content_buf::{ContentBuf, Held};
 use crate::packet::Packet;
 use icmp6_errors::{IcmpSlot, error_for};
 use srv6_rules::{IcmpKind, Reason};
@@ -17,14 +17,14 @@ use walk_rules::Outcome;
 #[derive(Debug, Drop)]
 pub(crate) struct Told {
     pub(crate) outcome: Outcome,
-    pub(crate) after: Content,
+    pub(crate) after: ContentBuf,
 }
 
 /// Writes the error of a kind about a packet into a slot, from an address, if one is made, and
 /// answers whether it is.
 fn answered(packet: &Packet, kind: &IcmpKind, from: Addr, slot: &mut IcmpSlot) -> bool
-    ensures made { result ≡ is_some (error_packet packet.now kind.now from.value) }
-    ensures bytes { slot.new.items ≡ error_bytes (error_packet packet.now kind.now from.value) }
+    ensures made { result ≡ is_some (error_packet packet.now.packet kind.now from.value) }
+    ensures bytes { slot.new.items ≡ error_bytes (error_packet packet.now.packet kind.now from.value) }
 {
     error_for(packet.bytes(), kind, from, slot)
 }
@@ -33,16 +33,16 @@ fn answered(packet: &Packet, kind: &IcmpKind, from: Addr, slot: &mut IcmpSlot) -
 /// empty slot, if one is made, and answers whether it is: about an IPv4 packet and about bytes that
 /// do not read none is, and for an IPv6 packet the reason names its kind (RFC 4443 section 3).
 fn error_about(
-    content: &Content,
+    content: &ContentBuf,
     reason: Reason,
     detail: u32,
     from: Addr,
     slot: &mut IcmpSlot,
 ) -> bool
     requires { slot.old.items ≡ [] }
-    ensures made { result ≡ is_some (error_from from.value reason detail content.now) }
+    ensures made { result ≡ is_some (error_from from.value reason detail content.now.content) }
     ensures bytes { slot.new.items
-        ≡ error_bytes (error_from from.value reason detail content.now) }
+        ≡ error_bytes (error_from from.value reason detail content.now.content) }
 {
     match &content.held {
         Held::V6(packet) => match IcmpKind::of(reason, detail) {
@@ -59,12 +59,14 @@ fn error_about(
 pub(crate) fn dropped(
     reason: Reason,
     detail: u32,
-    content: Content,
+    content: ContentBuf,
     from: Addr,
     slot: &mut IcmpSlot,
 ) -> Told
     requires { slot.old.items ≡ [] }
-    ensures { Tells result slot.new.items (dropped_from from.value reason detail content) }
+    ensures tells { Tells result slot.new.items
+        (dropped_from from.value reason detail content.content) }
+    ensures after { result.after ≡ content }
 {
     let error = error_about(&content, reason, detail, from, slot);
     Told {

@@ -5,7 +5,8 @@ ghost use Rattle.walk_rules.specs.Laws.{hops_at, set_of};
 ghost use Rattle.walk_rules.specs.Relation.{IsPlace};
 ghost use Rattle.walk_rules.specs.Way.{IsWayFrom, way_in};
 
-use crate::content::{Content, Held};
+use crate::content::Content;
+use crate::content_buf::{ContentBuf, Held};
 use net_model::Net;
 use walk_rules::{Place, Way, way_of};
 
@@ -19,15 +20,23 @@ fn links_of<'a>(way: Way<'a>) -> &'a [u32]
     }
 }
 
-/// The numbers of the links over which what stands at a place may be sent: the equal next hops of
-/// its way, and none where it goes over no links (own rule).
-pub fn next_hops<'a>(net: &'a Net, place: &Place, content: &Content) -> &'a [u32]
+/// The same of what is held in a buffer.
+fn next_hops_of<'a>(net: &'a Net, place: &Place, content: &ContentBuf) -> &'a [u32]
     requires { IsPlace net.now place.now }
-    ensures { result.now ≡ hops_at net.now place.now content.now }
+    ensures { result.now ≡ hops_at net.now place.now content.now.content }
 {
     match &content.held {
         Held::V6(packet) => links_of(way_of(net, place, packet.destination())),
         Held::V4(packet) => links_of(way_of(net, place, packet.destination())),
         Held::Unreadable(_, _) => &[],
     }
+}
+
+/// The numbers of the links over which what stands at a place may be sent: the equal next hops of
+/// its way, and none where it goes over no links (own rule).
+pub fn next_hops<'a>(net: &'a Net, place: &Place, content: &Content) -> &'a [u32]
+    requires { IsPlace net.now place.now }
+    ensures { result.now ≡ hops_at net.now place.now content.now }
+{
+    next_hops_of(net, place, &content.buf)
 }

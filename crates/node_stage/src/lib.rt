@@ -1,13 +1,15 @@
 //! One node's treatment of one packet, in place.
 //!
-//! A `Content` is what a node holds: a packet of IPv6 or IPv4 in its bytes, or bytes that do not
-//! read as one. `stage` is what a node does with it at a place under a choice among equal next hops;
-//! by its code, and by no clause, it takes memory only at a SID that binds a policy. About an IPv6
-//! packet that is dropped it gives the ICMPv6 error that the node sends. `next_hops` are the links
-//! over which it may be sent.
+//! A `ContentBuf` is what a node holds: a packet of IPv6 or IPv4 in its bytes, or bytes that do not
+//! read as one, and how many bytes are spare in front; a `Content` is the same where what is spare is not
+//! looked at. `stage_buf` and `stage` are what a node does with them at a place under a choice among
+//! equal next hops; where 2,080 bytes are spare no memory is taken. About an IPv6 packet that is dropped
+//! they give the ICMPv6 error that the node sends. `next_hops` are the links over which a packet may be
+//! sent.
 #![tactic(auto)]
 
 mod content;
+mod content_buf;
 mod endpoint;
 mod error;
 mod hops;
@@ -16,8 +18,9 @@ mod packet4;
 mod reading;
 mod sending;
 mod staged;
-mod treatment;
+mod stages;
 
 pub use content::Content;
+pub use content_buf::ContentBuf;
 pub use hops::next_hops;
-pub use treatment::stage;
+pub use stages::{stage, stage_buf};

@@ -4,9 +4,10 @@ ghost use Rattle.std.specs.Prelude.{◌≡◌, ℕ, true, not, nat_le, ◌<◌, 
 ghost use Rattle.srv6_rules.specs.Packet.{V4, V6};
 ghost use Rattle.srv6_rules.specs.Packet4.{ttl};
 ghost use Rattle.walk_rules.specs.Treatment.{judged, lowered, member_of, sent, sent4, ttl_lowered};
-ghost use Rattle.node_stage.specs.Staging.{gave_of};
+ghost use Rattle.node_stage.specs.Fronted.{fronted};
+ghost use Rattle.node_stage.specs.Staging.{FrontOf, gave_of};
 
-use crate::content::Content;
+use crate::content_buf::ContentBuf;
 use crate::packet::Packet;
 use crate::packet4::Packet4;
 use crate::staged::{Staged, dropped_for, too_long};
@@ -24,8 +25,9 @@ fn member_of(links: &[u32], choice: u32) -> u32
 
 /// The packet, with its hop limit lowered or not.
 fn lowered(lower: bool, mut packet: Packet) -> Packet
-    requires { lower ≡ true → 1 ≤ packet.hop_limit }
-    ensures { result ≡ lowered lower packet }
+    requires { lower ≡ true → 1 ≤ packet.packet.hop_limit }
+    ensures packet { result.packet ≡ lowered lower packet.packet }
+    ensures front { result.front ≡ packet.front }
 {
     if lower {
         packet.lower_hop_limit();
@@ -45,27 +47,31 @@ fn exceeds(len: usize, mtu: u32) -> bool
 /// (RFC 8200 sections 3 and 5).
 pub(crate) fn sent(net: &Net, links: &[u32], lower: bool, packet: Packet, choice: u32) -> Staged
     requires { 0 < length links.now }
-    ensures { (node : ℕ) → gave_of net.now node result
-        ≡ judged net.now node (V6 packet) (sent net.now node links.now lower packet choice) }
+    ensures gave { (node : ℕ) → gave_of net.now node result
+        ≡ judged net.now node (V6 packet.packet)
+        (sent net.now node links.now lower packet.packet choice) }
+    ensures front { (node : ℕ) → FrontOf net.now node
+        (fronted (V6 packet.packet) packet.front) result }
 {
     if lower && packet.hop_limit() <= 1 {
-        return dropped_for(Reason::HopLimit, Content::of(packet));
+        return dropped_for(Reason::HopLimit, ContentBuf::of(packet));
     }
     let link = member_of(links, choice);
     let mtu = mtu_at(net, link);
     if exceeds(packet.len(), mtu) {
-        return too_long(mtu, Content::of(packet));
+        return too_long(mtu, ContentBuf::of(packet));
     }
     Staged::Goes {
         outcome: Outcome::Send { link },
-        after: Content::of(lowered(lower, packet)),
+        after: ContentBuf::of(lowered(lower, packet)),
     }
 }
 
 /// The packet, with its time to live lowered or not.
 fn ttl_lowered(lower: bool, mut packet: Packet4) -> Packet4
-    requires { lower ≡ true → 1 ≤ ttl packet }
-    ensures { result ≡ ttl_lowered lower packet }
+    requires { lower ≡ true → 1 ≤ ttl packet.packet }
+    ensures packet { result.packet ≡ ttl_lowered lower packet.packet }
+    ensures front { result.front ≡ packet.front }
 {
     if lower {
         packet.lower_ttl();
@@ -76,19 +82,22 @@ fn ttl_lowered(lower: bool, mut packet: Packet4) -> Packet4
 /// An IPv4 packet over one of a set of equal next hops, likewise (RFC 791 section 3.2).
 pub(crate) fn sent4(net: &Net, links: &[u32], lower: bool, packet: Packet4, choice: u32) -> Staged
     requires { 0 < length links.now }
-    ensures { (node : ℕ) → gave_of net.now node result
-        ≡ judged net.now node (V4 packet) (sent4 net.now node links.now lower packet choice) }
+    ensures gave { (node : ℕ) → gave_of net.now node result
+        ≡ judged net.now node (V4 packet.packet)
+        (sent4 net.now node links.now lower packet.packet choice) }
+    ensures front { (node : ℕ) → FrontOf net.now node
+        (fronted (V4 packet.packet) packet.front) result }
 {
     if lower && packet.ttl() <= 1 {
-        return dropped_for(Reason::Ttl, Content::of4(packet));
+        return dropped_for(Reason::Ttl, ContentBuf::of4(packet));
     }
     let link = member_of(links, choice);
     let mtu = mtu_at(net, link);
     if exceeds(packet.len(), mtu) {
-        return too_long(mtu, Content::of4(packet));
+        return too_long(mtu, ContentBuf::of4(packet));
     }
     Staged::Goes {
         outcome: Outcome::Send { link },
-        after: Content::of4(ttl_lowered(lower, packet)),
+        after: ContentBuf::of4(ttl_lowered(lower, packet)),
     }
 }

@@ -24,6 +24,3 @@ returns-in-Some c =
     big-after (at_sid s c.args.allow.now (packet_at c.args.bytes.now)) policy (behaviour_reduces s.behaviour) goes.packet
     (outer_by policy c.reduces.result families.V6 bytes) c.is_too_big.result goes.is
     (ap (λ (b : Bool). pushed_by policy b families.V6 bytes) (sym c.reduces.ensures) ∙ by)
-
-pub returns-in-None : goal.returns-in-None
-returns-in-None c = λ q on. absurd (c.in-None.ensures q on)

@@ -1,4 +1,5 @@
-use Rattle.std.proofs.Common.{refl, sym, ◌∙◌}
+use Rattle.std.proofs.Common.{ap, sym, ◌∙◌}
+use Rattle.walk_rules.specs.Treatment.{allow_of}
 use Rattle.net_model.proofs.PublicLaws.{sid-suits, sid-unflavoured, sid-not_next}
 use Rattle.node_stage.proofs.EndpointLemmas.{not-next, policy-there, policy-is, stages-as, sid-treated}
 use Rattle.node_stage.proofs.endpoint.treated_in.Goals as goal
@@ -30,10 +31,28 @@ bound_at_sid-requires-clause-policy c =
     let (named, there, is) = c.policy-in-Some.ensures in
     policy-is c.args.net.now c.in-Some.policy named _ c.keeps_rules.ensures.facts there is
 
+pub treated_at_sid-requires-clause-unbound : goal.treated_at_sid-requires-clause-unbound
+treated_at_sid-requires-clause-unbound c = λ q on. sym c.policy.ensures ∙ c.in-None.is
+
 pub returns-in-Some : goal.returns-in-Some
 returns-in-Some c =
+    let net = c.args.net.now in
+    let node = c.args.node in
     let (named, there, is) = c.policy-in-Some.ensures in
-    stages-as c.args.net.now c.args.node _ _ _ _ _ refl
-    (sid-treated c.args.net.now c.args.node c.args.sid c.sid-entry.result.now _ _ c.args.packet c.sid-entry.ensures c.node.ensures
+    let of = c.as_slice-allow.ensures ∙ sym (ap allow_of c.node.ensures) in
+    stages-as net node _ _ _ _
+    (sid-treated net node c.args.sid c.sid-entry.result.now _ _ c.args.packet.packet c.sid-entry.ensures c.node.ensures
     c.as_slice-allow.ensures)
-    (c.bound_at_sid.ensures c.args.net.now c.args.node c.in-Some.policy named (sym c.policy.ensures ∙ c.in-Some.is) there is)
+    (c.bound_at_sid.ensures net node c.in-Some.policy named c.sid-entry.ensures (sym c.policy.ensures ∙ c.in-Some.is) there is of)
+
+pub returns-in-None : goal.returns-in-None
+returns-in-None c =
+    let net = c.args.net.now in
+    let node = c.args.node in
+    let of = c.as_slice-allow.ensures ∙ sym (ap allow_of c.node.ensures) in
+    let given = c.treated_at_sid.ensures net node c.sid-entry.ensures of in (
+      given.0
+          ∙ sid-treated net node c.args.sid c.sid-entry.result.now _ _ c.args.packet.packet c.sid-entry.ensures c.node.ensures
+          c.as_slice-allow.ensures,
+      given.1,
+    )

@@ -1,8 +1,9 @@
-use Rattle.std.proofs.Common.{◌≡◌, ◌+◌, ◌∙◌, length, take, ap, sym, subst, arith}
+use Rattle.std.proofs.Common.{◌≡◌, ℕ, ◌+◌, ◌∙◌, length, take, ap, ap₂, sym, subst, arith}
 use Rattle.srv6_rules.specs.Packet.{Packet, header_len, packet_at, stated_len}
 use Rattle.ip6_headers.proofs.PublicLaws.{holds-payload_len}
 use Rattle.endpoint_chain.specs.Outcomes.{HoldsAlone}
 use Rattle.pkt_buf.specs.BufferView.{Buffer}
+use Rattle.node_stage.specs.Fronted.{FrontedPacket}
 use Rattle.node_stage.proofs.ReadingLemmas.{front-alone, front-packet}
 use Rattle.node_stage.proofs.packet.Packet.at_front.Goals as goal
 
@@ -29,4 +30,6 @@ pub invariant_of-result : goal.invariant_of-result
 invariant_of-result c = subst (λ xs. HoldsAlone xs) (sym (cut c)) (front-alone c.args.bytes.bytes c.requires)
 
 pub returns : goal.returns
-returns c = ap packet_at (cut c) ∙ front-packet c.args.bytes.bytes c.requires
+returns c =
+    let made : Packet → ℕ → FrontedPacket = λ q n. record { packet = q; front = n } in
+    ap₂ made (ap packet_at (cut c) ∙ front-packet c.args.bytes.bytes c.requires) (ap (λ (b : Buffer). b.front) c.truncate.ensures)

@@ -2,6 +2,7 @@ use Rattle.std.proofs.Common.{◌≡◌, ◌-◌, ◌∙◌, slice_set, ap, sym,
 use Rattle.srv6_rules.specs.Packet.{Packet, packet_at}
 use Rattle.endpoint_chain.specs.Outcomes.{HoldsAlone}
 use Rattle.pkt_buf.specs.BufferView.{Buffer}
+use Rattle.node_stage.specs.Fronted.{FrontedPacket}
 use Rattle.node_stage.proofs.ReadingLemmas.{lowered-alone, lowered-packet}
 use Rattle.node_stage.proofs.packet.Packet.lower_hop_limit.Goals as goal
 
@@ -10,13 +11,16 @@ written : (c : goal.After-set)
 written c =
     ap (λ (b : Buffer). b.bytes) c.set.ensures
     ∙ ap (λ n. slice_set c.self.inside.bytes.bytes 7 (n - 1))
-    (c.hop_limit-hop_limit.ensures ∙ ap (λ (p : Packet). p.hop_limit) (sym c.self.view_is))
+    (c.hop_limit-hop_limit.ensures ∙ ap (λ (v : FrontedPacket). v.packet.hop_limit) (sym c.self.view_is))
 
 pub invariant_of-self : goal.invariant_of-self
 invariant_of-self c =
     subst (λ xs. HoldsAlone xs) (sym (written c)) (lowered-alone c.self.inside.bytes.bytes c.self.invariant)
 
-pub returns : goal.returns
-returns c =
+pub returns-clause-packet : goal.returns-clause-packet
+returns-clause-packet c =
     ap packet_at (written c) ∙ lowered-packet c.self.inside.bytes.bytes c.self.invariant
-    ∙ ap (λ (p : Packet). record p { hop_limit = p.hop_limit - 1 }) c.self.view_is
+    ∙ ap (λ (v : FrontedPacket). let p : Packet = v.packet in record p { hop_limit = p.hop_limit - 1 }) c.self.view_is
+
+pub returns-clause-front : goal.returns-clause-front
+returns-clause-front c = ap (λ (b : Buffer). b.front) c.set.ensures ∙ ap (λ (v : FrontedPacket). v.front) c.self.view_is

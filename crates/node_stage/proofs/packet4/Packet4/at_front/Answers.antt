@@ -1,7 +1,8 @@
-use Rattle.std.proofs.Common.{◌≡◌, ◌∙◌, length, take, ap, sym, subst, arith}
+use Rattle.std.proofs.Common.{◌≡◌, ℕ, ◌∙◌, length, take, ap, ap₂, sym, subst, arith}
 use Rattle.srv6_rules.specs.Packet4.{Packet4, packet4_at, spelling4, total_len}
 use Rattle.ip6_headers.proofs.PublicLaws.{holds4-length}
 use Rattle.pkt_buf.specs.BufferView.{Buffer}
+use Rattle.node_stage.specs.Fronted.{FrontedPacket4}
 use Rattle.node_stage.specs.Alone4.{HoldsAlone4}
 use Rattle.node_stage.proofs.ReadingLemmas4.{front4-alone, front4-packet}
 use Rattle.node_stage.proofs.packet4.Packet4.at_front.Goals as goal
@@ -29,4 +30,6 @@ pub invariant_of-result : goal.invariant_of-result
 invariant_of-result c = subst (λ xs. HoldsAlone4 xs) (sym (cut c)) (front4-alone c.args.bytes.bytes c.requires)
 
 pub returns : goal.returns
-returns c = ap packet4_at (cut c) ∙ front4-packet c.args.bytes.bytes c.requires
+returns c =
+    let made : Packet4 → ℕ → FrontedPacket4 = λ q n. record { packet = q; front = n } in
+    ap₂ made (ap packet4_at (cut c) ∙ front4-packet c.args.bytes.bytes c.requires) (ap (λ (b : Buffer). b.front) c.truncate.ensures)

@@ -1,9 +1,10 @@
 use Rattle.std.proofs.Common.{◌≡◌, ◌∙◌, List, ℕ, length, slice_index, ap, sym, subst, arith}
-use Rattle.srv6_rules.specs.Packet4.{Packet4, packet4_at, lowered4, ttl, ttl_lowered}
+use Rattle.srv6_rules.specs.Packet4.{packet4_at, lowered4, ttl, ttl_lowered}
 use Rattle.srv6_rules.proofs.PublicLaws.{ttl_lowered-length}
 use Rattle.ip6_headers.proofs.PublicLaws.{holds4-byte}
 use Rattle.pkt_buf.specs.Lending.{left_in}
 use Rattle.pkt_buf.proofs.PublicLaws.{left_whole}
+use Rattle.node_stage.specs.Fronted.{FrontedPacket4}
 use Rattle.node_stage.specs.Alone4.{HoldsAlone4}
 use Rattle.node_stage.proofs.ReadingLemmas4.{lowered4-alone, lowered4-packet}
 use Rattle.node_stage.proofs.packet4.Packet4.lower_ttl.Goals as goal
@@ -17,10 +18,10 @@ left bytes lent new alone same is =
 
 pub lower_ttl-requires-clause-some : goal.lower_ttl-requires-clause-some
 lower_ttl-requires-clause-some c =
-    let there : slice_index c.view_mut.result.now 8 ≡ ttl c.args.self.now =
+    let there : slice_index c.view_mut.result.now 8 ≡ ttl c.args.self.now.packet =
     ap (λ xs. slice_index xs 8) c.view_mut.ensures.value
     ∙ sym (holds4-byte c.self.inside.bytes.bytes 8 c.self.invariant.holds (omega arith))
-    ∙ ap (λ (p : Packet4). ttl p) c.self.view_is in
+    ∙ ap (λ (v : FrontedPacket4). ttl v.packet) c.self.view_is in
     omega arith
 
 pub invariant_of-self : goal.invariant_of-self
@@ -28,8 +29,8 @@ invariant_of-self c =
     subst (λ xs. HoldsAlone4 xs) (sym (left c.self.inside.bytes.bytes c.view_mut.result.now c.lower_ttl.new.bytes c.self.invariant c.view_mut.ensures.value
     c.lower_ttl.ensures.bytes)) (lowered4-alone c.self.inside.bytes.bytes c.self.invariant)
 
-pub returns : goal.returns
-returns c =
+pub returns-clause-packet : goal.returns-clause-packet
+returns-clause-packet c =
     ap packet4_at (left c.self.inside.bytes.bytes c.view_mut.result.now c.lower_ttl.new.bytes c.self.invariant c.view_mut.ensures.value
     c.lower_ttl.ensures.bytes) ∙ lowered4-packet c.self.inside.bytes.bytes c.self.invariant
-    ∙ ap (λ (p : Packet4). lowered4 p) c.self.view_is
+    ∙ ap (λ (v : FrontedPacket4). lowered4 v.packet) c.self.view_is

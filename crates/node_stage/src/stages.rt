@@ -8,9 +8,12 @@ ghost use Rattle.walk_rules.specs.Relation.{IsPlace, IsStage};
 ghost use Rattle.walk_rules.specs.Treatment.{judged, step_of, treated, treated4};
 ghost use Rattle.walk_rules.specs.Walk.{next_place};
 ghost use Rattle.walk_rules.specs.Way.{IsWayFrom, way_in};
-ghost use Rattle.node_stage.specs.Staging.{Stages, TellsOrKeeps, gave_of};
+ghost use Rattle.policy_encap.specs.declared.headers.TheConstants.{MAX_FRONT};
+ghost use Rattle.node_stage.specs.Fronted.{front_after, fronted};
+ghost use Rattle.node_stage.specs.Staging.{FrontOf, Stages, TellsOrKeeps, gave_of};
 
-use crate::content::{Content, Held};
+use crate::content::Content;
+use crate::content_buf::{ContentBuf, Held};
 use crate::endpoint::{treated_at_address, treated_in};
 use crate::error::{Told, dropped};
 use crate::packet::Packet;
@@ -31,14 +34,15 @@ fn treated(
     way: Way<'_>,
     packet: Packet,
     choice: u32,
-) -> Result<Staged, Content>
+) -> Result<Staged, ContentBuf>
     requires node { node < length net.now.nodes }
     requires leads { IsWayFrom net.now node (way_in way) }
-    ensures { Stages net.now node (V6 packet) result
-        (judged net.now node (V6 packet) (treated net.now node (way_in way.entry) packet choice)) }
+    ensures { Stages net.now node (fronted (V6 packet.packet) packet.front) result
+        (judged net.now node (V6 packet.packet)
+        (treated net.now node (way_in way.entry) packet.packet choice)) }
 {
     match way {
-        Way::Away { reason } => Ok(dropped_for(reason, Content::of(packet))),
+        Way::Away { reason } => Ok(dropped_for(reason, ContentBuf::of(packet))),
         Way::Over { links, lower } => Ok(sent(net, links, lower, packet, choice)),
         Way::Own => Ok(treated_at_address(packet)),
         Way::Into { sid } => treated_in(net, node, sid, packet),
@@ -49,21 +53,23 @@ fn treated(
 /// would be as where there is no way.
 fn treated4(net: &Net, node: u32, way: Way<'_>, packet: Packet4, choice: u32) -> Staged
     requires { IsWayFrom net.now node (way_in way) }
-    ensures { gave_of net.now node result
-        ≡ judged net.now node (V4 packet) (treated4 net.now node (way_in way.entry) packet choice) }
+    ensures gave { gave_of net.now node result
+        ≡ judged net.now node (V4 packet.packet)
+        (treated4 net.now node (way_in way.entry) packet.packet choice) }
+    ensures front { FrontOf net.now node (fronted (V4 packet.packet) packet.front) result }
 {
     match way {
-        Way::Away { reason } => dropped_for(reason, Content::of4(packet)),
+        Way::Away { reason } => dropped_for(reason, ContentBuf::of4(packet)),
         Way::Over { links, lower } => sent4(net, links, lower, packet, choice),
-        Way::Own | Way::Into { .. } => dropped_for(Reason::NoRoute, Content::of4(packet)),
+        Way::Own | Way::Into { .. } => dropped_for(Reason::NoRoute, ContentBuf::of4(packet)),
     }
 }
 
 /// What stands at a place, treated; for want of memory it is given back.
-fn treat(net: &Net, place: &Place, content: Content, choice: u32) -> Result<Staged, Content>
+fn treat(net: &Net, place: &Place, content: ContentBuf, choice: u32) -> Result<Staged, ContentBuf>
     requires { IsPlace net.now place.now }
     ensures { Stages net.now place.now.node content result
-        (step_of net.now place.now content choice) }
+        (step_of net.now place.now content.content choice) }
 {
     match content.held {
         Held::V6(packet) => {
@@ -76,7 +82,7 @@ fn treat(net: &Net, place: &Place, content: Content, choice: u32) -> Result<Stag
         }
         Held::Unreadable(bytes, reason) => Ok(dropped_for(
             reason,
-            Content::unreadable(bytes, reason),
+            ContentBuf::unreadable(bytes, reason),
         )),
     }
 }
@@ -86,13 +92,13 @@ fn treat(net: &Net, place: &Place, content: Content, choice: u32) -> Result<Stag
 fn told(
     net: &Net,
     place: &Place,
-    content: Content,
+    content: ContentBuf,
     choice: u32,
     slot: &mut IcmpSlot,
-) -> Result<Told, Content>
+) -> Result<Told, ContentBuf>
     requires { IsPlace net.now place.now }
-    ensures { TellsOrKeeps content slot.old.items result slot.new.items
-        (step_of net.now place.now content choice) }
+    ensures { TellsOrKeeps net.now place.now.node content slot.old.items result slot.new.items
+        (step_of net.now place.now content.content choice) }
 {
     let staged = treat(net, place, content, choice)?;
     slot.clear();
@@ -111,10 +117,58 @@ fn told(
 /// 8754 section 4.3, RFC 8986 section 4). A Send, or a drop for a link's MTU, takes the member of its
 /// set at `choice` modulo the number of members. The slot holds the ICMPv6 error that the node sends about what it drops, from
 /// its own address, exactly where the outcome says so, and else nothing; what it held is gone. The
-/// error's pointer counts in bytes from the first of the packet as it was (RFC 4443 section 3). By
-/// its code, and by no clause, it takes memory only at a SID that binds a policy, for a packet with
-/// fewer bytes spare in front than the longest header of a policy has. `NoMemory` leaves what stands
-/// there as it was, and the slot too.
+/// error's pointer counts in bytes from the first of the packet as it was (RFC 4443 section 3).
+///
+/// What is spare in front stays as it was, but for two: the bytes in front of a packet that a SID exposes
+/// are spare then, and where a packet goes on from a SID that binds a policy the header takes its
+/// place of what is spare, at least 2,080 bytes first. `NoMemory` comes only where fewer than 2,080
+/// bytes are spare, and leaves what stands there as it was, and the slot too (own rule).
+pub fn stage_buf(
+    alloc: Global,
+    net: &Net,
+    place: &Place,
+    content: &mut ContentBuf,
+    choice: u32,
+    error: &mut IcmpSlot,
+) -> Result<Outcome, NoMemory>
+    requires { IsPlace net.now place.now }
+    ensures function { IfOk result (λ outcome.
+        let gave = step_of net.now place.now content.old.content choice in
+        record { outcome = outcome; after = content.new.content; error = gave.error } ≡ gave) }
+
+    // The slot has the bytes of that error, and the outcome says whether there is one.
+    ensures error { OnOk result (error.new.items
+        ≡ error_bytes (step_of net.now place.now content.old.content choice).error) }
+    ensures tells { IfOk result (λ outcome.
+        TellsOfError outcome (step_of net.now place.now content.old.content choice).error) }
+    ensures relation { IfOk result (λ outcome.
+        IsStage net.now place.now content.old.content outcome content.new.content
+        (step_of net.now place.now content.old.content choice).error) }
+
+    // Where the packet stands next is a place too.
+    ensures next { IfOk result (λ outcome.
+        IfSome (next_place net.now place.now outcome) (IsPlace net.now)) }
+    ensures front { IfOk result (λ outcome.
+        content.new.front ≡ front_after net.now place.now.node content.old outcome) }
+    ensures room { OnErr result (content.old.front < MAX_FRONT) }
+    ensures kept { OnErr result (content.new ≡ content.old) }
+    ensures last { OnErr result (error.new.items ≡ error.old.items) }
+{
+    net.keeps_rules();
+    match told(net, place, content.take(alloc), choice, error) {
+        Ok(Told { outcome, after }) => {
+            *content = after;
+            Ok(outcome)
+        }
+        Err(kept) => {
+            *content = kept;
+            Err(NoMemory)
+        }
+    }
+}
+
+/// The same of a content whatever is spare in front of it; `NoMemory` comes only at a SID that binds a
+/// policy, and leaves what stands there as it was, and the slot too (own rule).
 pub fn stage(
     alloc: Global,
     net: &Net,
@@ -143,15 +197,5 @@ pub fn stage(
     ensures kept { OnErr result (content.new ≡ content.old) }
     ensures last { OnErr result (error.new.items ≡ error.old.items) }
 {
-    net.keeps_rules();
-    match told(net, place, content.take(alloc), choice, error) {
-        Ok(Told { outcome, after }) => {
-            *content = after;
-            Ok(outcome)
-        }
-        Err(kept) => {
-            *content = kept;
-            Err(NoMemory)
-        }
-    }
+    stage_buf(alloc, net, place, &mut content.buf, choice, error)
 }
