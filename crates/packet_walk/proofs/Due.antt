@@ -13,7 +13,7 @@ use Rattle.walk_rules.specs.declared.place.Ended.{Ended}
 use Rattle.packet_walk.specs.Flight.{InFlight, Flight, IsCounted, IsInFlight, stage_in, staged, packet_of, turned}
 use Rattle.packet_walk.specs.Rest.{rest_of}
 use Rattle.packet_walk.specs.Schedule.{steps_of, without_first, first_of, one_by_one, scheduled, comings_of, frame_of, next_of, Progress, progress, IsOf, due, IsTurnOf, IsNoTurn, GivesTo, EntryGives, IsLeft}
-use Rattle.packet_walk.proofs.Packets.{length-with, given-packet, turned-going, turned-other}
+use Rattle.packet_walk.proofs.Numbers.{length-with, given-packet, turned-going, turned-other}
 use Rattle.packet_walk.proofs.Rests.{rest-going}
 use Rattle.packet_walk.proofs.Schedules.{entry-none}
 use Rattle.packet_walk.proofs.Comings.{steps-absent, steps-at, without-at, out-none, out-at, rest-over, going-ended}

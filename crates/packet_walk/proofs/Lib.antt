@@ -1,4 +1,4 @@
-pub mod Packets
+pub mod Numbers
 pub mod Rests
 pub mod Moves
 pub mod Walking
@@ -6,3 +6,4 @@ pub mod Schedules
 pub mod Comings
 pub mod Due
 pub mod PublicLaws
+pub mod Rooms

@@ -7,7 +7,7 @@ use Rattle.walk_rules.specs.Walk.{Stage}
 use Rattle.walk_rules.specs.declared.limits.TheConstants.{MAX_STAGES}
 use Rattle.packet_walk.specs.Flight.{InFlight, Flight, IsCounted, stage_in, staged, packet_of, turned, entered}
 use Rattle.packet_walk.specs.Rest.{rest_of, Move, Enter, Turn, given_where, given_by, given_to, turns_of, turned_times}
-use Rattle.packet_walk.proofs.Packets.{packet-behind, turned-net, turned-other, turned-ended, turned-staged}
+use Rattle.packet_walk.proofs.Numbers.{packet-behind, turned-net, turned-other, turned-ended, turned-staged}
 use Rattle.packet_walk.proofs.Rests.{rest-going, rest-ended, staged-counted}
 
 -- what moves are to give a packet

@@ -11,7 +11,8 @@ use Rattle.walk_rules.specs.declared.place.Place.{Place}
 use Rattle.walk_rules.specs.Walk.{Stage, walk_of, choice_at, far_end, arrival, next_place, decisions, left_or_stages, end_by, end_of}
 use Rattle.walk_rules.proofs.PublicLaws.{decisions-few, walk_of-suc, walk_of-zero, walk_of-none}
 use Rattle.walk_rules.specs.declared.limits.TheConstants.{MAX_STAGES}
-use Rattle.packet_walk.specs.Flight.{InFlight, IsCounted, entering, stage_in, place_from, ended_after, advanced, staged}
+use Rattle.packet_walk.specs.Flight.{InFlight, IsCounted, entering, left_by, stage_in, place_from, ended_after, advanced, staged}
+use Rattle.node_stage.specs.Fronted.{FrontedContent}
 use Rattle.packet_walk.specs.Rest.{place_where, rest_of, end_where, end_from}
 
 -- a packet that goes on walks on from there, if it has stages left
@@ -124,7 +125,7 @@ left-next : (used : ℕ) (end : Ended) (next : Option Place) → ended_after use
 left-next used end None going = cc
 left-next used end (Some next) going = left-test used (nat_lt used MAX_STAGES) refl going
 
-pub advanced-counted : (net : Network) (outcome : Outcome) (after : Content) (p : InFlight) → p.ended ≡ None → IsCounted p
+pub advanced-counted : (net : Network) (outcome : Outcome) (after : FrontedContent) (p : InFlight) → p.ended ≡ None → IsCounted p
     → IsCounted (advanced net outcome after p)
 advanced-counted net outcome after p going counted =
     let few : decisions outcome ≤ 1 = decisions-few outcome in
@@ -138,9 +139,9 @@ advanced-counted net outcome after p going counted =
 
 pub staged-counted : (net : Network) (p : InFlight) → p.ended ≡ None → IsCounted p → IsCounted (staged net p)
 staged-counted net p going counted =
-    let s : Stage = stage_in net p in advanced-counted net s.gave.outcome s.gave.after p going counted
+    let s : Stage = stage_in net p in advanced-counted net s.gave.outcome (left_by net p s) p going counted
 
-pub entering-counted : (content : Content) (place : Place) (choices : List ℕ) → 0 < length choices
+pub entering-counted : (content : FrontedContent) (place : Place) (choices : List ℕ) → 0 < length choices
     → IsCounted (entering content place choices)
 entering-counted content place choices some =
     record { choices = some; decisions = omega arith; stages = omega arith; left = λ going. omega arith }

@@ -7,7 +7,7 @@ use Rattle.walk_rules.specs.declared.limits.TheConstants.{MAX_STAGES}
 use Rattle.packet_walk.specs.declared.event.Event.{Event}
 use Rattle.packet_walk.specs.Flight.{InFlight, Flight, IsCounted, IsGiven, IsInFlight, Turns, packet_of, after_stage, staged, turned}
 use Rattle.packet_walk.specs.Rest.{end_from, turned_times}
-use Rattle.packet_walk.proofs.Packets.{turned-going, packet-same, length-with, given-packet}
+use Rattle.packet_walk.proofs.Numbers.{turned-going, packet-same, length-with, given-packet}
 use Rattle.packet_walk.proofs.Rests.{staged-counted, end-going}
 use Rattle.packet_walk.proofs.Moves.{turned_times-suc}
 

@@ -1,9 +1,10 @@
 -- Packets in flight: what is held of them, and what a turn of one of them leaves.
-use Rattle.std.specs.Prelude.{◌≡◌, ℕ, zero, suc, ◌+◌, ◌^◌, ◌<◌, ◌≤◌, if◌then◌else◌, nat_lt, List, [], ◌∷◌, ◌++◌, length, slice_get, slice_set, Option, Some, None, Result, Ok, Err, IsSome}
+use Rattle.std.specs.Prelude.{◌≡◌, ℕ, zero, suc, ◌+◌, ◌^◌, ◌<◌, ◌≤◌, max, if◌then◌else◌, nat_lt, List, [], ◌∷◌, ◌++◌, length, slice_get, slice_set, Option, Some, None, Result, Ok, Err, IsSome}
 use Rattle.base.specs.declared.no_memory.NoMemory.{NoMemory}
 use Rattle.srv6_rules.specs.Packet.{Content, IsContent}
 use Rattle.icmp6_errors.specs.Answer.{error_bytes}
 use Rattle.net_model.specs.Network.{Network}
+use Rattle.node_stage.specs.Fronted.{FrontedContent, front_after, fronted, most_front}
 use Rattle.walk_rules.specs.declared.place.Ended.{Ended}
 use Rattle.walk_rules.specs.declared.place.Ended.TheVariants as ends
 use Rattle.walk_rules.specs.declared.place.Outcome.{Outcome}
@@ -13,15 +14,21 @@ use Rattle.walk_rules.specs.Walk.{Stage, stage_of, choice_at, decisions, next_pl
 use Rattle.packet_walk.specs.declared.event.Event.{Event}
 use Rattle.walk_rules.specs.declared.limits.TheConstants.{MAX_STAGES}
 
--- a packet in flight: what stands there and where, its list of choices, the decisions that it has taken, the stages that it has used,
--- and how it ended, if it has; a packet that ended stands where its last stage left it
+-- a packet in flight: what stands there, how many bytes are spare in front of it, and where, its list of choices, the decisions that it
+-- has taken, the stages that it has used, and how it ended, if it has; a packet that ended stands where its last stage left it
 pub record InFlight : Type 0 where
   pub content : Content
+  pub front : ℕ
   pub place : Place
   pub choices : List ℕ
   pub decisions : ℕ
   pub stages : ℕ
   pub ended : Option Ended
+
+-- packets in flight, whatever their network, and the bytes of the ICMPv6 error of the last stage, none where it sent none
+pub record Packets : Type 0 where
+  pub error : List ℕ
+  pub packets : List InFlight
 
 -- a network, the bytes of the ICMPv6 error of the last stage, none where it sent none, and the packets in flight
 pub record Flight : Type 0 where
@@ -29,10 +36,26 @@ pub record Flight : Type 0 where
   pub error : List ℕ
   pub packets : List InFlight
 
+-- packets in a network
+abbrev pub within : Network → Packets → Flight
+within net all = record { net = net; error = all.error; packets = all.packets }
+
 -- a packet that enters has taken no decision, used no stage and not ended
-abbrev pub entering : Content → Place → List ℕ → InFlight
-entering content place choices =
-    record { content = content; place = place; choices = choices; decisions = 0; stages = 0; ended = None }
+abbrev pub entering : FrontedContent → Place → List ℕ → InFlight
+entering c place choices =
+    record { content = c.content; front = c.front; place = place; choices = choices; decisions = 0; stages = 0; ended = None }
+
+-- what stands where a packet does
+abbrev pub fronted_of : InFlight → FrontedContent
+fronted_of p = fronted p.content p.front
+
+-- a packet with so many bytes spare in front
+abbrev pub with_front : ℕ → InFlight → InFlight
+with_front front p = record p { front = front }
+
+-- a packet with room in front for the longest header of a policy
+abbrev pub with_room : InFlight → InFlight
+with_room p = with_front (max most_front p.front) p
 
 -- the stage that a packet takes next: where it stands, of what stands there, under the choice of its next decision
 abbrev pub stage_in : Network → InFlight → Stage
@@ -48,11 +71,12 @@ abbrev pub ended_after : ℕ → Ended → Option Place → Option Ended
 ended_after used end None = Some end
 ended_after used end (Some next) = if nat_lt used MAX_STAGES then None else Some ends.Stages
 
--- a packet after a stage of an outcome, which left a content
-abbrev pub advanced : Network → Outcome → Content → InFlight → InFlight
+-- a packet after a stage of an outcome, by what the stage left
+abbrev pub advanced : Network → Outcome → FrontedContent → InFlight → InFlight
 advanced net outcome after p =
     record {
-      content = after;
+      content = after.content;
+      front = after.front;
       place = place_from p.place (next_place net p.place outcome);
       choices = p.choices;
       decisions = p.decisions + decisions outcome;
@@ -60,9 +84,13 @@ advanced net outcome after p =
       ended = ended_after (p.stages + 1) (end_by net p.place outcome) (next_place net p.place outcome);
     }
 
+-- what a packet's next stage leaves, and what is spare then in front of it: before the stage there was room in front
+abbrev pub left_by : Network → InFlight → Stage → FrontedContent
+left_by net p s = fronted s.gave.after (front_after net p.place.node (fronted_of (with_room p)) s.gave.outcome)
+
 -- a packet after its next stage
 abbrev pub staged : Network → InFlight → InFlight
-staged net p = let s = stage_in net p in advanced net s.gave.outcome s.gave.after p
+staged net p = let s = stage_in net p in advanced net s.gave.outcome (left_by net p s) p
 
 -- the packet of a number; they count from 1, in the order of entering
 abbrev pub packet_in : List InFlight → ℕ → Option InFlight
@@ -99,14 +127,29 @@ turned_by number f (Some p) = turned_where number f p p.ended
 abbrev pub turned : ℕ → Flight → Flight
 turned number f = turned_by number f (packet_of f number)
 
+-- a flight after room was made in front of the packet of a number; for one that has ended none is made
+
+abbrev pub reserved_where : ℕ → Flight → InFlight → Option Ended → Flight
+reserved_where number f p None = record { net = f.net; error = f.error; packets = with_packet f.packets number (with_room p) }
+reserved_where number f p (Some end) = f
+
+-- what is spare in front of a packet in flight; nothing of one that has ended
+
+abbrev pub room_where : ℕ → Option Ended → ℕ
+room_where front None = front
+room_where front (Some end) = 0
+
 -- a flight that another packet entered
 abbrev pub entered : Flight → InFlight → Flight
 entered f p = record { net = f.net; error = f.error; packets = f.packets ++ p ∷ [] }
 
 -- the number is one that was given
-pub record IsGiven (f : Flight) (number : ℕ) : Type 0 where
+pub record IsNumber (packets : List InFlight) (number : ℕ) : Type 0 where
   pub first : 1 ≤ number
-  pub last : number ≤ length f.packets
+  pub last : number ≤ length packets
+
+abbrev pub IsGiven : Flight → ℕ → Type 0
+IsGiven f number = IsNumber f.packets number
 
 -- the event of a stage of the packet of a number
 abbrev pub event_of : ℕ → Stage → Event
@@ -118,16 +161,20 @@ Enters old p (Ok number) new = (number ≡ length old.packets + 1) × (new ≡ e
 Enters old p (Err why) new = new ≡ old
 
 -- what the next stage of the packet of a number answers and leaves
-abbrev pub StagesIn : ℕ → Flight → InFlight → Result Outcome NoMemory → Flight → Type 0
-StagesIn number old p (Ok outcome) new = (outcome ≡ (stage_in old.net p).gave.outcome) × (new ≡ after_stage number old p)
-StagesIn number old p (Err why) new = new ≡ old
+abbrev pub StagesIn : ℕ → Flight → InFlight → Outcome → Flight → Type 0
+StagesIn number old p outcome new = (outcome ≡ (stage_in old.net p).gave.outcome) × (new ≡ after_stage number old p)
 
 -- what a turn of a packet answers and leaves
 abbrev pub Turns : ℕ → Flight → InFlight → Result (Option Event) NoMemory → Flight → Type 0
 Turns number old p (Ok None) new = IsSome p.ended × (new ≡ old)
 Turns number old p (Ok (Some event)) new =
     (p.ended ≡ None) × (event ≡ event_of number (stage_in old.net p)) × (new ≡ after_stage number old p)
-Turns number old p (Err why) new = (p.ended ≡ None) × (new ≡ old)
+Turns number old p (Err why) new = (p.ended ≡ None) × (new ≡ old) × (p.front < most_front)
+
+-- what making room in front of a packet answers and leaves
+abbrev pub Reserves : ℕ → Flight → InFlight → Result (Unit {0}) NoMemory → Flight → Type 0
+Reserves number old p (Ok none) new = new ≡ reserved_where number old p p.ended
+Reserves number old p (Err why) new = (p.ended ≡ None) × (new ≡ old) × (p.front < most_front)
 
 -- what is so of a packet's counts: it has choices, at most as many decisions as stages, and no more stages than it may have; one
 -- that has not ended has stages left
@@ -143,18 +190,21 @@ pub record IsInFlight (net : Network) (p : InFlight) : Type 0 where
   pub content : IsContent p.content
   pub counted : IsCounted p
 
--- the packets stand at places of the network, and numbers can count them
-pub record IsFlight (net : Network) (packets : List InFlight) : Type 0 where
-  pub few : length packets < 2 ^ 32
-  pub places : (before : ℕ) (p : InFlight) → slice_get packets before ≡ Some p → IsPlace net p.place
+-- the packets stand at places of the network
+abbrev pub ArePlaced : Network → List InFlight → Type 0
+ArePlaced net packets = (before : ℕ) (p : InFlight) → slice_get packets before ≡ Some p → IsPlace net p.place
 
 -- a packet by what is held of it
-abbrev pub packet_value : Content → Place → List ℕ → ℕ → ℕ → Option Ended → InFlight
-packet_value content place choices decisions stages ended =
-    record { content = content; place = place; choices = choices; decisions = decisions; stages = stages; ended = ended }
+abbrev pub packet_value : FrontedContent → Place → List ℕ → ℕ → ℕ → Option Ended → InFlight
+packet_value c place choices decisions stages ended =
+    record { content = c.content; front = c.front; place = place; choices = choices; decisions = decisions; stages = stages; ended = ended }
 
--- what the next stage of a packet answers and leaves, of the packet and in the slot with what it held
-abbrev pub StagesAs : Network → InFlight → List ℕ → Result Outcome NoMemory → InFlight → List ℕ → Type 0
-StagesAs net old held (Ok outcome) new slot =
+-- what the next stage of a packet answers and leaves, of the packet and in the slot
+abbrev pub StagesAs : Network → InFlight → Outcome → InFlight → List ℕ → Type 0
+StagesAs net old outcome new slot =
     let s = stage_in net old in (outcome ≡ s.gave.outcome) × (new ≡ staged net old) × (slot ≡ error_bytes s.gave.error)
-StagesAs net old held (Err why) new slot = (new ≡ old) × (slot ≡ held)
+
+-- what making room in front of a packet that has not ended answers and leaves
+abbrev pub ReservesAs : InFlight → Result (Unit {0}) NoMemory → InFlight → Type 0
+ReservesAs old (Ok none) new = new ≡ with_room old
+ReservesAs old (Err why) new = (new ≡ old) × (old.front < most_front)

@@ -1,46 +1,40 @@
-//! Packets side by side.
+//! Packets side by side in a network.
 
-ghost use Rattle.std.specs.Prelude.{◌≡◌, ◌+◌, ◌≤◌, ◌<◌, ◌^◌, [], length, IfSome, None, Some};
+ghost use Rattle.std.specs.Prelude.{◌≡◌, ◌+◌, ◌≤◌, ◌<◌, ◌^◌, [], length, IfSome, None, Ok};
 ghost use Rattle.net_model.specs.Keeps.{Keeps};
 ghost use Rattle.srv6_rules.specs.Packet.{bytes_of, entered as entered_as};
 ghost use Rattle.walk_rules.specs.Relation.{IsPlace};
-ghost use Rattle.packet_walk.specs.Flight.{Enters, InFlight as InFlightValue, IsGiven, IsInFlight, StagesIn, Turns, entering, packet_of};
+ghost use Rattle.node_stage.specs.Fronted.{fronted, most_front};
+ghost use Rattle.packet_walk.specs.Flight.{Enters, IsGiven, IsInFlight, Reserves, Turns, entering, packet_of, room_where};
 ghost use Rattle.packet_walk.specs.Rest.{Walks};
 
 use crate::event::Event;
-use crate::in_flight::InFlight;
+use crate::packets::Packets;
 use base::NoMemory;
-use icmp6_errors::IcmpSlot;
 use net_model::Net;
-use node_stage::Content;
+use node_stage::ContentBuf;
 use pkt_buf::PktBuf;
 use srv6_rules::numbers::MIN_MTU;
 use std::alloc::Global;
 use std::marker::Model;
-use walk_rules::{Ended, Outcome, Place};
+use walk_rules::{Ended, Place};
 
 /// Packets in flight in a network. They have numbers from 1, in the order in which they entered,
 /// and each takes its own walk, whatever turns the others have in between (own rule).
 #[derive(Debug, Drop)]
 pub struct Flight<'a> {
-    alloc: Global,
     net: &'a Net,
-    error: IcmpSlot,
-    packets: Vec<InFlight<'a>>,
+    packets: Packets<'a>,
 }
 
 impl<'a> Model for Flight<'a> {
-    ghost use Rattle.packet_walk.specs.Flight.{Flight as FlightValue, IsFlight};
+    ghost use Rattle.packet_walk.specs.Flight.{ArePlaced, Flight as FlightValue, within};
 
     ghost Value = { FlightValue };
 
-    ghost view = { λ f. record {
-      net = f.net.now;
-      error = f.error.items;
-      packets = f.packets.items;
-    } };
+    ghost view = { λ f. within f.net.now f.packets };
 
-    ghost invariant = { λ f. IsFlight f.net.now f.packets.items };
+    ghost invariant = { λ f. ArePlaced f.net.now f.packets.packets };
 }
 
 impl<'a> Flight<'a> {
@@ -49,10 +43,8 @@ impl<'a> Flight<'a> {
         ensures { result ≡ record { net = net.now; error = []; packets = [] } }
     {
         Flight {
-            alloc,
             net,
-            error: IcmpSlot::new(),
-            packets: Vec::new(alloc),
+            packets: Packets::new(alloc),
         }
     }
 
@@ -60,7 +52,7 @@ impl<'a> Flight<'a> {
     pub fn count(&self) -> u32
         ensures { result ≡ length self.now.packets }
     {
-        self.packets.len() as u32
+        self.packets.count()
     }
 
     /// The network keeps its rules, and a packet is at a place of it (own rule). For the callers'
@@ -71,16 +63,7 @@ impl<'a> Flight<'a> {
         ensures packet { IfSome (packet_of self.now number) (IsInFlight self.now.net) }
     {
         self.net.keeps_rules();
-        self.packet(number).keeps_rules();
-    }
-
-    /// The packet of a number.
-    fn packet(&self, number: u32) -> &InFlight<'a>
-        requires { IsGiven self.now number }
-        ensures packet { packet_of self.now number ≡ Some result.now }
-        ensures place { IsPlace self.now.net result.now.place }
-    {
-        &self.packets[(number - 1) as usize]
+        self.packets.keeps_rules(number);
     }
 
     /// What stands at a place enters there, with the choices of its decisions: decision d, from 0,
@@ -88,7 +71,7 @@ impl<'a> Flight<'a> {
     /// from 1. `NoMemory` leaves the flight as it was.
     pub fn enter_content(
         &mut self,
-        content: Content,
+        content: ContentBuf,
         place: Place,
         choices: &'a [u32],
     ) -> Result<u32, NoMemory>
@@ -97,8 +80,7 @@ impl<'a> Flight<'a> {
         requires few { length self.old.packets + 1 < 2 ^ 32 }
         ensures { Enters self.old (entering content place choices.now) result self.new }
     {
-        self.packets.push(InFlight::new(content, place, choices))?;
-        Ok(self.count())
+        self.packets.enter_content(content, place, choices)
     }
 
     /// A packet's bytes enter at a place, in place: they are read as a packet of the place's family,
@@ -110,39 +92,52 @@ impl<'a> Flight<'a> {
         requires choices { 0 < length choices.now }
         requires few { length self.old.packets + 1 < 2 ^ 32 }
         ensures { Enters self.old
-            (entering (entered_as place.family buf.bytes) place choices.now) result self.new }
+            (entering (fronted (entered_as place.family buf.bytes) buf.front) place choices.now)
+            result self.new }
     {
-        self.enter_content(Content::enter_buf(place.family, buf), place, choices)
+        self.packets.enter(buf, place, choices)
     }
 
-    /// The next stage of a packet that has not ended.
-    fn stage_of(&mut self, number: u32) -> Result<Outcome, NoMemory>
-        requires given { IsGiven self.old number }
-        requires going { IfSome (packet_of self.old number) (λ p. p.ended ≡ None) }
-        ensures { IfSome (packet_of self.old number) (λ p.
-            StagesIn number self.old p result self.new) }
+    /// How many bytes are spare in front of a packet in flight, and 0 of one that has ended (own rule).
+    pub fn room(&self, number: u32) -> usize
+        requires { IsGiven self.now number }
+        ensures { IfSome (packet_of self.now number) (λ p. result ≡ room_where p.front p.ended) }
     {
-        self.packets[(number - 1) as usize].take_stage(self.alloc, self.net, &mut self.error)
+        self.packets.room(number)
+    }
+
+    /// Makes room in front of a packet in flight, at least 2,080 bytes, as many as the longest header of
+    /// a policy has; nothing else changes, and nothing of a packet that has ended (own rule).
+    /// `NoMemory` comes only where there is less room, and leaves the flight as it was.
+    pub fn reserve(&mut self, number: u32) -> Result<(), NoMemory>
+        requires { IsGiven self.old number }
+        ensures { IfSome (packet_of self.old number) (λ p.
+            Reserves number self.old p result self.new) }
+    {
+        self.packets.reserve(number)
+    }
+
+    /// The next stage of a packet that has ended or has room in front of it, as `turn` has it; takes no
+    /// memory (own rule).
+    pub fn turn_ready(&mut self, number: u32) -> Option<Event>
+        requires given { IsGiven self.old number }
+        requires ready { IfSome (packet_of self.old number) (λ p.
+            p.ended ≡ None → most_front ≤ p.front) }
+        ensures { IfSome (packet_of self.old number) (λ p.
+            Turns number self.old p (Ok result) self.new) }
+    {
+        self.packets.turn_ready(self.net, number)
     }
 
     /// The next stage of a packet, unless it has ended: then there is none, and nothing changes (own
-    /// rule). A stage changes this packet and the last error alone. `NoMemory`, which by the code
-    /// of stages, and by no clause, comes only at a SID that binds a policy, leaves the flight as it was.
+    /// rule). A stage changes this packet and the last error alone; there is room in front of the packet
+    /// before it. `NoMemory`, which comes only where there is less room, leaves the flight as it was.
     pub fn turn(&mut self, number: u32) -> Result<Option<Event>, NoMemory>
         requires { IsGiven self.old number }
         ensures { IfSome (packet_of self.old number) (λ p.
             Turns number self.old p result self.new) }
     {
-        if self.ended(number).is_some() {
-            return Ok(None);
-        }
-        let node = self.packet(number).node();
-        let outcome = self.stage_of(number)?;
-        Ok(Some(Event {
-            packet: number,
-            node,
-            outcome,
-        }))
+        self.packets.turn(self.net, number)
     }
 
     /// The bytes of what stands where a packet stands, or ended (own rule).
@@ -150,7 +145,7 @@ impl<'a> Flight<'a> {
         requires { IsGiven self.now number }
         ensures { IfSome (packet_of self.now number) (λ p. result.now ≡ bytes_of p.content) }
     {
-        self.packet(number).bytes()
+        self.packets.bytes(number)
     }
 
     /// The bytes of the ICMPv6 error that the last stage sent: none where it sent none, and before
@@ -159,7 +154,7 @@ impl<'a> Flight<'a> {
         ensures bytes { result.now ≡ self.now.error }
         ensures short { length result.now ≤ MIN_MTU }
     {
-        self.error.as_slice()
+        self.packets.error()
     }
 
     /// How a packet ended, if it has (own rule).
@@ -167,7 +162,7 @@ impl<'a> Flight<'a> {
         requires { IsGiven self.now number }
         ensures { IfSome (packet_of self.now number) (λ p. result ≡ p.ended) }
     {
-        self.packet(number).ended()
+        self.packets.ended(number)
     }
 
     /// Takes a packet to its end, which is that of its walk of at most 10,000 stages, and gives it;

@@ -1,16 +1,17 @@
 //! One packet in flight.
 
 ghost use Rattle.std.specs.Prelude.{◌≡◌, ◌<◌, ◌≤◌, length, None, Some, [], IsSome, IfOk, OnOk, OnErr};
+ghost use Rattle.node_stage.specs.Fronted.{most_front};
 ghost use Rattle.icmp6_errors.specs.Answer.{error_bytes};
 ghost use Rattle.srv6_rules.specs.Packet.{IsContent, bytes_of};
 ghost use Rattle.walk_rules.specs.Relation.{IsPlace};
 ghost use Rattle.walk_rules.specs.Walk.{choice_at, decisions, takes_member};
-ghost use Rattle.packet_walk.specs.Flight.{IsCounted, IsInFlight, StagesAs, advanced, entering, stage_in, staged};
+ghost use Rattle.packet_walk.specs.Flight.{IsCounted, IsInFlight, ReservesAs, StagesAs, advanced, entering, fronted_of, stage_in, staged};
 
 use base::NoMemory;
 use icmp6_errors::IcmpSlot;
 use net_model::Net;
-use node_stage::{Content, stage};
+use node_stage::{ContentBuf, stage_buf};
 use srv6_rules::Reason;
 use std::alloc::Global;
 use std::marker::Model;
@@ -19,7 +20,7 @@ use walk_rules::{Ended, MAX_STAGES, Outcome, Place, ended_by, next_place};
 /// A packet in flight.
 #[derive(Debug, Drop)]
 pub(crate) struct InFlight<'a> {
-    content: Content,
+    content: ContentBuf,
     place: Place,
     choices: &'a [u32],
     decisions: u32,
@@ -81,7 +82,7 @@ pub fn decisions_of(outcome: &Outcome) -> usize
 
 impl<'a> InFlight<'a> {
     /// A packet that enters at a place, with its list of choices; takes no memory.
-    pub(crate) fn new(content: Content, place: Place, choices: &'a [u32]) -> InFlight<'a>
+    pub(crate) fn new(content: ContentBuf, place: Place, choices: &'a [u32]) -> InFlight<'a>
         requires { 0 < length choices.now }
         ensures { result ≡ entering content place choices.now }
     {
@@ -111,6 +112,22 @@ impl<'a> InFlight<'a> {
         self.content.bytes()
     }
 
+    /// How many bytes are spare in front.
+    pub(crate) fn front(&self) -> usize
+        ensures { result ≡ self.now.front }
+    {
+        self.content.front()
+    }
+
+    /// Gives room in front for the longest header of a policy. `NoMemory`, which comes only where there
+    /// is less, leaves the packet as it was.
+    pub(crate) fn reserve(&mut self) -> Result<(), NoMemory>
+        ensures room { ReservesAs self.old result self.new }
+        ensures place { self.new.place ≡ self.old.place }
+    {
+        self.content.reserve()
+    }
+
     /// How it ended, if it has.
     pub(crate) fn ended(&self) -> Option<Ended>
         ensures { result ≡ self.now.ended }
@@ -135,7 +152,7 @@ impl<'a> InFlight<'a> {
     /// Counts a stage of an outcome, and goes on, or ends.
     fn advance(&mut self, net: &Net, outcome: &Outcome)
         requires going { self.old.ended ≡ None }
-        ensures { self.new ≡ advanced net.now outcome.now self.old.content self.old }
+        ensures { self.new ≡ advanced net.now outcome.now (fronted_of self.old) self.old }
     {
         self.decisions += decisions_of(outcome) as u32;
         self.stages += 1;
@@ -150,22 +167,19 @@ impl<'a> InFlight<'a> {
         }
     }
 
-    /// The next stage of a packet that has not ended; the slot has the ICMPv6 error about what it
-    /// drops. `NoMemory` leaves the packet and the slot as they were.
-    pub(crate) fn take_stage(
-        &mut self,
-        alloc: Global,
-        net: &Net,
-        error: &mut IcmpSlot,
-    ) -> Result<Outcome, NoMemory>
+    /// The next stage of a packet that has not ended and has room in front of it; the slot has the ICMPv6
+    /// error about what it drops.
+    pub(crate) fn take_stage(&mut self, alloc: Global, net: &Net, error: &mut IcmpSlot) -> Outcome
         requires place { IsPlace net.now self.old.place }
         requires going { self.old.ended ≡ None }
-        ensures stage { StagesAs net.now self.old error.old.items result self.new error.new.items }
+        requires ready { most_front ≤ self.old.front }
+        ensures stage { StagesAs net.now self.old result self.new error.new.items }
         ensures place { IsPlace net.now self.new.place }
     {
         let choice = self.choice();
-        let outcome = stage(alloc, net, &self.place, &mut self.content, choice, error)?;
+        let taken = stage_buf(alloc, net, &self.place, &mut self.content, choice, error);
+        let Ok(outcome) = taken else { unreachable!() };
         self.advance(net, &outcome);
-        Ok(outcome)
+        outcome
     }
 }

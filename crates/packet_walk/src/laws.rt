@@ -4,11 +4,11 @@ ghost use Rattle.std.specs.Prelude.{◌≡◌, ◌≢◌, ℕ, ◌<◌, ◌++◌
 ghost use Rattle.std.specs.List.{IsDistinct};
 ghost use Rattle.std.specs.List.Sorted.{IsStrictlyIncreasing};
 ghost use Rattle.net_model.specs.Network.{Network};
-ghost use Rattle.srv6_rules.specs.Packet.{Content};
+ghost use Rattle.node_stage.specs.Fronted.{FrontedContent};
 ghost use Rattle.walk_rules.specs.Walk.{choice_at, end_of, walk_of};
 ghost use Rattle.walk_rules.specs.declared.place.Ended.{Ended};
 ghost use Rattle.walk_rules.specs.declared.place.Place.{Place};
-ghost use Rattle.packet_walk.specs.Flight.{Flight, InFlight, IsCounted, entered, entering, packet_of, stage_in, staged, turned};
+ghost use Rattle.packet_walk.specs.Flight.{Flight, InFlight, IsCounted, entered, entering, packet_of, stage_in, staged, turned, with_front};
 ghost use Rattle.packet_walk.specs.Rest.{Move, end_from, given_to, rest_of, turns_of};
 ghost use Rattle.packet_walk.specs.Schedule.{Coming, all_of, comings_of, frame_of, scheduled, stages_of, steps_in, steps_of};
 
@@ -26,8 +26,8 @@ pub fn a_turn_takes_the_next_stage()
         rest_of net p ≡ [] }
     ensures over_end { (net : Network) (p : InFlight) (end : Ended) → p.ended ≡ Some end →
         end_from net p ≡ end }
-    ensures first { (net : Network) (content : Content) (place : Place) (choices : List ℕ) →
-        let walk = walk_of MAX_STAGES net (Some place) content (choice_at choices) 0 in
+    ensures first { (net : Network) (content : FrontedContent) (place : Place) (choices : List ℕ) →
+        let walk = walk_of MAX_STAGES net (Some place) content.content (choice_at choices) 0 in
         let p = entering content place choices in
         (rest_of net p ≡ walk) × (end_from net p ≡ end_of net walk) }
 {}
@@ -42,6 +42,14 @@ pub fn a_turn_changes_one_packet()
     ensures network { (f : Flight) (number : ℕ) → (turned number f).net ≡ f.net }
 {}
 
+/// Room in front of a packet changes nothing of its walk (own rule).
+pub fn room_changes_no_walk()
+    ensures rest { (net : Network) (front : ℕ) (p : InFlight) →
+        rest_of net (with_front front p) ≡ rest_of net p }
+    ensures end { (net : Network) (front : ℕ) (p : InFlight) →
+        end_from net (with_front front p) ≡ end_from net p }
+{}
+
 /// Over any sequence of turns, and of packets that enter, the stages that are given to a packet are
 /// the beginning of the rest of its own walk, as many as it had turns; so from its entry they are
 /// the beginning of its walk of at most 10,000 stages (own rule).
@@ -50,11 +58,11 @@ pub fn a_packet_takes_its_own_walk()
         packet_of f number ≡ Some p → IsCounted p →
         given_to number f moves ≡ take (turns_of number moves) (rest_of f.net p) }
     ensures walk { (f : Flight) (number : ℕ) (moves : List Move) →
-        (content : Content) (place : Place) (choices : List ℕ) → 0 < length choices →
+        (content : FrontedContent) (place : Place) (choices : List ℕ) → 0 < length choices →
         packet_of f number ≡ Some (entering content place choices) →
         given_to number f moves
         ≡ take (turns_of number moves)
-        (walk_of MAX_STAGES f.net (Some place) content (choice_at choices) 0) }
+        (walk_of MAX_STAGES f.net (Some place) content.content (choice_at choices) 0) }
 {}
 
 /// Whatever the schedule, a packet takes all the steps of its walk that were still to come, in their

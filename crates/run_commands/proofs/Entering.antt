@@ -6,7 +6,7 @@ use Rattle.std.proofs.lemmas.List.Elements.{All-push, All-get_or, All-from_get_o
 use Rattle.pcap_io.specs.declared.frame.Body.{Body}
 use Rattle.pcap_io.specs.declared.frame.Frame.{Frame}
 use Rattle.net_model.specs.Network.{Network}
-use Rattle.packet_walk.specs.Flight.{InFlight, Flight, entered}
+use Rattle.packet_walk.specs.Flight.{InFlight, Flight, entered, with_front}
 use Rattle.packet_walk.specs.Rest.{rest_of}
 use Rattle.packet_walk.specs.Schedule.{Coming, comings, comings_of}
 use Rattle.packet_walk.proofs.PublicLaws.{rising-push}
@@ -79,8 +79,10 @@ module _ (net : Network) (last : ℕ) (before : List Coming) (f : Flight) (numbe
       subst (λ (k : Flight). HasEntered net number (before ++ []) ms k) (sym is.1)
       (subst (λ (xs : List ℕ). HasEntered net number (before ++ []) xs f) (sym is.0) enters_none)
   enters_as (Some p) ms g is =
-      subst (λ (k : Flight). HasEntered net number (before ++ coming number (rest_of net p)) ms k) (sym is.1)
-      (subst (λ (xs : List ℕ). HasEntered net number (before ++ coming number (rest_of net p)) xs (entered f p)) (sym is.0) (enters_one p))
+      let all : List Coming = before ++ coming number (rest_of net p) in
+      subst (λ (k : Flight). HasEntered net number all ms k) (sym is.1.1)
+      (subst (λ (xs : List ℕ). HasEntered net number all xs (entered f (with_front is.1.0 p))) (sym is.0)
+      (enters_one (with_front is.1.0 p)))
 
 -- the packets of the frames that are done entered
 pub record EnteredOf (packets : Frame → List Coming) (net : Network) (whole now : FramesSeen) (numbers : List ℕ) (f : Flight) : Type 0 where

@@ -8,6 +8,7 @@ use Rattle.net_model.specs.Network.{Network}
 use Rattle.walk_rules.specs.Relation.{IsPlace}
 use Rattle.walk_rules.specs.Walk.{Stage, walk_of, choice_at, end_of}
 use Rattle.walk_rules.specs.declared.limits.TheConstants.{MAX_STAGES}
+use Rattle.node_stage.specs.Fronted.{fronted}
 use Rattle.packet_walk.specs.Flight.{InFlight, entering}
 use Rattle.packet_walk.specs.Schedule.{Coming}
 use Rattle.command_output.specs.Lines.{packet_line, unread_line}
@@ -76,11 +77,11 @@ coming_of_frame net choices entry frame = coming_if_comes net choices frame.numb
 abbrev pub comings_of_frames : Network → List ℕ → (Body → Entry) → List Frame → List Coming
 comings_of_frames net choices entry frames = flat_map (coming_of_frame net choices entry) frames
 
--- a packet that enters, as it is in flight
+-- a packet that enters, as it is in flight with nothing spare in front
 
 abbrev pub in_flight_if_comes : List ℕ → Option Comes → Option InFlight
 in_flight_if_comes choices None = None
-in_flight_if_comes choices (Some comes) = Some (entering comes.content comes.place choices)
+in_flight_if_comes choices (Some comes) = Some (entering (fronted comes.content 0) comes.place choices)
 
 -- a packet of a number that is walked to its end: the frames of its walk, and then its line
 abbrev pub packet_pieces : Network → ℕ → List Stage → List Piece

@@ -5,7 +5,7 @@ use Rattle.std.specs.List.Sorted.{IsStrictlyIncreasing}
 use Rattle.net_model.specs.Network.{Network}
 use Rattle.walk_rules.specs.declared.place.Ended.{Ended}
 use Rattle.walk_rules.specs.Walk.{Stage, end_of}
-use Rattle.packet_walk.specs.Flight.{Flight, InFlight, entered}
+use Rattle.packet_walk.specs.Flight.{Flight, InFlight, entered, with_front}
 use Rattle.packet_walk.specs.Schedule.{Coming, Taken, scheduled, stages_of}
 use Rattle.run_commands.specs.Capture.{frame_of_gave}
 use Rattle.command_output.specs.Lines.{packet_line}
@@ -63,7 +63,7 @@ pub record IsInStep (net : Network) (numbers : List ℕ) (f : Flight) : Type 0 w
   pub each : length numbers ≡ length f.packets
   pub rising : IsStrictlyIncreasing numbers
 
--- a packet, if there is one, entered after the others, with the number of its frame
+-- a packet, if there is one, entered after the others, with the number of its frame, whatever is spare in front of it
 abbrev pub IsEntered : ℕ → Option InFlight → List ℕ → Flight → List ℕ → Flight → Type 0
 IsEntered number None numbers_old old numbers_new new = (numbers_new ≡ numbers_old) × (new ≡ old)
-IsEntered number (Some p) numbers_old old numbers_new new = (numbers_new ≡ numbers_old ++ number ∷ []) × (new ≡ entered old p)
+IsEntered number (Some p) numbers_old old numbers_new new = (numbers_new ≡ numbers_old ++ number ∷ []) × ((front : ℕ) × (new ≡ entered old (with_front front p)))

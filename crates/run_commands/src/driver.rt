@@ -13,8 +13,8 @@ ghost use Rattle.run_commands.specs.Scheduled.{IsEntered, IsInStep, scheduled_pi
 
 use crate::course::Course;
 use crate::enters::{Comes, Enters, Stays};
+use crate::put_walk::{put_head, put_walk};
 use crate::scheduled::{Entered, put_turns};
-use crate::written::{put_head, put_walk};
 use base::NoMemory;
 use command_inputs::{Found, Frames, Packets, Puts, put_frames};
 use command_output::{Failure, Pool, Refusal, line_of_packet, line_of_unread};

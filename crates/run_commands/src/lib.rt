@@ -10,12 +10,12 @@ mod course;
 mod driver;
 mod enters;
 pub mod laws;
+mod put_walk;
 pub mod run;
 mod scheduled;
 pub mod show;
-mod written;
 
 pub use course::Course;
 pub use driver::drive;
 pub use enters::{Comes, Enters, Stays};
-pub use written::staged;
+pub use put_walk::staged;

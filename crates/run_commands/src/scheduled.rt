@@ -1,9 +1,10 @@
 //! Packets side by side, in turns by a schedule, written by the pool as they go.
 
-ghost use Rattle.std.specs.Prelude.{◌≡◌, ◌≤◌, ◌<◌, ◌+◌, ◌^◌, ◌++◌, ◌∷◌, [], IfSome, None, OnErr, OnOk, Option, length};
+ghost use Rattle.std.specs.Prelude.{◌≡◌, ◌≤◌, ◌<◌, ◌+◌, ◌^◌, ◌++◌, ◌∷◌, [], IfSome, None, OnErr, OnOk, Option, Some, length};
 ghost use Rattle.icmp6_errors.specs.Answer.{error_bytes};
-ghost use Rattle.packet_walk.specs.Flight.{IsGiven, entered, entering, packet_of, turned};
+ghost use Rattle.packet_walk.specs.Flight.{IsGiven, entering, packet_of, turned};
 ghost use Rattle.packet_walk.specs.Schedule.{comings_of, next_of};
+ghost use Rattle.node_stage.specs.Fronted.{fronted};
 ghost use Rattle.srv6_rules.specs.Packet.{Packet as PacketValue, bytes_of};
 ghost use Rattle.walk_rules.specs.Laws.{TellsOfError};
 ghost use Rattle.walk_rules.specs.Relation.{IsPlace};
@@ -11,11 +12,11 @@ ghost use Rattle.command_output.specs.Answers.{ending_of_step};
 ghost use Rattle.run_commands.specs.Capture.{IsWritable, frame_by};
 ghost use Rattle.command_output.specs.Gathered.{Goes, pooled};
 ghost use Rattle.command_output.specs.Pieces.{ForErr, ForOut};
-ghost use Rattle.run_commands.specs.Scheduled.{IsInStep, line_by, pieces_of_stage, scheduled_pieces};
+ghost use Rattle.run_commands.specs.Scheduled.{IsEntered, IsInStep, line_by, pieces_of_stage, scheduled_pieces};
 ghost use Rattle.command_output.specs.Sent.{IsEnd};
 
 use crate::course::Course;
-use crate::written::put_sent;
+use crate::put_walk::put_sent;
 use base::NoMemory;
 use command_output::{Failure, Pool, line_of_packet};
 use net_model::Net;
@@ -58,16 +59,16 @@ impl<'a> Entered<'a> {
         requires place { IsPlace self.old.flight.net place }
         requires choices { 0 < length choices.now }
         requires few { length self.old.flight.packets + 1 < 2 ^ 32 }
-        ensures flight { OnOk result (self.new.flight
-            ≡ entered self.old.flight (entering content place choices.now)) }
-        ensures numbers { OnOk result (self.new.numbers.items
-            ≡ self.old.numbers.items ++ number ∷ []) }
+        ensures entered { OnOk result (IsEntered number
+            (Some (entering (fronted content 0) place choices.now))
+            self.old.numbers.items self.old.flight self.new.numbers.items self.new.flight) }
         ensures kept_flight { OnErr result (self.new.flight ≡ self.old.flight) }
         ensures kept_numbers { OnErr result (self.new.numbers.items ≡ self.old.numbers.items) }
     {
         // With room for the number only the flight's own room can be wanting.
         self.numbers.reserve(1)?;
-        self.flight.enter_content(content, place, choices)?;
+        self.flight
+            .enter_content(content.into_buf(), place, choices)?;
         self.numbers.push(number)?;
         Ok(())
     }

@@ -1,5 +1,5 @@
 use Rattle.std.proofs.Common.{[], ◌∷◌}
-use Rattle.packet_walk.proofs.Packets.{packet-behind, turned-net, turned-other}
+use Rattle.packet_walk.proofs.Numbers.{packet-behind, turned-net, turned-other}
 use Rattle.packet_walk.proofs.laws.a_turn_changes_one_packet.Goals as goal
 
 pub returns : goal.returns

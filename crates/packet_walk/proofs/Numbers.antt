@@ -8,7 +8,7 @@ use Rattle.walk_rules.specs.declared.place.Outcome.{Outcome}
 use Rattle.walk_rules.specs.declared.place.Ended.{Ended}
 use Rattle.net_model.specs.Network.{Network}
 use Rattle.walk_rules.specs.Relation.{IsPlace}
-use Rattle.packet_walk.specs.Flight.{InFlight, Flight, IsFlight, IsGiven, StagesAs, StagesIn, stage_in, staged, packet_in, packet_of, with_packet, after_stage, turned_where, turned_by, turned}
+use Rattle.packet_walk.specs.Flight.{InFlight, Flight, ArePlaced, IsGiven, Reserves, ReservesAs, StagesAs, StagesIn, reserved_where, with_room, stage_in, staged, packet_in, packet_of, with_packet, after_stage, turned_where, turned_by, turned}
 
 get-set_same : {X : Type 0} (xs : List X) (i : ℕ) (y : X) → i < length xs → slice_get (slice_set xs i y) i ≡ Some y
 get-set_same [] i y h = absurd (omega (arith, h))
@@ -105,7 +105,7 @@ get-within [] i h = absurd (omega (arith, h))
 get-within (x ∷ xs) zero h = (x, refl)
 get-within (x ∷ xs) (suc i) h = get-within xs i (le_of_suc-le-suc h)
 
-packet-within : (packets : List InFlight) (number : ℕ) → 1 ≤ number → number ≤ length packets
+pub packet-within : (packets : List InFlight) (number : ℕ) → 1 ≤ number → number ≤ length packets
     → (p : InFlight) × (packet_in packets number ≡ Some p)
 packet-within packets zero first last = absurd (omega (arith, first))
 packet-within packets (suc before) first last = get-within packets before last
@@ -130,26 +130,16 @@ get-of_push [] (suc j) y x h = inr h
 get-of_push (z ∷ xs) zero y x h = inr h
 get-of_push (z ∷ xs) (suc j) y x h = get-of_push xs j y x h
 
-module _ (net : Network) (packets : List InFlight) (q : InFlight) (is : IsFlight net packets) (at : IsPlace net q.place) where
+module _ (net : Network) (packets : List InFlight) (q : InFlight) (are : ArePlaced net packets) (at : IsPlace net q.place) where
   at-each : (before : ℕ) (p : InFlight) → (q ≡ p) ⊎ (slice_get packets before ≡ Some p) → IsPlace net p.place
   at-each before p (inl same) = subst (λ (x : InFlight). IsPlace net x.place) same at
-  at-each before p (inr there) = is.places before p there
+  at-each before p (inr there) = are before p there
 
-  pub flight-set : (place : ℕ) → IsFlight net (slice_set packets place q)
-  flight-set place =
-      let e : length (slice_set packets place q) ≡ length packets = length-set packets place q in
-      record {
-        few = omega (arith, e, is.few);
-        places = λ before p there. at-each before p (get-of_set packets place before q p there);
-      }
+  pub placed-set : (place : ℕ) → ArePlaced net (slice_set packets place q)
+  placed-set place = λ before p there. at-each before p (get-of_set packets place before q p there)
 
-  pub flight-push : length packets + 1 < 2 ^ 32 → IsFlight net (packets ++ q ∷ [])
-  flight-push room =
-      let e : length (packets ++ q ∷ []) ≡ length packets + 1 = length-append packets (q ∷ []) in
-      record {
-        few = omega (arith, e, room);
-        places = λ before p there. at-each before p (get-of_push packets before q p there);
-      }
+  pub placed-push : ArePlaced net (packets ++ q ∷ [])
+  placed-push = λ before p there. at-each before p (get-of_push packets before q p there)
 
 -- the packet that stands in its place in the list
 
@@ -173,9 +163,9 @@ module _ (number : ℕ) (f : Flight) (q : InFlight) (given : IsGiven f number) (
   abbrev left : List ℕ → InFlight → Flight
   left slot new = record { net = f.net; error = slot; packets = slice_set f.packets (number - 1) new }
 
-  left-stage : (result : Result Outcome NoMemory) (new : InFlight) (slot : List ℕ) → StagesAs f.net q f.error result new slot
-      → StagesIn number f q result (left slot new)
-  left-stage (Ok outcome) new slot h = (
+  left-stage : (outcome : Outcome) (new : InFlight) (slot : List ℕ) → StagesAs f.net q outcome new slot
+      → StagesIn number f q outcome (left slot new)
+  left-stage outcome new slot h = (
     h.0,
     ap (λ (e : List ℕ). left e new) h.2
         ∙ (ap (left (error_bytes (stage_in f.net q).gave.error)) h.1
@@ -183,15 +173,33 @@ module _ (number : ℕ) (f : Flight) (q : InFlight) (given : IsGiven f number) (
         record { net = f.net; error = error_bytes (stage_in f.net q).gave.error; packets = packets })
         (place-with f.packets number (staged f.net q) given.first)),
   )
-  left-stage (Err why) new slot h =
-      ap (λ (e : List ℕ). left e new) h.1
-      ∙ (ap (left f.error) h.0
-      ∙ ap (λ (packets : List InFlight). record { net = f.net; error = f.error; packets = packets })
-      (place-same f.packets (number - 1) q is))
 
-  pub stages-in : (result : Result Outcome NoMemory) (new : InFlight) (slot : List ℕ) → StagesAs f.net q f.error result new slot
-      → IfSome (packet_of f number) (λ p. StagesIn number f p result (left slot new))
-  stages-in result new slot h =
+  pub stages-in : (outcome : Outcome) (new : InFlight) (slot : List ℕ) → StagesAs f.net q outcome new slot
+      → IfSome (packet_of f number) (λ p. StagesIn number f p outcome (left slot new))
+  stages-in outcome new slot h =
       let there : packet_of f number ≡ Some q = place-packet f.packets number q given.first given.last is in
-      subst (λ (o : Option InFlight). IfSome o (λ p. StagesIn number f p result (left slot new))) (sym there)
-      (left-stage result new slot h)
+      subst (λ (o : Option InFlight). IfSome o (λ p. StagesIn number f p outcome (left slot new))) (sym there)
+      (left-stage outcome new slot h)
+
+  left-reserve : (result : Result (Unit {0}) NoMemory) (new : InFlight) → q.ended ≡ None → ReservesAs q result new
+      → Reserves number f q result (left f.error new)
+  left-reserve (Ok none) new going h =
+      ap (left f.error) h
+      ∙ ap (λ (packets : List InFlight). record { net = f.net; error = f.error; packets = packets })
+      (place-with f.packets number (with_room q) given.first)
+      ∙ sym (ap (reserved_where number f q) going)
+  left-reserve (Err why) new going h = (
+    going,
+    ap (left f.error) h.0
+        ∙ ap (λ (packets : List InFlight). record { net = f.net; error = f.error; packets = packets })
+        (place-same f.packets (number - 1) q is),
+    h.1,
+  )
+
+  pub reserves : (result : Result (Unit {0}) NoMemory) (new : InFlight) → IfSome (packet_of f number) (λ p. None ≡ p.ended)
+      → ReservesAs q result new → IfSome (packet_of f number) (λ p. Reserves number f p result (left f.error new))
+  reserves result new going h =
+      let there : packet_of f number ≡ Some q = place-packet f.packets number q given.first given.last is in
+      let goes : None ≡ q.ended = subst (λ (o : Option InFlight). IfSome o (λ p. None ≡ p.ended)) there going in
+      subst (λ (o : Option InFlight). IfSome o (λ p. Reserves number f p result (left f.error new))) (sym there)
+      (left-reserve result new (sym goes) h)

@@ -4,7 +4,7 @@ use Rattle.walk_rules.specs.Walk.{walk_of, choice_at}
 use Rattle.walk_rules.specs.declared.limits.TheConstants.{MAX_STAGES}
 use Rattle.command_output.specs.Gathered.{pooled}
 use Rattle.run_commands.proofs.Walking.{Progress}
-use Rattle.run_commands.proofs.written.put_walk.Given as goal
+use Rattle.run_commands.proofs.put_walk.put_walk.Given as goal
 
 abbrev pub invariant-loop-used : goal.invariant-loop-used
 invariant-loop-used g l = record {
