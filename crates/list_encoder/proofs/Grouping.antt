@@ -23,9 +23,9 @@ get-set_other (y ∷ ys) zero (suc j) x h = refl
 get-set_other (y ∷ ys) (suc i) zero x h = refl
 get-set_other (y ∷ ys) (suc i) (suc j) x h = get-set_other ys i j x (λ e. h (ap suc e))
 
-pub puts-one : (groups : Groups) (link : CellEdge) (to : ℕ) (group more : Vec CellEdge Global) → link.to ≡ Some to → to < length groups
-    → slice_get groups to ≡ Some group → more.items ≡ group.items ++ link ∷ [] → PutsEdge groups (set groups to more) link
-puts-one groups link to group more leads within here items = record {
+pub puts-one : (groups : Groups) (edge : CellEdge) (to : ℕ) (group more : Vec CellEdge Global) → edge.to ≡ Some to → to < length groups
+    → slice_get groups to ≡ Some group → more.items ≡ group.items ++ edge ∷ [] → PutsEdge groups (set groups to more) edge
+puts-one groups edge to group more leads within here items = record {
   long = length-set groups to more;
   kept = λ j other is. elim (cases_eq j to) [
     | inl same ↦
@@ -33,7 +33,7 @@ puts-one groups link to group more leads within here items = record {
         let among : Contains group.items other = subst (λ (g : Vec CellEdge Global). Contains g.items other) one is.2 in (
           more,
           ap (slice_get (set groups to more)) same ∙ get-set_same groups to more within,
-          subst (λ (xs : List CellEdge). Contains xs other) (sym items) (Contains-append_left group.items (link ∷ []) other among),
+          subst (λ (xs : List CellEdge). Contains xs other) (sym items) (Contains-append_left group.items (edge ∷ []) other among),
         )
     | inr apart ↦ (is.0, get-set_other groups to j more apart ∙ is.1, is.2)
   ];
@@ -41,15 +41,15 @@ puts-one groups link to group more leads within here items = record {
       let same : j ≡ to = some-same j to (sym e ∙ leads) in (
         more,
         ap (slice_get (set groups to more)) same ∙ get-set_same groups to more within,
-        subst (λ (xs : List CellEdge). Contains xs link) (sym items) (Contains-push group.items link),
+        subst (λ (xs : List CellEdge). Contains xs edge) (sym items) (Contains-push group.items edge),
       );
   only = λ j other is. elim (cases_eq j to) [
     | inl same ↦
         let one : is.0 ≡ more = some-same is.0 more (sym is.1 ∙ ap (slice_get (set groups to more)) same
         ∙ get-set_same groups to more within) in
-        let among : Contains (group.items ++ link ∷ []) other =
+        let among : Contains (group.items ++ edge ∷ []) other =
         subst (λ (xs : List CellEdge). Contains xs other) items (subst (λ (g : Vec CellEdge Global). Contains g.items other) one is.2) in
-        elim (Contains-push_cases group.items link other among) [
+        elim (Contains-push_cases group.items edge other among) [
           | inl old ↦ inl (group, ap (slice_get groups) same ∙ here, old)
           | inr new ↦ inr (new, leads ∙ ap Some (sym same))
         ]
@@ -57,24 +57,24 @@ puts-one groups link to group more leads within here items = record {
   ];
 }
 
-contains-none : (link : CellEdge) → Contains {X = CellEdge} [] link → ⊥
-contains-none link c = omega (arith, c.1)
+contains-none : (edge : CellEdge) → Contains {X = CellEdge} [] edge → ⊥
+contains-none edge c = omega (arith, c.1)
 
-pub puts-more : (g0 g g1 : Groups) (links : List CellEdge) (link : CellEdge) → PutsEdges g0 links g → PutsEdge g g1 link
-    → PutsEdges g0 (links ++ link ∷ []) g1
-puts-more g0 g g1 links link so more = record {
+pub puts-more : (g0 g g1 : Groups) (edges : List CellEdge) (edge : CellEdge) → PutsEdges g0 edges g → PutsEdge g g1 edge
+    → PutsEdges g0 (edges ++ edge ∷ []) g1
+puts-more g0 g g1 edges edge so more = record {
   long = more.long ∙ so.long;
-  put = λ to other among e h. elim (Contains-push_cases links link other among) [
+  put = λ to other among e h. elim (Contains-push_cases edges edge other among) [
     | inl old ↦ more.kept to other (so.put to other old e h)
     | inr new ↦ let long = so.long in subst (IsIn g1 to) new (more.put to (ap (λ (l : CellEdge). l.to) new ∙ e) (omega (arith, h, long)))
   ];
   only = λ to other is. elim (more.only to other is) [
     | inl was ↦ elim (so.only to other was) [
       | inl first ↦ inl first
-      | inr listed ↦ inr (Contains-append_left links (link ∷ []) other listed.0, listed.1)
+      | inr listed ↦ inr (Contains-append_left edges (edge ∷ []) other listed.0, listed.1)
     ]
     | inr new ↦ inr (
-      subst (λ (l : CellEdge). Contains (links ++ link ∷ []) l) new.0 (Contains-push links link),
+      subst (λ (l : CellEdge). Contains (edges ++ edge ∷ []) l) new.0 (Contains-push edges edge),
       sym (ap (λ (l : CellEdge). l.to) new.0) ∙ new.1,
     )
   ];
@@ -84,29 +84,29 @@ pub empty-more : (n : ℕ) (groups : Groups) (group : Vec CellEdge Global) → g
     → AreEmpty (n + 1) (groups ++ group ∷ [])
 empty-more n groups group none are = (
   long-more groups group n are.0,
-  λ to link is. elim (append-cases groups (group ∷ []) to is.0 is.1) [
-    | inl old ↦ are.1 to link (is.0, old.1, is.2)
-    | inr new ↦ last (to - length groups) is.0 link new.1 is.2
+  λ to edge is. elim (append-cases groups (group ∷ []) to is.0 is.1) [
+    | inl old ↦ are.1 to edge (is.0, old.1, is.2)
+    | inr new ↦ last (to - length groups) is.0 edge new.1 is.2
   ],
 )
   where
     long-more : (xs : Groups) (x : Vec CellEdge Global) (n : ℕ) → length xs ≡ n → length (xs ++ x ∷ []) ≡ n + 1
     long-more xs x n h = omega (arith, length-append xs (x ∷ []), h)
 
-    last : (k : ℕ) (g : Vec CellEdge Global) (link : CellEdge) → slice_get (group ∷ []) k ≡ Some g → Contains g.items link → ⊥
-    last zero g link e c =
+    last : (k : ℕ) (g : Vec CellEdge Global) (edge : CellEdge) → slice_get (group ∷ []) k ≡ Some g → Contains g.items edge → ⊥
+    last zero g edge e c =
         let one : group ≡ g = some-same group g e in
-        contains-none link (subst (λ (xs : List CellEdge). Contains xs link) (ap (λ (x : Vec CellEdge Global). x.items) (sym one)
+        contains-none edge (subst (λ (xs : List CellEdge). Contains xs edge) (ap (λ (x : Vec CellEdge Global). x.items) (sym one)
         ∙ none) c)
-    last (suc k) g link e c = none-some g e
+    last (suc k) g edge e c = none-some g e
 
-pub are-grouped : (g0 g : Groups) (links : List CellEdge) (count : ℕ) → AreEmpty count g0 → PutsEdges g0 links g
-    → AreGrouped links count g
-are-grouped g0 g links count empty puts = record {
+pub are-grouped : (g0 g : Groups) (edges : List CellEdge) (count : ℕ) → AreEmpty count g0 → PutsEdges g0 edges g
+    → AreGrouped edges count g
+are-grouped g0 g edges count empty puts = record {
   long = puts.long ∙ empty.0;
-  each = λ to link among e h. let long = empty.0 in puts.put to link among e (omega (arith, h, long));
-  only = λ to link is. elim (puts.only to link is) [
-    | inl was ↦ absurd (empty.1 to link was)
+  each = λ to edge among e h. let long = empty.0 in puts.put to edge among e (omega (arith, h, long));
+  only = λ to edge is. elim (puts.only to edge is) [
+    | inl was ↦ absurd (empty.1 to edge was)
     | inr listed ↦ listed
   ];
 }

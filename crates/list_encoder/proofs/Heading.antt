@@ -16,8 +16,8 @@ use Rattle.list_encoder.specs.Table.{Costs, entry, IsCellEdge, AreLeast}
 use Rattle.list_encoder.specs.Picks.{IsSpot, IsTight}
 use Rattle.list_encoder.proofs.Celling.{some-same}
 use Rattle.list_encoder.proofs.Rooms.{behind-few}
-use Rattle.list_encoder.proofs.Tables.{link-shape, plus-nothing}
-use Rattle.list_encoder.proofs.Leasting.{edge-link}
+use Rattle.list_encoder.proofs.Tables.{edge-shape, plus-nothing}
+use Rattle.list_encoder.proofs.Leasting.{cell-edge}
 
 -- what is after the first move of a path: nothing, or the rest of it from the state of a cell
 abbrev pub Behind : LegsValue → List Cell → ℕ → List Move → Cost → Option ℕ → Type 0
@@ -25,14 +25,14 @@ Behind v cells left more rest None = more ≡ []
 Behind v cells left more rest (Some j) = (cell : Cell) × (slice_get cells j ≡ Some cell) × (cost_of v (state_at cell left) more ≡ Some rest)
 
 pub record Head (v : LegsValue) (cells : List Cell) (t : Costs) (spot : Spot) (n : Move) (more : List Move) : Type 0 where
-  pub link : CellEdge
-  pub from : link.from ≡ spot.place
-  pub is_link : IsCellEdge v cells link
-  pub sid : link.sid ≡ n.sid
+  pub edge : CellEdge
+  pub from : edge.from ≡ spot.place
+  pub is_edge : IsCellEdge v cells edge
+  pub sid : edge.sid ≡ n.sid
   pub left : ℕ
   pub rest : Cost
-  pub tight : IsTight v t spot link n.stays left rest
-  pub behind : Behind v cells left more rest link.to
+  pub tight : IsTight v t spot edge n.stays left rest
+  pub behind : Behind v cells left more rest edge.to
 
 -- a sum that is at most another with the same first part
 at_most-cancel : (k a b : Cost) → AtMost (plus k a) (plus k b) → AtMost a b
@@ -59,13 +59,13 @@ module _ (v : LegsValue) (laws : KeepsLaws v) (cells : List Cell) (are : AreCell
   rest-least : (spot : Spot) (n : Move) (e : Edge) (more : List Move) (d : Cost) (o : Option Cost) → IsSpot cells t spot
       → edge_of v (state_at spot.cell spot.room) n ≡ Some e → cost_of v e.to more ≡ Some d → plus e.cost d ≡ spot.cost → IsLeast v e.to o
       → o ≡ Some d
-  rest-least spot n e more d None is edge cost sum is_least =
+  rest-least spot n e more d None is edge_fact cost sum is_least =
       absurd (subst (λ (q : Option Cost). Under None q) cost (is_least.least more))
-  rest-least spot n e more d (Some b) is edge cost sum is_least =
+  rest-least spot n e more d (Some b) is edge_fact cost sum is_least =
       let below : AtMost b d = subst (λ (q : Option Cost). Under (Some b) q) cost (is_least.least more) in
       let moves = is_least.attains.0 in
       let all : cost_of v (state_at spot.cell spot.room) (n ∷ moves) ≡ Some (plus e.cost b) =
-      attained v (state_at spot.cell spot.room) n e moves b edge is_least.attains.1 in
+      attained v (state_at spot.cell spot.room) n e moves b edge_fact is_least.attains.1 in
       let bound : Under (Some spot.cost) (Some (plus e.cost b)) =
       subst (λ (q : Option Cost). Under q (Some (plus e.cost b))) is.is
       (subst (λ (q : Option Cost). Under (entry t spot.place spot.room) q) all
@@ -77,11 +77,11 @@ module _ (v : LegsValue) (laws : KeepsLaws v) (cells : List Cell) (are : AreCell
       → Head v cells t spot n []
   head-last spot n is h =
       let parts = last-parts v (state_at spot.cell spot.room) n spot.cost h in
-      let link : CellEdge = record { from = spot.place; to = None; sid = n.sid; hops = parts.hops } in
+      let edge : CellEdge = record { from = spot.place; to = None; sid = n.sid; hops = parts.hops } in
       record {
-        link = link;
+        edge = edge;
         from = refl;
-        is_link = record { cell = spot.cell; from = is.here; leads = parts.finish_is };
+        is_edge = record { cell = spot.cell; from = is.here; leads = parts.finish_is };
         sid = refl;
         left = parts.room;
         rest = nothing;
@@ -94,12 +94,12 @@ module _ (v : LegsValue) (laws : KeepsLaws v) (cells : List Cell) (are : AreCell
       → Head v cells t spot n more
   head-edge spot n e more d is h cost sum =
       let parts = edge-parts v (state_at spot.cell spot.room) n e h in
-      let there = edge-link v laws cells are spot.place spot.room spot.cell n e is.here parts in
-      let link : CellEdge = record { from = spot.place; to = Some there.0; sid = n.sid; hops = parts.leg.hops } in
-      let is_link : IsCellEdge v cells link = record { cell = spot.cell; from = is.here; leads = (parts.leg.to, there.1, parts.leg_is) } in
+      let there = cell-edge v laws cells are spot.place spot.room spot.cell n e is.here parts in
+      let edge : CellEdge = record { from = spot.place; to = Some there.0; sid = n.sid; hops = parts.leg.hops } in
+      let is_edge : IsCellEdge v cells edge = record { cell = spot.cell; from = is.here; leads = (parts.leg.to, there.1, parts.leg_is) } in
       let to : State = state_at (cell_at parts.leg.to n.sid) parts.room in
       let few = behind-few v spot.cell.via spot.room n parts.room
-      (link-shape v laws cells link is_link) is.few
+      (edge-shape v laws cells edge is_edge) is.few
       parts.room_is in
       let is_to : to ≡ e.to = ap (λ (x : Edge). x.to) parts.is in
       let is_cost : move_cost n.stays parts.leg.hops ≡ e.cost = ap (λ (x : Edge). x.cost) parts.is in
@@ -108,9 +108,9 @@ module _ (v : LegsValue) (laws : KeepsLaws v) (cells : List Cell) (are : AreCell
       rest-least spot n e more d (entry t there.0 parts.room) is h cost sum
       (subst (λ (x : State). IsLeast v x (entry t there.0 parts.room)) is_to its) in
       record {
-        link = link;
+        edge = edge;
         from = refl;
-        is_link = is_link;
+        is_edge = is_edge;
         sid = refl;
         left = parts.room;
         rest = d;
@@ -123,7 +123,7 @@ module _ (v : LegsValue) (laws : KeepsLaws v) (cells : List Cell) (are : AreCell
       → Head v cells t spot n more
   head-of spot n [] is h = head-last spot n is h
   head-of spot n (m ∷ more) is h =
-      let edge = edge-some v (state_at spot.cell spot.room) spot.cost (edge_of v (state_at spot.cell spot.room) n)
+      let edge_fact = edge-some v (state_at spot.cell spot.room) spot.cost (edge_of v (state_at spot.cell spot.room) n)
       (λ (s : State). cost_of v s (m ∷ more)) h in
-      let rest = map-some edge.0.cost spot.cost (cost_of v edge.0.to (m ∷ more)) edge.2 in
-      head-edge spot n edge.0 (m ∷ more) rest.0 is edge.1 rest.1 rest.2
+      let rest = map-some edge_fact.0.cost spot.cost (cost_of v edge_fact.0.to (m ∷ more)) edge_fact.2 in
+      head-edge spot n edge_fact.0 (m ∷ more) rest.0 is edge_fact.1 rest.1 rest.2

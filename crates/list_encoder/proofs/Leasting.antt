@@ -1,4 +1,4 @@
--- Where all links hold, each cost is the least of a path.
+-- Where all edges hold, each cost is the least of a path.
 use Rattle.std.proofs.Common.{◌≡◌, ℕ, ◌<◌, List, [], ◌∷◌, Option, Some, None, slice_get, refl, ◌∙◌, subst, arith}
 use Rattle.std.specs.Option.{option_map}
 use Rattle.list_pack.specs.declared.types.Cost.{Cost}
@@ -13,15 +13,15 @@ use Rattle.list_encoder.specs.Cells.{cell_at, state_at, AreCells}
 use Rattle.list_encoder.specs.Table.{Costs, entry, offer, IsCellEdge, IsSound, HoldFrom, AreLeast}
 use Rattle.list_encoder.proofs.Celling.{place_of}
 use Rattle.list_encoder.proofs.Rooms.{behind-few}
-use Rattle.list_encoder.proofs.Tables.{link-shape, plus-nothing}
+use Rattle.list_encoder.proofs.Tables.{edge-shape, plus-nothing}
 use Rattle.list_encoder.proofs.Settling.{Tabled, tabled-all}
 
 module _ (v : LegsValue) (laws : KeepsLaws v) (cells : List Cell) (are : AreCells v cells) where
-  -- an edge is a link to the cell of the state that it leads to
-  pub edge-link : (k room : ℕ) (cell : Cell) (m : Move) (e : Edge) → slice_get cells k ≡ Some cell
+  -- an edge of a state is an edge of its cell, to the cell of the state that it leads to
+  pub cell-edge : (k room : ℕ) (cell : Cell) (m : Move) (e : Edge) → slice_get cells k ≡ Some cell
       → (parts : EdgeParts v (state_at cell room) m e)
       → (j : ℕ) × (slice_get cells j ≡ Some (cell_at parts.leg.to m.sid))
-  edge-link k room cell m e here parts =
+  cell-edge k room cell m e here parts =
       let leg = laws.leg cell.position cell.via m.sid parts.leg parts.leg_is in
       place_of cells (cell_at parts.leg.to m.sid) (are.each parts.leg.to m.sid leg.within leg.is_next)
 
@@ -31,9 +31,9 @@ module _ (v : LegsValue) (laws : KeepsLaws v) (cells : List Cell) (are : AreCell
         → Under (entry t k room) (Some c)
     under-end k room cell m c here l h =
         let parts = last-parts v (state_at cell room) m c h in
-        let link : CellEdge = record { from = k; to = None; sid = m.sid; hops = parts.hops } in
-        let is : IsCellEdge v cells link = record { cell = cell; from = here; leads = parts.finish_is } in
-        let bound = hold link (omega arith) is cell m.stays room parts.room here l parts.room_is in
+        let edge : CellEdge = record { from = k; to = None; sid = m.sid; hops = parts.hops } in
+        let is : IsCellEdge v cells edge = record { cell = cell; from = here; leads = parts.finish_is } in
+        let bound = hold edge (omega arith) is cell m.stays room parts.room here l parts.room_is in
         let same : plus (move_cost m.stays parts.hops) nothing ≡ c = plus-nothing (move_cost m.stays parts.hops) ∙ parts.is in
         subst (λ (d : Cost). Under (entry t k room) (Some d)) same bound
 
@@ -45,12 +45,12 @@ module _ (v : LegsValue) (laws : KeepsLaws v) (cells : List Cell) (are : AreCell
     bounds (m ∷ n ∷ more) k room cell here l =
         under-behind v (entry t k room) (edge_of v (state_at cell room) m) (λ (s : State). cost_of v s (n ∷ more)) (λ e h.
         let parts = edge-parts v (state_at cell room) m e h in
-        let there = edge-link k room cell m e here parts in
-        let link : CellEdge = record { from = k; to = Some there.0; sid = m.sid; hops = parts.leg.hops } in
-        let is : IsCellEdge v cells link = record { cell = cell; from = here; leads = (parts.leg.to, there.1, parts.leg_is) } in
-        let few = behind-few v cell.via room m parts.room (link-shape v laws cells link is) l
+        let there = cell-edge k room cell m e here parts in
+        let edge : CellEdge = record { from = k; to = Some there.0; sid = m.sid; hops = parts.leg.hops } in
+        let is : IsCellEdge v cells edge = record { cell = cell; from = here; leads = (parts.leg.to, there.1, parts.leg_is) } in
+        let few = behind-few v cell.via room m parts.room (edge-shape v laws cells edge is) l
         parts.room_is in
-        let first = hold link (omega arith) is cell m.stays room parts.room here l parts.room_is in
+        let first = hold edge (omega arith) is cell m.stays room parts.room here l parts.room_is in
         let rest = bounds (n ∷ more) there.0 parts.room (cell_at parts.leg.to m.sid) there.1 few in
         subst (λ (x : Edge). Under (entry t k room) (option_map (plus x.cost) (cost_of v x.to (n ∷ more)))) parts.is
         (under-trans (entry t k room) (offer m.stays parts.leg.hops (entry t there.0 parts.room)) _ first

@@ -160,8 +160,8 @@ module _ (v : LegsValue) (laws : KeepsLaws v) (cells : List Cell) (are : AreCell
       let from = (laws.finish s.position s.via m.sid parts.hops parts.finish_is).from_via in
       (subst (λ (o : Option ℕ). IsVia v s.position o) e from).1
   via-middle s n c (m ∷ o ∷ more) e h =
-      let edge = edge-some v s c (edge_of v s m) (λ (x : State). cost_of v x (o ∷ more)) h in
-      let parts = edge-parts v s m edge.0 edge.1 in
+      let edge_fact = edge-some v s c (edge_of v s m) (λ (x : State). cost_of v x (o ∷ more)) h in
+      let parts = edge-parts v s m edge_fact.0 edge_fact.1 in
       let from = (laws.leg s.position s.via m.sid parts.leg parts.leg_is).from_via in
       (subst (λ (p : Option ℕ). IsVia v s.position p) e from).1
 

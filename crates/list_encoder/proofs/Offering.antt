@@ -15,7 +15,7 @@ use Rattle.list_encoder.specs.Table.{Costs, at, entry, rest_at, RoomHolds, RoomR
 use Rattle.list_encoder.specs.Waiting.{is_done, IsLoweredAt}
 use Rattle.list_encoder.specs.Offers.{IsSettledAt, IsOffer, Advances, Takes, OffersRoom, LeavesIt, OffersWay, OffersEdge, offer_of, LeadInto, OffersAll}
 use Rattle.list_encoder.proofs.Celling.{some-same}
-use Rattle.list_encoder.proofs.RelaxedRooms.{link-barred}
+use Rattle.list_encoder.proofs.RelaxedRooms.{edge-barred}
 
 pub at-most-more : (m d : Cost) → AtMost d (plus m d)
 at-most-more m d = record { containers = omega arith; hops = λ e. omega arith }
@@ -49,8 +49,8 @@ offer-later v cells t t1 w w1 done done1 offer is advances = record {
   sound = advances.sound;
   front = advances.front;
   early = let long = ap length advances.same in omega (arith, is.early, long);
-  rest_is = rest-still t t1 done offer.link.to offer.left is.settled advances.still ∙ is.rest_is;
-  settled = settled-later done done1 offer.link.to offer.left advances.same is.settled;
+  rest_is = rest-still t t1 done offer.edge.to offer.left is.settled advances.still ∙ is.rest_is;
+  settled = settled-later done done1 offer.edge.to offer.left advances.same is.settled;
 }
 
 -- ---- no room
@@ -69,12 +69,12 @@ kept-advances v cells t w done offer is = record {
 
 pub way-barred : (v : LegsValue) (cells : List Cell) (t : Costs) (w : BTreeSet Waiting) (done : List Bool) (offer : Offer) (told : Bool)
     → IsOffer v cells t w done offer
-    → told ≡ (offer.stays && bars v (get_or cells offer.link.from (record { position = 0; via = None })).via offer.link.sid) → told ≡ true
+    → told ≡ (offer.stays && bars v (get_or cells offer.edge.from (record { position = 0; via = None })).via offer.edge.sid) → told ≡ true
     → OffersWay v cells offer 8 t done t w done
 way-barred v cells t w done offer told is e barred = record {
   advances = kept-advances v cells t w done offer is;
   takes = λ room h it.
-      absurd (link-barred v cells offer.link offer.stays told is.is_edge e barred it.0 room offer.left it.1 it.2);
+      absurd (edge-barred v cells offer.edge offer.stays told is.is_edge e barred it.0 room offer.left it.1 it.2);
 }
 
 -- ---- one room
@@ -85,8 +85,8 @@ module _ (v : LegsValue) (cells : List Cell) (t : Costs) (w : BTreeSet Waiting) 
   pub room-lowered : (after : ℕ) (t1 : Costs) (w1 : BTreeSet Waiting) (done1 : List Bool) (changed : Bool) → left ≡ Some after
       → after ≡ offer.left
       → done1 ≡ done → room < 8
-      → RoomRelaxed v cells offer.link t t1 offer.stays room left changed
-      → IsLoweredAt t t1 w1 done1 offer.rest (8 * offer.link.from + room) (plus (move_cost offer.stays offer.link.hops) offer.rest)
+      → RoomRelaxed v cells offer.edge t t1 offer.stays room left changed
+      → IsLoweredAt t t1 w1 done1 offer.rest (8 * offer.edge.from + room) (plus (move_cost offer.stays offer.edge.hops) offer.rest)
       changed
       → OffersRoom v cells offer room left t done t1 w1 done1
   room-lowered after t1 w1 done1 changed has same done_is low relaxed lowered = record {
@@ -99,24 +99,24 @@ module _ (v : LegsValue) (cells : List Cell) (t : Costs) (w : BTreeSet Waiting) 
       past = λ i h. relaxed.passed.later i (omega (arith, h, is.early));
     };
     takes = λ some.
-        let holds : Under (entry t1 offer.link.from room) (option_map (plus (move_cost offer.stays offer.link.hops)) (rest_at t
-        offer.link.to offer.left)) =
-        subst (λ (o : Option ℕ). RoomHolds (entry t1 offer.link.from room) offer.stays offer.link t o) some relaxed.holds in
-        subst (λ (o : Option Cost). Under (entry t1 offer.link.from room) (option_map (plus (move_cost offer.stays offer.link.hops))
+        let holds : Under (entry t1 offer.edge.from room) (option_map (plus (move_cost offer.stays offer.edge.hops)) (rest_at t
+        offer.edge.to offer.left)) =
+        subst (λ (o : Option ℕ). RoomHolds (entry t1 offer.edge.from room) offer.stays offer.edge t o) some relaxed.holds in
+        subst (λ (o : Option Cost). Under (entry t1 offer.edge.from room) (option_map (plus (move_cost offer.stays offer.edge.hops))
         o)) is.rest_is holds;
   }
 
 takes-later : (offer : Offer) (stays : Bool) (t t1 : Costs) (room : ℕ) → ((i : ℕ) → Under (at t1 i) (at t i)) → Takes offer stays t room
     → Takes offer stays t1 room
 takes-later offer stays t t1 room falls takes =
-    under-trans (entry t1 offer.link.from room) (entry t offer.link.from room) (Some (plus (move_cost stays offer.link.hops) offer.rest))
-    (falls (8 * offer.link.from + room)) takes
+    under-trans (entry t1 offer.edge.from room) (entry t offer.edge.from room) (Some (plus (move_cost stays offer.edge.hops) offer.rest))
+    (falls (8 * offer.edge.from + room)) takes
 
 -- ---- the rooms
 
 module _ (v : LegsValue) (cells : List Cell) (offer : Offer) (t0 t t1 : Costs) (was done done1 : List Bool) (w w1 : BTreeSet Waiting)
   where
-    pub way-more : (room : ℕ) (left : Option ℕ) → LeavesRoom v cells offer.link offer.stays room left
+    pub way-more : (room : ℕ) (left : Option ℕ) → LeavesRoom v cells offer.edge offer.stays room left
         → OffersWay v cells offer room t0 was t w done
         → OffersRoom v cells offer room left t done t1 w1 done1 → OffersWay v cells offer (room + 1) t0 was t1 w1 done1
     way-more room left leaves so more = record {
@@ -126,7 +126,7 @@ module _ (v : LegsValue) (cells : List Cell) (offer : Offer) (t0 t t1 : Costs) (
         | inr past ↦
             let same : r ≡ room = omega (arith, h, past) in
             let some : left ≡ Some offer.left =
-            leaves it.0 it.1 ∙ subst (λ (n : ℕ). room_to v it.0.via n (move_by offer.link offer.stays) ≡ Some offer.left) same it.2 in
+            leaves it.0 it.1 ∙ subst (λ (n : ℕ). room_to v it.0.via n (move_by offer.edge offer.stays) ≡ Some offer.left) same it.2 in
             subst (Takes offer offer.stays t1) (sym same) (more.takes some)
       ];
     }
@@ -135,8 +135,8 @@ module _ (v : LegsValue) (cells : List Cell) (offer : Offer) (t0 t t1 : Costs) (
 
 module _ (v : LegsValue) (cells : List Cell) (offer opens stays : Offer) (t t1 t2 : Costs) (was done done1 : List Bool)
     (w1 w2 : BTreeSet Waiting)
-    (opens_is : opens ≡ record { link = offer.link; stays = false; left = offer.left; rest = offer.rest })
-    (stays_is : stays ≡ record { link = offer.link; stays = true; left = offer.left; rest = offer.rest }) where
+    (opens_is : opens ≡ record { edge = offer.edge; stays = false; left = offer.left; rest = offer.rest })
+    (stays_is : stays ≡ record { edge = offer.edge; stays = true; left = offer.left; rest = offer.rest }) where
   pub edge-both : OffersWay v cells opens 8 t was t1 w1 done → OffersWay v cells stays 8 t1 done t2 w2 done1
       → OffersEdge v cells offer t was t2 w2 done1
   edge-both first second =
@@ -147,30 +147,30 @@ module _ (v : LegsValue) (cells : List Cell) (offer opens stays : Offer) (t t1 t
         takes = both opened stayed;
       }
     where
-      both : OffersWay v cells (record { link = offer.link; stays = false; left = offer.left; rest = offer.rest }) 8 t was t1 w1 done
-          → OffersWay v cells (record { link = offer.link; stays = true; left = offer.left; rest = offer.rest }) 8 t1 done t2 w2 done1
+      both : OffersWay v cells (record { edge = offer.edge; stays = false; left = offer.left; rest = offer.rest }) 8 t was t1 w1 done
+          → OffersWay v cells (record { edge = offer.edge; stays = true; left = offer.left; rest = offer.rest }) 8 t1 done t2 w2 done1
           → (s : Bool) (room : ℕ) → room < 8 → LeavesIt v cells offer s room → Takes offer s t2 room
       both opened stayed true room h it = stayed.takes room h it
       both opened stayed false room h it = takes-later offer false t1 t2 room stayed.advances.falls (opened.takes room h it)
 
 -- ---- all edges
 
-module _ (v : LegsValue) (cells : List Cell) (links : List CellEdge) (left : ℕ) (rest : Cost) (t0 t t1 : Costs)
+module _ (v : LegsValue) (cells : List Cell) (edges : List CellEdge) (left : ℕ) (rest : Cost) (t0 t t1 : Costs)
     (was done done1 : List Bool)
     (w0 w w1 : BTreeSet Waiting) where
-  pub all-offer : (link : CellEdge) → Contains links link → LeadInto v cells t0 w0 was links left rest
-      → Advances v cells t0 was t w done rest → IsOffer v cells t w done (offer_of link left rest)
-  all-offer link among lead advances = offer-later v cells t0 t w0 w was done (offer_of link left rest) (lead.2 link among) advances
+  pub all-offer : (edge : CellEdge) → Contains edges edge → LeadInto v cells t0 w0 was edges left rest
+      → Advances v cells t0 was t w done rest → IsOffer v cells t w done (offer_of edge left rest)
+  all-offer edge among lead advances = offer-later v cells t0 t w0 w was done (offer_of edge left rest) (lead.2 edge among) advances
 
-  pub all-more : (n : ℕ) (link : CellEdge) → slice_get links n ≡ Some link → OffersAll v cells links n left rest t0 was t w done
-      → OffersEdge v cells (offer_of link left rest) t done t1 w1 done1 → OffersAll v cells links (n + 1) left rest t0 was t1 w1 done1
-  all-more n link here so more = record {
+  pub all-more : (n : ℕ) (edge : CellEdge) → slice_get edges n ≡ Some edge → OffersAll v cells edges n left rest t0 was t w done
+      → OffersEdge v cells (offer_of edge left rest) t done t1 w1 done1 → OffersAll v cells edges (n + 1) left rest t0 was t1 w1 done1
+  all-more n edge here so more = record {
     advances = advances-then v cells t0 t t1 was done done1 w w1 rest so.advances more.advances;
     takes = λ l i stays room h is low it. elim (cases_lt i n) [
       | inl less ↦ takes-later (offer_of l left rest) stays t t1 room more.advances.falls (so.takes l i stays room less is low it)
       | inr past ↦
           let same : n ≡ i = omega (arith, h, past) in
-          let one : link ≡ l = some-same link l (sym here ∙ ap (slice_get links) same ∙ is) in
+          let one : edge ≡ l = some-same edge l (sym here ∙ ap (slice_get edges) same ∙ is) in
           subst (λ (x : CellEdge). LeavesIt v cells (offer_of x left rest) stays room → Takes (offer_of x left rest) stays t1 room) one
           (more.takes stays room low) it
     ];

@@ -17,7 +17,7 @@ use Rattle.list_encoder.specs.declared.picks.Pick.{Pick}
 use Rattle.list_encoder.specs.declared.picks.Spot.{Spot}
 use Rattle.list_encoder.specs.Cells.{cell_at, state_at, AreCells}
 use Rattle.list_encoder.specs.Table.{Costs, rest_at, LeadsTo, IsCellEdge, move_by, AreLeast}
-use Rattle.list_encoder.specs.Picks.{IsSpot, IsTight, IsPick, Covers, link_step}
+use Rattle.list_encoder.specs.Picks.{IsSpot, IsTight, IsPick, Covers, edge_step}
 use Rattle.list_pack.proofs.Orders.{lex-itself, lex-not-both, lex-same, lex-longer, lex-after}
 use Rattle.list_encoder.proofs.Celling.{some-same}
 use Rattle.list_encoder.proofs.Tables.{plus-nothing}
@@ -52,7 +52,7 @@ not-before p q ps qs h rest =
           lex-after (path_key (p ∷ [])) (path_key (q ∷ [])) (path_key ps) (path_key qs) e (rest parts.0 parts.1)
     ]
 
--- links from one cell
+-- edges from one cell
 same-cell : (v : LegsValue) (cells : List Cell) (a b : CellEdge) (is_a : IsCellEdge v cells a) (is_b : IsCellEdge v cells b) → a.from ≡ b.from
     → is_a.cell ≡ is_b.cell
 same-cell v cells a b is_a is_b e = some-same is_a.cell is_b.cell (sym is_a.from ∙ ap (slice_get cells) e ∙ is_b.from)
@@ -96,27 +96,27 @@ FirstBehind v cells pick rest (Some j) = (cell : Cell) × (slice_get cells j ≡
 module _ (v : LegsValue) (laws : KeepsLaws v) (cells : List Cell) (are : AreCells v cells) (t : Costs) (least : AreLeast v cells t)
     (spot : Spot)
     (is : IsSpot cells t spot) (pick : Pick) (picked : IsPick v cells t spot pick)
-    (covers : (link : CellEdge) → link.from ≡ spot.place → IsCellEdge v cells link
-    → (stays : Bool) (left : ℕ) (rest : Cost) → IsTight v t spot link stays left rest → Covers (Some pick) (link_step v link stays)) where
-  pick-step : pick.step ≡ link_step v picked.link pick.step.stays
+    (covers : (edge : CellEdge) → edge.from ≡ spot.place → IsCellEdge v cells edge
+    → (stays : Bool) (left : ℕ) (rest : Cost) → IsTight v t spot edge stays left rest → Covers (Some pick) (edge_step v edge stays)) where
+  pick-step : pick.step ≡ edge_step v picked.edge pick.step.stays
   pick-step = ap (λ (x : PrefixValue). let s : PathStep = record { stays = pick.step.stays; prefix = x } in s) picked.prefix_is
 
-  -- what a link leads to, from the picked link's cell
-  leads-here : (link : CellEdge) (to : Option ℕ) (is_link : IsCellEdge v cells link) → link.from ≡ spot.place → link.to ≡ to
-      → LeadsTo v cells picked.is_link.cell link.sid link.hops to
-  leads-here link to is_link from e =
-      subst (λ (c : Cell). LeadsTo v cells c link.sid link.hops to)
-      (same-cell v cells link picked.link is_link picked.is_link (from ∙ sym picked.from))
-      (subst (λ (o : Option ℕ). LeadsTo v cells is_link.cell link.sid link.hops o) e is_link.leads)
+  -- what an edge leads to, from the picked edge's cell
+  leads-here : (edge : CellEdge) (to : Option ℕ) (is_edge : IsCellEdge v cells edge) → edge.from ≡ spot.place → edge.to ≡ to
+      → LeadsTo v cells picked.is_edge.cell edge.sid edge.hops to
+  leads-here edge to is_edge from e =
+      subst (λ (c : Cell). LeadsTo v cells c edge.sid edge.hops to)
+      (same-cell v cells edge picked.edge is_edge picked.is_edge (from ∙ sym picked.from))
+      (subst (λ (o : Option ℕ). LeadsTo v cells is_edge.cell edge.sid edge.hops o) e is_edge.leads)
 
   -- two tight moves of one SID leave the same room
-  lefts-same : (a : CellEdge) (stays : Bool) (left : ℕ) (d : Cost) → a.sid ≡ picked.link.sid → stays ≡ pick.step.stays
+  lefts-same : (a : CellEdge) (stays : Bool) (left : ℕ) (d : Cost) → a.sid ≡ picked.edge.sid → stays ≡ pick.step.stays
       → IsTight v t spot a stays left d
       → left ≡ pick.room
   lefts-same a stays left d sid same tight =
       some-same left pick.room (sym tight.room_is
       ∙ ap (λ (n : ℕ). room_to v spot.cell.via spot.room (record { stays = stays; sid = n })) sid
-      ∙ ap (λ (b : Bool). room_to v spot.cell.via spot.room (move_by picked.link b)) same ∙ picked.tight.room_is)
+      ∙ ap (λ (b : Bool). room_to v spot.cell.via spot.room (move_by picked.edge b)) same ∙ picked.tight.room_is)
 
   end-nothing : (a : CellEdge) (stays : Bool) (left : ℕ) (d : Cost) → a.to ≡ None → IsTight v t spot a stays left d
       → plus (move_cost stays a.hops) nothing ≡ spot.cost
@@ -124,37 +124,37 @@ module _ (v : LegsValue) (laws : KeepsLaws v) (cells : List Cell) (are : AreCell
       let same : nothing ≡ d = some-same nothing d (sym (ap (λ (o : Option ℕ). rest_at t o left) e) ∙ tight.rest_is) in
       ap (plus (move_cost stays a.hops)) same ∙ tight.cost_is
 
-  picked-cost : (stays : Bool) → stays ≡ pick.step.stays → plus (move_cost stays picked.link.hops) pick.rest ≡ spot.cost
-  picked-cost stays same = ap (λ (b : Bool). plus (move_cost b picked.link.hops) pick.rest) same ∙ picked.tight.cost_is
+  picked-cost : (stays : Bool) → stays ≡ pick.step.stays → plus (move_cost stays picked.edge.hops) pick.rest ≡ spot.cost
+  picked-cost stays same = ap (λ (b : Bool). plus (move_cost b picked.edge.hops) pick.rest) same ∙ picked.tight.cost_is
 
   -- two legs of one SID from one cell
-  legs-same : (link : CellEdge) (i j : ℕ) (a b : Cell) (is_link : IsCellEdge v cells link) → link.from ≡ spot.place → link.to ≡ Some i
-      → picked.link.to ≡ Some j
-      → link.sid ≡ picked.link.sid → slice_get cells i ≡ Some a → slice_get cells j ≡ Some b → (a ≡ b) × (link.hops ≡ picked.link.hops)
-  legs-same link i j a b is_link from e f sid at_a at_b =
-      let leads = leads-here link (Some i) is_link from e in
-      let also = leads-here picked.link (Some j) picked.is_link picked.from f in
-      let first : Leg = record { to = leads.0; hops = link.hops } in
-      let second : Leg = record { to = also.0; hops = picked.link.hops } in
+  legs-same : (edge : CellEdge) (i j : ℕ) (a b : Cell) (is_edge : IsCellEdge v cells edge) → edge.from ≡ spot.place → edge.to ≡ Some i
+      → picked.edge.to ≡ Some j
+      → edge.sid ≡ picked.edge.sid → slice_get cells i ≡ Some a → slice_get cells j ≡ Some b → (a ≡ b) × (edge.hops ≡ picked.edge.hops)
+  legs-same edge i j a b is_edge from e f sid at_a at_b =
+      let leads = leads-here edge (Some i) is_edge from e in
+      let also = leads-here picked.edge (Some j) picked.is_edge picked.from f in
+      let first : Leg = record { to = leads.0; hops = edge.hops } in
+      let second : Leg = record { to = also.0; hops = picked.edge.hops } in
       let leg : first ≡ second =
       some-same first second (sym leads.2
-      ∙ ap (λ (n : ℕ). v.leg picked.is_link.cell.position picked.is_link.cell.via n) sid ∙ also.2) in
-      let is_a : a ≡ cell_at leads.0 link.sid = some-same a (cell_at leads.0 link.sid) (sym at_a ∙ leads.1) in
-      let is_b : cell_at also.0 picked.link.sid ≡ b = some-same (cell_at also.0 picked.link.sid) b (sym also.1 ∙ at_b) in
-      let places : cell_at leads.0 link.sid ≡ cell_at also.0 picked.link.sid =
-      ap (λ (l : Leg). cell_at l.to link.sid) leg ∙ ap (cell_at also.0) sid in
+      ∙ ap (λ (n : ℕ). v.leg picked.is_edge.cell.position picked.is_edge.cell.via n) sid ∙ also.2) in
+      let is_a : a ≡ cell_at leads.0 edge.sid = some-same a (cell_at leads.0 edge.sid) (sym at_a ∙ leads.1) in
+      let is_b : cell_at also.0 picked.edge.sid ≡ b = some-same (cell_at also.0 picked.edge.sid) b (sym also.1 ∙ at_b) in
+      let places : cell_at leads.0 edge.sid ≡ cell_at also.0 picked.edge.sid =
+      ap (λ (l : Leg). cell_at l.to edge.sid) leg ∙ ap (cell_at also.0) sid in
       (is_a ∙ places ∙ is_b, ap (λ (l : Leg). l.hops) leg)
 
-  compare-legs : (link : CellEdge) (stays : Bool) (left : ℕ) (d : Cost) (more rest : List Move) (i j : ℕ) → link.to ≡ Some i
-      → picked.link.to ≡ Some j
-      → link.from ≡ spot.place → IsCellEdge v cells link → link.sid ≡ picked.link.sid → stays ≡ pick.step.stays
-      → IsTight v t spot link stays left d
+  compare-legs : (edge : CellEdge) (stays : Bool) (left : ℕ) (d : Cost) (more rest : List Move) (i j : ℕ) → edge.to ≡ Some i
+      → picked.edge.to ≡ Some j
+      → edge.from ≡ spot.place → IsCellEdge v cells edge → edge.sid ≡ picked.edge.sid → stays ≡ pick.step.stays
+      → IsTight v t spot edge stays left d
       → Behind v cells left more d (Some i) → FirstBehind v cells pick rest (Some j)
       → path_before (map (step_of v) more) (map (step_of v) rest) ≡ false
-  compare-legs link stays left d more rest i j e f from is_link sid same tight behind first =
-      let both = legs-same link i j behind.0 first.0 is_link from e f sid behind.1 first.1 in
-      let room = lefts-same link stays left d sid same tight in
-      let cost : plus (move_cost stays link.hops) d ≡ plus (move_cost stays picked.link.hops) pick.rest = tight.cost_is
+  compare-legs edge stays left d more rest i j e f from is_edge sid same tight behind first =
+      let both = legs-same edge i j behind.0 first.0 is_edge from e f sid behind.1 first.1 in
+      let room = lefts-same edge stays left d sid same tight in
+      let cost : plus (move_cost stays edge.hops) d ≡ plus (move_cost stays picked.edge.hops) pick.rest = tight.cost_is
       ∙ sym (picked-cost stays same) in
       let containers = ap (λ (x : Cost). x.containers) cost in
       let hops = ap (λ (x : Cost). x.hops) cost in
@@ -168,86 +168,86 @@ module _ (v : LegsValue) (laws : KeepsLaws v) (cells : List Cell) (are : AreCell
       ∙ ap (λ (x : Cost). Some x) is_rest in
       first.2.first more its
 
-  compare : (link : CellEdge) (stays : Bool) (left : ℕ) (d : Cost) (more rest : List Move) (to into : Option ℕ) → link.to ≡ to
-      → picked.link.to ≡ into
-      → link.from ≡ spot.place → IsCellEdge v cells link → link.sid ≡ picked.link.sid → stays ≡ pick.step.stays
-      → IsTight v t spot link stays left d
+  compare : (edge : CellEdge) (stays : Bool) (left : ℕ) (d : Cost) (more rest : List Move) (to into : Option ℕ) → edge.to ≡ to
+      → picked.edge.to ≡ into
+      → edge.from ≡ spot.place → IsCellEdge v cells edge → edge.sid ≡ picked.edge.sid → stays ≡ pick.step.stays
+      → IsTight v t spot edge stays left d
       → Behind v cells left more d to → FirstBehind v cells pick rest into
       → path_before (map (step_of v) more) (map (step_of v) rest) ≡ false
-  compare link stays left d more rest None None e f from is_link sid same tight behind first =
+  compare edge stays left d more rest None None e f from is_edge sid same tight behind first =
       let none : more ≡ rest = behind ∙ sym first in
       ap (λ (ms : List Move). path_before (map (step_of v) ms) (map (step_of v) rest)) none ∙ lex-itself (path_key (map (step_of v) rest))
-  compare link stays left d more rest None (Some j) e f from is_link sid same tight behind first =
-      let finish = leads-here link None is_link from e in
-      let leg = subst (λ (n : ℕ). LeadsTo v cells picked.is_link.cell n picked.link.hops (Some j)) (sym sid)
-      (leads-here picked.link (Some j) picked.is_link picked.from f) in
-      absurd (not-both-tight v cells laws picked.is_link.cell link.sid link.hops picked.link.hops j stays pick.rest spot.cost finish leg
-      (end-nothing link stays left d e tight) (picked-cost stays same))
-  compare link stays left d more rest (Some i) None e f from is_link sid same tight behind first =
-      let finish = leads-here picked.link None picked.is_link picked.from f in
-      let leg = subst (λ (n : ℕ). LeadsTo v cells picked.is_link.cell n link.hops (Some i)) sid (leads-here link (Some i) is_link from e) in
-      let nothing_left = end-nothing picked.link pick.step.stays pick.room pick.rest f picked.tight in
-      absurd (not-both-tight v cells laws picked.is_link.cell picked.link.sid picked.link.hops link.hops i pick.step.stays d spot.cost
+  compare edge stays left d more rest None (Some j) e f from is_edge sid same tight behind first =
+      let finish = leads-here edge None is_edge from e in
+      let leg = subst (λ (n : ℕ). LeadsTo v cells picked.is_edge.cell n picked.edge.hops (Some j)) (sym sid)
+      (leads-here picked.edge (Some j) picked.is_edge picked.from f) in
+      absurd (not-both-tight v cells laws picked.is_edge.cell edge.sid edge.hops picked.edge.hops j stays pick.rest spot.cost finish leg
+      (end-nothing edge stays left d e tight) (picked-cost stays same))
+  compare edge stays left d more rest (Some i) None e f from is_edge sid same tight behind first =
+      let finish = leads-here picked.edge None picked.is_edge picked.from f in
+      let leg = subst (λ (n : ℕ). LeadsTo v cells picked.is_edge.cell n edge.hops (Some i)) sid (leads-here edge (Some i) is_edge from e) in
+      let nothing_left = end-nothing picked.edge pick.step.stays pick.room pick.rest f picked.tight in
+      absurd (not-both-tight v cells laws picked.is_edge.cell picked.edge.sid picked.edge.hops edge.hops i pick.step.stays d spot.cost
       finish leg
-      nothing_left (ap (λ (b : Bool). plus (move_cost b link.hops) d) (sym same) ∙ tight.cost_is))
-  compare link stays left d more rest (Some i) (Some j) e f from is_link sid same tight behind first =
-      compare-legs link stays left d more rest i j e f from is_link sid same tight behind first
+      nothing_left (ap (λ (b : Bool). plus (move_cost b edge.hops) d) (sym same) ∙ tight.cost_is))
+  compare edge stays left d more rest (Some i) (Some j) e f from is_edge sid same tight behind first =
+      compare-legs edge stays left d more rest i j e f from is_edge sid same tight behind first
 
   -- no path of the least cost comes before
-  first-of-all : (rest other : List Move) → FirstBehind v cells pick rest picked.link.to
+  first-of-all : (rest other : List Move) → FirstBehind v cells pick rest picked.edge.to
       → cost_of v (state_at spot.cell spot.room) other ≡ Some spot.cost
       → path_before (map (step_of v) other) (pick.step ∷ map (step_of v) rest) ≡ false
   first-of-all rest [] first h = absurd (none-some spot.cost h)
   first-of-all rest (n ∷ more) first h =
       let head = head-of v laws cells are t least spot n more is h in
-      let its : step_of v n ≡ link_step v head.link n.stays =
+      let its : step_of v n ≡ edge_step v head.edge n.stays =
       ap (λ (m : ℕ). let s : PathStep = record { stays = n.stays; prefix = (v.shape m).prefix } in s) (sym head.sid) in
       let after : path_before (step_of v n ∷ []) (pick.step ∷ []) ≡ false =
       ap (λ (s : PathStep). path_before (s ∷ []) (pick.step ∷ [])) its
-      ∙ covers head.link head.from head.is_link n.stays head.left head.rest head.tight in
+      ∙ covers head.edge head.from head.is_edge n.stays head.left head.rest head.tight in
       not-before (step_of v n) pick.step (map (step_of v) more) (map (step_of v) rest) after (λ prefix stays.
-      let e : (v.shape head.link.sid).prefix ≡ (v.shape picked.link.sid).prefix =
+      let e : (v.shape head.edge.sid).prefix ≡ (v.shape picked.edge.sid).prefix =
       ap (λ (s : PathStep). s.prefix) (sym its) ∙ prefix ∙ picked.prefix_is in
-      let sid = sids-same v laws cells head.link picked.link head.is_link picked.is_link (head.from ∙ sym picked.from) e in
-      compare head.link n.stays head.left head.rest more rest head.link.to picked.link.to refl refl head.from head.is_link sid stays
+      let sid = sids-same v laws cells head.edge picked.edge head.is_edge picked.is_edge (head.from ∙ sym picked.from) e in
+      compare head.edge n.stays head.left head.rest more rest head.edge.to picked.edge.to refl refl head.from head.is_edge sid stays
       head.tight
       head.behind first)
 
-  cost-behind : (rest : List Move) (to : Option ℕ) → picked.link.to ≡ to → FirstBehind v cells pick rest to
-      → cost_of v (state_at spot.cell spot.room) (pick_move pick picked.link.sid ∷ rest) ≡ Some spot.cost
+  cost-behind : (rest : List Move) (to : Option ℕ) → picked.edge.to ≡ to → FirstBehind v cells pick rest to
+      → cost_of v (state_at spot.cell spot.room) (pick_move pick picked.edge.sid ∷ rest) ≡ Some spot.cost
   cost-behind rest None e first =
-      let m : Move = pick_move pick picked.link.sid in
-      let finish : v.finish picked.is_link.cell.position picked.is_link.cell.via picked.link.sid ≡ Some picked.link.hops =
-      leads-here picked.link None picked.is_link picked.from e in
-      let here : picked.is_link.cell ≡ spot.cell =
-      some-same picked.is_link.cell spot.cell (sym picked.is_link.from ∙ ap (slice_get cells) picked.from ∙ is.here) in
-      let its : v.finish spot.cell.position spot.cell.via picked.link.sid ≡ Some picked.link.hops =
-      subst (λ (c : Cell). v.finish c.position c.via picked.link.sid ≡ Some picked.link.hops) here finish in
-      let last : last_of v (state_at spot.cell spot.room) m ≡ Some (move_cost pick.step.stays picked.link.hops) =
-      last-made v (state_at spot.cell spot.room) m pick.room picked.link.hops picked.tight.room_is its in
+      let m : Move = pick_move pick picked.edge.sid in
+      let finish : v.finish picked.is_edge.cell.position picked.is_edge.cell.via picked.edge.sid ≡ Some picked.edge.hops =
+      leads-here picked.edge None picked.is_edge picked.from e in
+      let here : picked.is_edge.cell ≡ spot.cell =
+      some-same picked.is_edge.cell spot.cell (sym picked.is_edge.from ∙ ap (slice_get cells) picked.from ∙ is.here) in
+      let its : v.finish spot.cell.position spot.cell.via picked.edge.sid ≡ Some picked.edge.hops =
+      subst (λ (c : Cell). v.finish c.position c.via picked.edge.sid ≡ Some picked.edge.hops) here finish in
+      let last : last_of v (state_at spot.cell spot.room) m ≡ Some (move_cost pick.step.stays picked.edge.hops) =
+      last-made v (state_at spot.cell spot.room) m pick.room picked.edge.hops picked.tight.room_is its in
       ap (λ (ms : List Move). cost_of v (state_at spot.cell spot.room) (m ∷ ms)) first ∙ last
-      ∙ ap (λ (c : Cost). Some c) (sym (plus-nothing (move_cost pick.step.stays picked.link.hops))
-      ∙ end-nothing picked.link pick.step.stays pick.room pick.rest e picked.tight)
+      ∙ ap (λ (c : Cost). Some c) (sym (plus-nothing (move_cost pick.step.stays picked.edge.hops))
+      ∙ end-nothing picked.edge pick.step.stays pick.room pick.rest e picked.tight)
   cost-behind rest (Some j) e first =
-      let m : Move = pick_move pick picked.link.sid in
-      let leads = leads-here picked.link (Some j) picked.is_link picked.from e in
-      let here : picked.is_link.cell ≡ spot.cell =
-      some-same picked.is_link.cell spot.cell (sym picked.is_link.from ∙ ap (slice_get cells) picked.from ∙ is.here) in
-      let leg : Leg = record { to = leads.0; hops = picked.link.hops } in
-      let its : v.leg spot.cell.position spot.cell.via picked.link.sid ≡ Some leg =
-      subst (λ (c : Cell). v.leg c.position c.via picked.link.sid ≡ Some leg) here leads.2 in
-      let edge = edge-made v (state_at spot.cell spot.room) m pick.room leg picked.tight.room_is its in
-      let there : cell_at leads.0 picked.link.sid ≡ first.0 = some-same (cell_at leads.0 picked.link.sid) first.0 (sym leads.1 ∙ first.1) in
-      let behind : cost_of v (state_at (cell_at leads.0 picked.link.sid) pick.room) rest ≡ Some pick.rest =
+      let m : Move = pick_move pick picked.edge.sid in
+      let leads = leads-here picked.edge (Some j) picked.is_edge picked.from e in
+      let here : picked.is_edge.cell ≡ spot.cell =
+      some-same picked.is_edge.cell spot.cell (sym picked.is_edge.from ∙ ap (slice_get cells) picked.from ∙ is.here) in
+      let leg : Leg = record { to = leads.0; hops = picked.edge.hops } in
+      let its : v.leg spot.cell.position spot.cell.via picked.edge.sid ≡ Some leg =
+      subst (λ (c : Cell). v.leg c.position c.via picked.edge.sid ≡ Some leg) here leads.2 in
+      let edge_fact = edge-made v (state_at spot.cell spot.room) m pick.room leg picked.tight.room_is its in
+      let there : cell_at leads.0 picked.edge.sid ≡ first.0 = some-same (cell_at leads.0 picked.edge.sid) first.0 (sym leads.1 ∙ first.1) in
+      let behind : cost_of v (state_at (cell_at leads.0 picked.edge.sid) pick.room) rest ≡ Some pick.rest =
       ap (λ (c : Cell). cost_of v (state_at c pick.room) rest) there ∙ first.2.cost in
-      attained v (state_at spot.cell spot.room) m (edge_by m pick.room leg) rest pick.rest edge behind
+      attained v (state_at spot.cell spot.room) m (edge_by m pick.room leg) rest pick.rest edge_fact behind
       ∙ ap (λ (c : Cost). Some c) picked.tight.cost_is
 
-  pub first-least : (rest : List Move) → FirstBehind v cells pick rest picked.link.to
-      → IsFirstLeast v (state_at spot.cell spot.room) spot.cost (pick_move pick picked.link.sid ∷ rest)
+  pub first-least : (rest : List Move) → FirstBehind v cells pick rest picked.edge.to
+      → IsFirstLeast v (state_at spot.cell spot.room) spot.cost (pick_move pick picked.edge.sid ∷ rest)
   first-least rest first =
       record {
-        cost = cost-behind rest picked.link.to refl first;
+        cost = cost-behind rest picked.edge.to refl first;
         least = λ other.
             subst (λ (o : Option Cost). Under o (cost_of v (state_at spot.cell spot.room) other)) is.is
             ((least spot.place spot.room spot.cell is.here is.few).least other);

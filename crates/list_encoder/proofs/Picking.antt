@@ -16,11 +16,11 @@ use Rattle.list_encoder.specs.declared.picks.Pick.{Pick}
 use Rattle.list_encoder.specs.declared.picks.Spot.{Spot}
 use Rattle.list_encoder.specs.Cells.{cell_at}
 use Rattle.list_encoder.specs.Table.{Costs, IsCellEdge, move_by, AreInRange}
-use Rattle.list_encoder.specs.Picks.{better_of, IsSpot, IsPick, IsPickOrNone, Covers, link_step, CoversMoves, CoversEdge, PicksMoves, PicksEdge, PicksEnds, PicksLegs, PicksFirst}
+use Rattle.list_encoder.specs.Picks.{better_of, IsSpot, IsPick, IsPickOrNone, Covers, edge_step, CoversMoves, CoversEdge, PicksMoves, PicksEdge, PicksEnds, PicksLegs, PicksFirst}
 use Rattle.list_pack.proofs.Orders.{lex-weak, lex-not-both}
 use Rattle.list_encoder.proofs.Celling.{some-same}
 use Rattle.list_encoder.proofs.Rooms.{behind-few}
-use Rattle.list_encoder.proofs.Tables.{to-range, link-shape}
+use Rattle.list_encoder.proofs.Tables.{to-range, edge-shape}
 use Rattle.list_encoder.proofs.RelaxedRooms.{end-one, leg-one, leg-parts, room-open}
 use Rattle.list_encoder.proofs.Relaxing.{no-end, end-place}
 
@@ -63,51 +63,51 @@ found-both v cells t spot (Some p) None h k = h
 found-both v cells t spot (Some p) (Some q) h k = either-pick v cells t spot p q (path_before (q.step ∷ []) (p.step ∷ [])) h k
 
 -- one move
-pub pick-range : (v : LegsValue) → KeepsLaws v → (cells : List Cell) (t : Costs) (spot : Spot) (link : CellEdge) (stays : Bool) (left : ℕ)
-    → IsCellEdge v cells link
+pub pick-range : (v : LegsValue) → KeepsLaws v → (cells : List Cell) (t : Costs) (spot : Spot) (edge : CellEdge) (stays : Bool) (left : ℕ)
+    → IsCellEdge v cells edge
     → length t ≡ 8 * length cells → spot.room < 8
-    → room_to v spot.cell.via spot.room (move_by link stays) ≡ Some left
-    → AreInRange t link.to left
-pick-range v laws cells t spot link stays left is long few e =
-    to-range v laws cells t is.cell link.sid link.hops left link.to long is.leads
-    (behind-few v spot.cell.via spot.room (move_by link stays) left (link-shape v laws cells link is) few e)
+    → room_to v spot.cell.via spot.room (move_by edge stays) ≡ Some left
+    → AreInRange t edge.to left
+pick-range v laws cells t spot edge stays left is long few e =
+    to-range v laws cells t is.cell edge.sid edge.hops left edge.to long is.leads
+    (behind-few v spot.cell.via spot.room (move_by edge stays) left (edge-shape v laws cells edge is) few e)
 
-pub both-moves : (v : LegsValue) (cells : List Cell) (t : Costs) (spot : Spot) (link : CellEdge) (a b : Option Pick)
-    → PicksMoves v cells t spot link true a
-    → PicksMoves v cells t spot link false b → PicksEdge v cells t spot link (better_of a b)
-both-moves v cells t spot link a b h k =
+pub both-moves : (v : LegsValue) (cells : List Cell) (t : Costs) (spot : Spot) (edge : CellEdge) (a b : Option Pick)
+    → PicksMoves v cells t spot edge true a
+    → PicksMoves v cells t spot edge false b → PicksEdge v cells t spot edge (better_of a b)
+both-moves v cells t spot edge a b h k =
     record { found = found-both v cells t spot a b h.found k.found; covers = covers }
   where
-    covers : (stays : Bool) → CoversMoves v t spot (better_of a b) link stays
-    covers true left rest tight = covers-left a b (link_step v link true) (h.covers left rest tight)
-    covers false left rest tight = covers-right a b (link_step v link false) (k.covers left rest tight)
+    covers : (stays : Bool) → CoversMoves v t spot (better_of a b) edge stays
+    covers true left rest tight = covers-left a b (edge_step v edge true) (h.covers left rest tight)
+    covers false left rest tight = covers-right a b (edge_step v edge false) (k.covers left rest tight)
 
-pub link-kept : (v : LegsValue) (t : Costs) (spot : Spot) (a b : Option Pick) (link : CellEdge) → CoversEdge v t spot a link
-    → CoversEdge v t spot (better_of a b) link
-link-kept v t spot a b link h stays left rest tight = covers-left a b (link_step v link stays) (h stays left rest tight)
+pub edge-kept : (v : LegsValue) (t : Costs) (spot : Spot) (a b : Option Pick) (edge : CellEdge) → CoversEdge v t spot a edge
+    → CoversEdge v t spot (better_of a b) edge
+edge-kept v t spot a b edge h stays left rest tight = covers-left a b (edge_step v edge stays) (h stays left rest tight)
 
-pub link-added : (v : LegsValue) (t : Costs) (spot : Spot) (a b : Option Pick) (link : CellEdge) → CoversEdge v t spot b link
-    → CoversEdge v t spot (better_of a b) link
-link-added v t spot a b link h stays left rest tight = covers-right a b (link_step v link stays) (h stays left rest tight)
+pub edge-added : (v : LegsValue) (t : Costs) (spot : Spot) (a b : Option Pick) (edge : CellEdge) → CoversEdge v t spot b edge
+    → CoversEdge v t spot (better_of a b) edge
+edge-added v t spot a b edge h stays left rest tight = covers-right a b (edge_step v edge stays) (h stays left rest tight)
 
 pub picks-first : (v : LegsValue) (cells : List Cell) (t : Costs) (spot : Spot) (a b : Option Pick) → PicksEnds v cells t spot a
     → PicksLegs v cells t spot b
     → PicksFirst v cells t spot (better_of a b)
 picks-first v cells t spot a b h k =
-    record { found = found-both v cells t spot a b h.found k.found; covers = λ link from is. by link from is link.to refl }
+    record { found = found-both v cells t spot a b h.found k.found; covers = λ edge from is. by edge from is edge.to refl }
   where
-    by : (link : CellEdge) → link.from ≡ spot.place → IsCellEdge v cells link → (to : Option ℕ) → link.to ≡ to
-        → CoversEdge v t spot (better_of a b) link
-    by link from is None e = link-kept v t spot a b link (h.covers link from e is)
-    by link from is (Some to) e = link-added v t spot a b link (k.covers link to from e is)
+    by : (edge : CellEdge) → edge.from ≡ spot.place → IsCellEdge v cells edge → (to : Option ℕ) → edge.to ≡ to
+        → CoversEdge v t spot (better_of a b) edge
+    by edge from is None e = edge-kept v t spot a b edge (h.covers edge from e is)
+    by edge from is (Some to) e = edge-added v t spot a b edge (k.covers edge to from e is)
 
 -- the first finishes from a cell
 pub record EndsPicked (v : LegsValue) (cells : List Cell) (t : Costs) (spot : Spot) (sids : List ℕ) (count : ℕ) (best : Option Pick) :
     Type 0 where
   pub found : IsPickOrNone v cells t spot best
-  pub covers : (link : CellEdge) (i : ℕ) → link.from ≡ spot.place → link.to ≡ None → IsCellEdge v cells link → i < count
-      → slice_get sids i ≡ Some link.sid
-      → CoversEdge v t spot best link
+  pub covers : (edge : CellEdge) (i : ℕ) → edge.from ≡ spot.place → edge.to ≡ None → IsCellEdge v cells edge → i < count
+      → slice_get sids i ≡ Some edge.sid
+      → CoversEdge v t spot best edge
 
 pub ends-pass : (v : LegsValue) (cells : List Cell) (t : Costs) (spot : Spot) (sids : List ℕ) (count sid : ℕ) (best : Option Pick)
     → IsSpot cells t spot
@@ -116,13 +116,13 @@ pub ends-pass : (v : LegsValue) (cells : List Cell) (t : Costs) (spot : Spot) (s
 ends-pass v cells t spot sids count sid best is_spot here none so =
     record {
       found = so.found;
-      covers = λ link i from to is h e.
-          elim (cases_lt i count) as (λ w. CoversEdge v t spot best link) [
-            | inl less ↦ so.covers link i from to is less e
+      covers = λ edge i from to is h e.
+          elim (cases_lt i count) as (λ w. CoversEdge v t spot best edge) [
+            | inl less ↦ so.covers edge i from to is less e
             | inr more ↦
                 let same : i ≡ count = omega (arith, h, more) in
-                let is_sid : sid ≡ link.sid = some-same sid link.sid (sym here ∙ ap (slice_get sids) (sym same) ∙ e) in
-                absurd (no-end v cells link spot.place spot.cell is_spot.here from to is
+                let is_sid : sid ≡ edge.sid = some-same sid edge.sid (sym here ∙ ap (slice_get sids) (sym same) ∙ e) in
+                absurd (no-end v cells edge spot.place spot.cell is_spot.here from to is
                 (subst (λ (n : ℕ). v.finish spot.cell.position spot.cell.via n ≡ None) is_sid none))
           ];
     }
@@ -135,15 +135,15 @@ pub ends-add : (v : LegsValue) (cells : List Cell) (t : Costs) (spot : Spot) (si
 ends-add v cells t spot sids count best other taken is_spot here at none finish so picks =
     record {
       found = found-both v cells t spot best other so.found picks.found;
-      covers = λ link i from to is h e.
-          elim (cases_lt i count) as (λ w. CoversEdge v t spot (better_of best other) link) [
-            | inl less ↦ link-kept v t spot best other link (so.covers link i from to is less e)
+      covers = λ edge i from to is h e.
+          elim (cases_lt i count) as (λ w. CoversEdge v t spot (better_of best other) edge) [
+            | inl less ↦ edge-kept v t spot best other edge (so.covers edge i from to is less e)
             | inr more ↦
                 let same : i ≡ count = omega (arith, h, more) in
-                let is_sid : link.sid ≡ taken.sid = some-same link.sid taken.sid (sym e ∙ ap (slice_get sids) same ∙ here) in
-                let it : taken ≡ link =
-                end-one v cells taken link spot.cell (ap (slice_get cells) at ∙ is_spot.here) finish none (from ∙ sym at) to is_sid is in
-                link-added v t spot best other link (subst (λ (l : CellEdge). CoversEdge v t spot other l) it picks.covers)
+                let is_sid : edge.sid ≡ taken.sid = some-same edge.sid taken.sid (sym e ∙ ap (slice_get sids) same ∙ here) in
+                let it : taken ≡ edge =
+                end-one v cells taken edge spot.cell (ap (slice_get cells) at ∙ is_spot.here) finish none (from ∙ sym at) to is_sid is in
+                edge-added v t spot best other edge (subst (λ (l : CellEdge). CoversEdge v t spot other l) it picks.covers)
           ];
     }
 
@@ -154,30 +154,30 @@ pub ends-picked : (v : LegsValue) → KeepsLaws v
 ends-picked v laws cells t spot sids steps count best e is h so =
     record {
       found = so.found;
-      covers = λ link from to is_link.
-          let place = end-place v laws cells link sids steps e is to is_link in
-          let w = slice_get_within sids place.0 link.sid place.1 in
-          so.covers link place.0 from to is_link (omega (arith, h, w)) place.1;
+      covers = λ edge from to is_edge.
+          let place = end-place v laws cells edge sids steps e is to is_edge in
+          let w = slice_get_within sids place.0 edge.sid place.1 in
+          so.covers edge place.0 from to is_edge (omega (arith, h, w)) place.1;
     }
 
 -- the legs from a cell into the first cells
 pub record LegsPicked (v : LegsValue) (cells : List Cell) (t : Costs) (spot : Spot) (count : ℕ) (best : Option Pick) : Type 0 where
   pub found : IsPickOrNone v cells t spot best
-  pub covers : (link : CellEdge) (to : ℕ) → link.from ≡ spot.place → link.to ≡ Some to → IsCellEdge v cells link → to < count
-      → CoversEdge v t spot best link
+  pub covers : (edge : CellEdge) (to : ℕ) → edge.from ≡ spot.place → edge.to ≡ Some to → IsCellEdge v cells edge → to < count
+      → CoversEdge v t spot best edge
 
 pub legs-pass : (v : LegsValue) (cells : List Cell) (t : Costs) (spot : Spot) (count : ℕ) (best : Option Pick)
-    → ((link : CellEdge) → link.from ≡ spot.place → link.to ≡ Some count → ¬ IsCellEdge v cells link) → LegsPicked v cells t spot count best
+    → ((edge : CellEdge) → edge.from ≡ spot.place → edge.to ≡ Some count → ¬ IsCellEdge v cells edge) → LegsPicked v cells t spot count best
     → LegsPicked v cells t spot (count + 1) best
 legs-pass v cells t spot count best none so =
     record {
       found = so.found;
-      covers = λ link to from e is h.
-          elim (cases_lt to count) as (λ w. CoversEdge v t spot best link) [
-            | inl less ↦ so.covers link to from e is less
+      covers = λ edge to from e is h.
+          elim (cases_lt to count) as (λ w. CoversEdge v t spot best edge) [
+            | inl less ↦ so.covers edge to from e is less
             | inr more ↦
                 let same : to ≡ count = omega (arith, h, more) in
-                absurd (none link from (e ∙ ap (λ (n : ℕ). Some n) same) is)
+                absurd (none edge from (e ∙ ap (λ (n : ℕ). Some n) same) is)
           ];
     }
 
@@ -188,13 +188,13 @@ pub legs-add : (v : LegsValue) (cells : List Cell) (t : Costs) (spot : Spot) (co
 legs-add v cells t spot count best other taken is_taken at into so picks =
     record {
       found = found-both v cells t spot best other so.found picks.found;
-      covers = λ link to from e is h.
-          elim (cases_lt to count) as (λ w. CoversEdge v t spot (better_of best other) link) [
-            | inl less ↦ link-kept v t spot best other link (so.covers link to from e is less)
+      covers = λ edge to from e is h.
+          elim (cases_lt to count) as (λ w. CoversEdge v t spot (better_of best other) edge) [
+            | inl less ↦ edge-kept v t spot best other edge (so.covers edge to from e is less)
             | inr more ↦
                 let same : count ≡ to = omega (arith, h, more) in
-                let it : taken ≡ link = leg-one v cells taken link to (into ∙ ap (λ (n : ℕ). Some n) same) (from ∙ sym at) e is_taken is in
-                link-added v t spot best other link (subst (λ (l : CellEdge). CoversEdge v t spot other l) it picks.covers)
+                let it : taken ≡ edge = leg-one v cells taken edge to (into ∙ ap (λ (n : ℕ). Some n) same) (from ∙ sym at) e is_taken is in
+                edge-added v t spot best other edge (subst (λ (l : CellEdge). CoversEdge v t spot other l) it picks.covers)
           ];
     }
 
@@ -203,10 +203,10 @@ pub legs-picked : (v : LegsValue) (cells : List Cell) (t : Costs) (spot : Spot) 
 legs-picked v cells t spot count best h so =
     record {
       found = so.found;
-      covers = λ link to from e is.
-          let leads = leg-parts v cells link to e is in
-          let w = slice_get_within cells to (cell_at leads.0 link.sid) leads.1 in
-          so.covers link to from e is (omega (arith, h, w));
+      covers = λ edge to from e is.
+          let leads = leg-parts v cells edge to e is in
+          let w = slice_get_within cells to (cell_at leads.0 edge.sid) leads.1 in
+          so.covers edge to from e is (omega (arith, h, w));
     }
 
 -- the room after a move, as it was asked for

@@ -23,7 +23,7 @@ use Rattle.list_encoder.specs.Grouped.{Groups, IsIn}
 use Rattle.list_encoder.specs.Settling.{LeadToCells, HoldsDone, SettlesSoFar, SettlesAll}
 use Rattle.list_encoder.proofs.Celling.{some-same, place_of}
 use Rattle.list_encoder.proofs.Rooms.{behind-few}
-use Rattle.list_encoder.proofs.Tables.{link-shape}
+use Rattle.list_encoder.proofs.Tables.{edge-shape}
 use Rattle.list_encoder.proofs.Fronts.{first-open, front-settled, done-same, done-other}
 
 -- how many states aren't settled
@@ -50,7 +50,7 @@ settles-start v cells groups t waiting done sound front unset long = record {
   long = long;
   falls = λ i. under-itself (at t i);
   past = λ i h. refl;
-  hold = λ to link is cell stays room left here low few leaves settled. absurd (both_ways _ (unset (8 * to + left)) settled);
+  hold = λ to edge is cell stays room left here low few leaves settled. absurd (both_ways _ (unset (8 * to + left)) settled);
 }
 
 module _ (v : LegsValue) (cells : List Cell) (groups : Groups) (t0 t : Costs) (waiting rest : BTreeSet Waiting) (done : List Bool)
@@ -74,18 +74,18 @@ module _ (v : LegsValue) (cells : List Cell) (groups : Groups) (t0 t : Costs) (w
 
   pub lead : LeadToCells v cells groups → (group : Vec CellEdge Global) → slice_get groups (k.place / 8) ≡ Some group
       → LeadInto v cells t rest (set done k.place true) group.items (k.place % 8) (cost_of k)
-  lead edges group here = (
+  lead edge_facts group here = (
     so.sound,
     front-next,
-    λ link among.
-        let edge = edges (k.place / 8) link (group, here, among) in
+    λ edge among.
+        let edge_fact = edge_facts (k.place / 8) edge (group, here, among) in
         record {
-          is_edge = edge.0;
+          is_edge = edge_fact.0;
           sound = so.sound;
           front = front-next;
-          early = let from = edge.2 in let long = so.long in let same = length-set done k.place true in omega (arith, from, long, same);
-          rest_is = ap (λ (o : Option ℕ). rest_at t o (k.place % 8)) edge.1 ∙ (ap (at t) place-is ∙ open-first.has);
-          settled = subst (λ (o : Option ℕ). IsSettledAt (set done k.place true) o (k.place % 8)) (sym edge.1)
+          early = let from = edge_fact.2 in let long = so.long in let same = length-set done k.place true in omega (arith, from, long, same);
+          rest_is = ap (λ (o : Option ℕ). rest_at t o (k.place % 8)) edge_fact.1 ∙ (ap (at t) place-is ∙ open-first.has);
+          settled = subst (λ (o : Option ℕ). IsSettledAt (set done k.place true) o (k.place % 8)) (sym edge_fact.1)
               (ap (is_done (set done k.place true)) place-is ∙ done-same done k.place open-first.early);
         },
   )
@@ -96,19 +96,19 @@ module _ (v : LegsValue) (cells : List Cell) (groups : Groups) (t0 t : Costs) (w
     still-first : at t1 k.place ≡ Some (cost_of k)
     still-first = offers.advances.still k.place (done-same done k.place open-first.early) ∙ open-first.has
 
-    hold-first : (link : CellEdge) → Contains group.items link → (cell : Cell) (stays : Bool) (room : ℕ)
-        → slice_get cells link.from ≡ Some cell
-        → room < 8 → room_to v cell.via room (move_by link stays) ≡ Some (k.place % 8)
-        → Under (entry t1 link.from room) (offer stays link.hops (at t1 k.place))
-    hold-first link among cell stays room here low leaves =
-        let place = place_of group.items link among in
-        let within = slice_get_within group.items place.0 link place.1 in
-        let takes : Under (entry t1 link.from room) (Some (plus (move_cost stays link.hops) (cost_of k))) =
-        offers.takes link place.0 stays room (omega (arith, within, all)) place.1 low (cell, here, leaves) in
-        subst (λ (o : Option Cost). Under (entry t1 link.from room) (offer stays link.hops o)) (sym still-first) takes
+    hold-first : (edge : CellEdge) → Contains group.items edge → (cell : Cell) (stays : Bool) (room : ℕ)
+        → slice_get cells edge.from ≡ Some cell
+        → room < 8 → room_to v cell.via room (move_by edge stays) ≡ Some (k.place % 8)
+        → Under (entry t1 edge.from room) (offer stays edge.hops (at t1 k.place))
+    hold-first edge among cell stays room here low leaves =
+        let place = place_of group.items edge among in
+        let within = slice_get_within group.items place.0 edge place.1 in
+        let takes : Under (entry t1 edge.from room) (Some (plus (move_cost stays edge.hops) (cost_of k))) =
+        offers.takes edge place.0 stays room (omega (arith, within, all)) place.1 low (cell, here, leaves) in
+        subst (λ (o : Option Cost). Under (entry t1 edge.from room) (offer stays edge.hops o)) (sym still-first) takes
 
-    hold-next : (to : ℕ) (link : CellEdge) → IsIn groups to link → HoldsDone v cells t1 done1 link to
-    hold-next to link is cell stays room left at_cell low few leaves settled =
+    hold-next : (to : ℕ) (edge : CellEdge) → IsIn groups to edge → HoldsDone v cells t1 done1 edge to
+    hold-next to edge is cell stays room left at_cell low few leaves settled =
         let now : is_done (set done k.place true) (8 * to + left) ≡ true =
         ap (λ (d : List Bool). is_done d (8 * to + left)) (sym offers.advances.same) ∙ settled in
         elim (cases_eq (8 * to + left) k.place) [
@@ -116,16 +116,16 @@ module _ (v : LegsValue) (cells : List Cell) (groups : Groups) (t0 t : Costs) (w
               let cell_is : to ≡ k.place / 8 = omega (arith, same, few) in
               let room_is : left ≡ k.place % 8 = omega (arith, same, few) in
               let one : is.0 ≡ group = some-same is.0 group (sym is.1 ∙ ap (slice_get groups) cell_is ∙ here) in
-              let among : Contains group.items link = subst (λ (g : Vec CellEdge Global). Contains g.items link) one is.2 in
-              subst (λ (i : ℕ). Under (entry t1 link.from room) (offer stays link.hops (at t1 i))) (sym same)
-              (hold-first link among cell stays room at_cell low (leaves ∙ ap Some room_is))
+              let among : Contains group.items edge = subst (λ (g : Vec CellEdge Global). Contains g.items edge) one is.2 in
+              subst (λ (i : ℕ). Under (entry t1 edge.from room) (offer stays edge.hops (at t1 i))) (sym same)
+              (hold-first edge among cell stays room at_cell low (leaves ∙ ap Some room_is))
           | inr other ↦
-              let before = so.hold to link is cell stays room left at_cell low few leaves (sym (done-other done k.place (8 * to + left)
+              let before = so.hold to edge is cell stays room left at_cell low few leaves (sym (done-other done k.place (8 * to + left)
               other) ∙ now) in
               let kept : entry t1 to left ≡ entry t to left = offers.advances.still (8 * to + left) now in
-              subst (λ (o : Option Cost). Under (entry t1 link.from room) (offer stays link.hops o)) (sym kept)
-              (under-trans (entry t1 link.from room) (entry t link.from room) (offer stays link.hops (entry t to left))
-              (offers.advances.falls (8 * link.from + room)) before)
+              subst (λ (o : Option Cost). Under (entry t1 edge.from room) (offer stays edge.hops o)) (sym kept)
+              (under-trans (entry t1 edge.from room) (entry t edge.from room) (offer stays edge.hops (entry t to left))
+              (offers.advances.falls (8 * edge.from + room)) before)
         ]
 
     pub settles-more : SettlesSoFar v cells groups t0 t1 w1 done1
@@ -147,11 +147,11 @@ module _ (v : LegsValue) (cells : List Cell) (groups : Groups) (t0 t : Costs) (w
       8) ≡ Some group)
       (ls : List CellEdge) (ls_is : ls ≡ group.items) (cost : Cost) (cost_is : cost ≡ cost_of k) where
     pub lead-by : LeadToCells v cells groups → LeadInto v cells t rest now ls (k.place % 8) cost
-    lead-by edges =
+    lead-by edge_facts =
         subst (λ (d : List Bool). LeadInto v cells t rest d ls (k.place % 8) cost) (sym now_is)
         (subst (λ (xs : List CellEdge). LeadInto v cells t rest (set done k.place true) xs (k.place % 8) cost) (sym ls_is)
         (subst (λ (x : Cost). LeadInto v cells t rest (set done k.place true) group.items (k.place % 8) x) (sym cost_is)
-        (lead edges group here)))
+        (lead edge_facts group here)))
 
     module _ (t1 : Costs) (w1 : BTreeSet Waiting) (done1 : List Bool)
         (offers : OffersAll v cells ls (length ls) (k.place % 8) cost t now t1 w1 done1) where
@@ -174,33 +174,33 @@ waits-none waiting k none waits = both_ways _ (ap (list_any (λ q. is_eq (waitin
 
 module _ (v : LegsValue) (laws : KeepsLaws v) (cells : List Cell) (groups : Groups) (t0 t : Costs) (waiting : BTreeSet Waiting)
     (done : List Bool)
-    (so : SettlesSoFar v cells groups t0 t waiting done) (none : waiting.keys ≡ []) (edges : LeadToCells v cells groups) where
+    (so : SettlesSoFar v cells groups t0 t waiting done) (none : waiting.keys ≡ []) (edge_facts : LeadToCells v cells groups) where
   settled-all : (i : ℕ) (c : Cost) → i < length done → at t i ≡ Some c → is_done done i ≡ true
   settled-all i c within has = elim (cases_Bool (is_done done i)) [
     | inl is ↦ is
     | inr unset ↦ absurd (waits-none waiting (waiting_at c i) none (so.front.waits i c within has unset))
   ]
 
-  hold-all : (to : ℕ) (link : CellEdge) → IsIn groups to link → (cell : Cell) (stays : Bool) (room left : ℕ)
-      → slice_get cells link.from ≡ Some cell
-      → room < 8 → left < 8 → room_to v cell.via room (move_by link stays) ≡ Some left → (o : Option Cost)
-      → entry t to left ≡ o → Under (entry t link.from room) (offer stays link.hops (entry t to left))
-  hold-all to link is cell stays room left here low few leaves None has =
-      subst (λ (o : Option Cost). Under (entry t link.from room) (offer stays link.hops o)) (sym has) (under-none (entry t link.from
+  hold-all : (to : ℕ) (edge : CellEdge) → IsIn groups to edge → (cell : Cell) (stays : Bool) (room left : ℕ)
+      → slice_get cells edge.from ≡ Some cell
+      → room < 8 → left < 8 → room_to v cell.via room (move_by edge stays) ≡ Some left → (o : Option Cost)
+      → entry t to left ≡ o → Under (entry t edge.from room) (offer stays edge.hops (entry t to left))
+  hold-all to edge is cell stays room left here low few leaves None has =
+      subst (λ (o : Option Cost). Under (entry t edge.from room) (offer stays edge.hops o)) (sym has) (under-none (entry t edge.from
       room))
-  hold-all to link is cell stays room left here low few leaves (Some c) has =
+  hold-all to edge is cell stays room left here low few leaves (Some c) has =
       let within = slice_get_within groups to is.0 is.1 in
       let long = so.long in
-      so.hold to link is cell stays room left here low few leaves (settled-all (8 * to + left) c (omega (arith, within, long, few)) has)
+      so.hold to edge is cell stays room left here low few leaves (settled-all (8 * to + left) c (omega (arith, within, long, few)) has)
 
   pub settles-all : SettlesAll v cells groups t0 t
   settles-all = record {
     sound = so.sound;
     falls = so.falls;
     past = so.past;
-    holds = λ to link is cell stays room left here low leaves.
-        let edge = edges to link is in
-        let few = behind-few v cell.via room (move_by link stays) left (link-shape v laws cells link edge.0) low leaves in
-        subst (λ (o : Option ℕ). Under (entry t link.from room) (offer stays link.hops (rest_at t o left))) (sym edge.1)
-        (hold-all to link is cell stays room left here low few leaves (entry t to left) refl);
+    holds = λ to edge is cell stays room left here low leaves.
+        let edge_fact = edge_facts to edge is in
+        let few = behind-few v cell.via room (move_by edge stays) left (edge-shape v laws cells edge edge_fact.0) low leaves in
+        subst (λ (o : Option ℕ). Under (entry t edge.from room) (offer stays edge.hops (rest_at t o left))) (sym edge_fact.1)
+        (hold-all to edge is cell stays room left here low few leaves (entry t to left) refl);
   }

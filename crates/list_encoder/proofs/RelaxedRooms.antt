@@ -1,4 +1,4 @@
--- Lowering by a link room by room, and what holds of a link that is lowered.
+-- Lowering by an edge room by room, and what holds of an edge that is lowered.
 use Rattle.std.proofs.Common.{◌≡◌, ℕ, ◌+◌, ◌*◌, ◌<◌, ◌≤◌, inl, inr, Bool, true, false, ◌||◌, ◌&&◌, if◌then◌else◌, List, Option, Some, None, slice_get, get_or, sym, ◌∙◌, ap, subst, arith}
 use Rattle.std.specs.Option.{option_map}
 use Rattle.std.proofs.lemmas.Bool.{cases_lt}
@@ -17,7 +17,7 @@ use Rattle.list_encoder.specs.Table.{Costs, at, entry, rest_at, offer, LeadsTo, 
 use Rattle.list_encoder.proofs.Celling.{some-same, cell-read}
 use Rattle.list_encoder.proofs.Tables.{kept-passed, passed-then}
 
--- what is left after a link falls where the table does
+-- what is left after an edge falls where the table does
 pub rest-falls : (before after : Costs) (to : Option ℕ) (left : ℕ) → ((i : ℕ) → Under (at after i) (at before i))
     → Under (rest_at after to left) (rest_at before to left)
 rest-falls before after None left h = under-itself (Some nothing)
@@ -27,78 +27,78 @@ pub offer-falls : (stays : Bool) (hops : ℕ) (a b : Option Cost) → Under a b 
 offer-falls stays hops a b h = under-plus (move_cost stays hops) a b h
 
 -- what holds of a room holds where its room is known
-room-holds : (o : Option Cost) (stays : Bool) (link : CellEdge) (t : Costs) (p : Option ℕ) (left : ℕ) → p ≡ Some left
-    → RoomHolds o stays link t p
-    → Under o (offer stays link.hops (rest_at t link.to left))
-room-holds o stays link t p left e h = subst (λ (q : Option ℕ). RoomHolds o stays link t q) e h
+room-holds : (o : Option Cost) (stays : Bool) (edge : CellEdge) (t : Costs) (p : Option ℕ) (left : ℕ) → p ≡ Some left
+    → RoomHolds o stays edge t p
+    → Under o (offer stays edge.hops (rest_at t edge.to left))
+room-holds o stays edge t p left e h = subst (λ (q : Option ℕ). RoomHolds o stays edge t q) e h
 
-pub room-rooms : (v : LegsValue) (cells : List Cell) (link : CellEdge) (stays : Bool) (room : ℕ) (p : Option ℕ) (t t1 : Costs) (x : Bool)
-    → RoomRelaxed v cells link t t1 stays room p x → LeavesRoom v cells link stays room p
-    → RoomsRelaxed v cells link stays room (room + 1) t t1 x
-room-rooms v cells link stays room p t t1 x relaxed leaves =
+pub room-rooms : (v : LegsValue) (cells : List Cell) (edge : CellEdge) (stays : Bool) (room : ℕ) (p : Option ℕ) (t t1 : Costs) (x : Bool)
+    → RoomRelaxed v cells edge t t1 stays room p x → LeavesRoom v cells edge stays room p
+    → RoomsRelaxed v cells edge stays room (room + 1) t t1 x
+room-rooms v cells edge stays room p t t1 x relaxed leaves =
     record {
       sound = relaxed.sound;
       passed = relaxed.passed;
       holds = λ cell r left e l h f.
           let same : room ≡ r = omega (arith, l, h) in
-          let g : room_to v cell.via room (move_by link stays) ≡ Some left =
-          ap (λ (k : ℕ). room_to v cell.via k (move_by link stays)) same ∙ f in
-          subst (λ (k : ℕ). Under (entry t1 link.from k) (offer stays link.hops (rest_at t link.to left))) same
-          (room-holds (entry t1 link.from room) stays link t p left (leaves cell e ∙ g) relaxed.holds);
+          let g : room_to v cell.via room (move_by edge stays) ≡ Some left =
+          ap (λ (k : ℕ). room_to v cell.via k (move_by edge stays)) same ∙ f in
+          subst (λ (k : ℕ). Under (entry t1 edge.from k) (offer stays edge.hops (rest_at t edge.to left))) same
+          (room-holds (entry t1 edge.from room) stays edge t p left (leaves cell e ∙ g) relaxed.holds);
     }
 
 -- some rooms, and then those that follow
-pub rooms-join : (v : LegsValue) (cells : List Cell) (link : CellEdge) (stays : Bool) (low mid high : ℕ) (t t1 t2 : Costs) (x y : Bool)
-    → RoomsRelaxed v cells link stays low mid t t1 x → RoomsRelaxed v cells link stays mid high t1 t2 y
-    → RoomsRelaxed v cells link stays low high t t2 (x || y)
-rooms-join v cells link stays low mid high t t1 t2 x y first second =
+pub rooms-join : (v : LegsValue) (cells : List Cell) (edge : CellEdge) (stays : Bool) (low mid high : ℕ) (t t1 t2 : Costs) (x y : Bool)
+    → RoomsRelaxed v cells edge stays low mid t t1 x → RoomsRelaxed v cells edge stays mid high t1 t2 y
+    → RoomsRelaxed v cells edge stays low high t t2 (x || y)
+rooms-join v cells edge stays low mid high t t1 t2 x y first second =
     record {
       sound = second.sound;
-      passed = passed-then (link.from + 1) t t1 t2 x y first.passed second.passed;
+      passed = passed-then (edge.from + 1) t t1 t2 x y first.passed second.passed;
       holds = λ cell r left e l h f.
-          elim (cases_lt r mid) as (λ w. Under (entry t2 link.from r) (offer stays link.hops (rest_at t link.to left))) [
+          elim (cases_lt r mid) as (λ w. Under (entry t2 edge.from r) (offer stays edge.hops (rest_at t edge.to left))) [
             | inl less ↦
-                under-trans (entry t2 link.from r) (entry t1 link.from r) (offer stays link.hops (rest_at t link.to left))
+                under-trans (entry t2 edge.from r) (entry t1 edge.from r) (offer stays edge.hops (rest_at t edge.to left))
                 (second.passed.falls _) (first.holds cell r left e l less f)
             | inr more ↦
-                under-trans (entry t2 link.from r) (offer stays link.hops (rest_at t1 link.to left))
-                (offer stays link.hops (rest_at t link.to left)) (second.holds cell r left e more h f)
-                (offer-falls stays link.hops (rest_at t1 link.to left) (rest_at t link.to left)
-                (rest-falls t t1 link.to left first.passed.falls))
+                under-trans (entry t2 edge.from r) (offer stays edge.hops (rest_at t1 edge.to left))
+                (offer stays edge.hops (rest_at t edge.to left)) (second.holds cell r left e more h f)
+                (offer-falls stays edge.hops (rest_at t1 edge.to left) (rest_at t edge.to left)
+                (rest-falls t t1 edge.to left first.passed.falls))
           ];
     }
 
-pub rooms-more : (v : LegsValue) (cells : List Cell) (link : CellEdge) (stays : Bool) (low room : ℕ) (p : Option ℕ) (t t1 t2 : Costs)
+pub rooms-more : (v : LegsValue) (cells : List Cell) (edge : CellEdge) (stays : Bool) (low room : ℕ) (p : Option ℕ) (t t1 t2 : Costs)
     (x y : Bool)
-    → RoomsRelaxed v cells link stays low room t t1 x → RoomRelaxed v cells link t1 t2 stays room p y → LeavesRoom v cells link stays room p
-    → RoomsRelaxed v cells link stays low (room + 1) t t2 (x || y)
-rooms-more v cells link stays low room p t t1 t2 x y begun relaxed leaves =
-    rooms-join v cells link stays low room (room + 1) t t1 t2 x y begun (room-rooms v cells link stays room p t1 t2 y relaxed leaves)
+    → RoomsRelaxed v cells edge stays low room t t1 x → RoomRelaxed v cells edge t1 t2 stays room p y → LeavesRoom v cells edge stays room p
+    → RoomsRelaxed v cells edge stays low (room + 1) t t2 (x || y)
+rooms-more v cells edge stays low room p t t1 t2 x y begun relaxed leaves =
+    rooms-join v cells edge stays low room (room + 1) t t1 t2 x y begun (room-rooms v cells edge stays room p t1 t2 y relaxed leaves)
 
 -- by a new container from each room, and in the same one
-pub ways-join : (v : LegsValue) (cells : List Cell) (link : CellEdge) (t t1 t2 : Costs) (x y : Bool)
-    → RoomsRelaxed v cells link false 0 8 t t1 x → RoomsRelaxed v cells link true 0 8 t1 t2 y → Relaxed v cells link t t2 (x || y)
-ways-join v cells link t t1 t2 x y opened stayed =
+pub ways-join : (v : LegsValue) (cells : List Cell) (edge : CellEdge) (t t1 t2 : Costs) (x y : Bool)
+    → RoomsRelaxed v cells edge false 0 8 t t1 x → RoomsRelaxed v cells edge true 0 8 t1 t2 y → Relaxed v cells edge t t2 (x || y)
+ways-join v cells edge t t1 t2 x y opened stayed =
     record {
       sound = stayed.sound;
-      passed = passed-then (link.from + 1) t t1 t2 x y opened.passed stayed.passed;
+      passed = passed-then (edge.from + 1) t t1 t2 x y opened.passed stayed.passed;
       holds = holds;
     }
   where
-    holds : (cell : Cell) (stays : Bool) (r left : ℕ) → slice_get cells link.from ≡ Some cell → r < 8
-        → room_to v cell.via r (move_by link stays) ≡ Some left
-        → Under (entry t2 link.from r) (offer stays link.hops (rest_at t link.to left))
+    holds : (cell : Cell) (stays : Bool) (r left : ℕ) → slice_get cells edge.from ≡ Some cell → r < 8
+        → room_to v cell.via r (move_by edge stays) ≡ Some left
+        → Under (entry t2 edge.from r) (offer stays edge.hops (rest_at t edge.to left))
     holds cell true r left e h f =
-        under-trans (entry t2 link.from r) (offer true link.hops (rest_at t1 link.to left)) (offer true link.hops (rest_at t link.to left))
+        under-trans (entry t2 edge.from r) (offer true edge.hops (rest_at t1 edge.to left)) (offer true edge.hops (rest_at t edge.to left))
         (stayed.holds cell r left e (omega arith) h f)
-        (offer-falls true link.hops (rest_at t1 link.to left) (rest_at t link.to left) (rest-falls t t1 link.to left opened.passed.falls))
+        (offer-falls true edge.hops (rest_at t1 edge.to left) (rest_at t edge.to left) (rest-falls t t1 edge.to left opened.passed.falls))
     holds cell false r left e h f =
-        under-trans (entry t2 link.from r) (entry t1 link.from r) (offer false link.hops (rest_at t link.to left)) (stayed.passed.falls _)
+        under-trans (entry t2 edge.from r) (entry t1 edge.from r) (offer false edge.hops (rest_at t edge.to left)) (stayed.passed.falls _)
         (opened.holds cell r left e (omega arith) h f)
 
--- a link is not barred from its first cell
+-- an edge is not barred from its first cell
 abbrev pub IsFree : LegsValue → List Cell → CellEdge → Bool → Type 0
-IsFree v cells link stays = (cell : Cell) → slice_get cells link.from ≡ Some cell → (stays && bars v cell.via link.sid) ≡ false
+IsFree v cells edge stays = (cell : Cell) → slice_get cells edge.from ≡ Some cell → (stays && bars v cell.via edge.sid) ≡ false
 
 -- the room after a move that isn't barred
 pub room-open : (v : LegsValue) (stays : Bool) (via : Option ℕ) (sid room : ℕ) (from : Option Shape) (next : Shape)
@@ -109,34 +109,34 @@ room-open v stays via sid room from next is_from is_next free =
     ∙ ap (λ (s : Shape). room_behind stays (option_map v.shape via) room s) is_next
     ∙ sym (ap (λ (b : Bool). if b then None else room_behind stays (option_map v.shape via) room (v.shape sid)) free)
 
-pub leaves : (v : LegsValue) (cells : List Cell) (link : CellEdge) (stays : Bool) (room : ℕ) (from : Option Shape) (next : Shape)
-    (p : Option ℕ) → IsShapeOf v cells link.from from → next ≡ v.shape link.sid → IsFree v cells link stays → p ≡ room_behind stays from room next
-    → LeavesRoom v cells link stays room p
-leaves v cells link stays room from next p is_from is_next free e cell here =
-    e ∙ room-open v stays cell.via link.sid room from next (is_from cell here) is_next (free cell here)
+pub leaves : (v : LegsValue) (cells : List Cell) (edge : CellEdge) (stays : Bool) (room : ℕ) (from : Option Shape) (next : Shape)
+    (p : Option ℕ) → IsShapeOf v cells edge.from from → next ≡ v.shape edge.sid → IsFree v cells edge stays → p ≡ room_behind stays from room next
+    → LeavesRoom v cells edge stays room p
+leaves v cells edge stays room from next p is_from is_next free e cell here =
+    e ∙ room-open v stays cell.via edge.sid room from next (is_from cell here) is_next (free cell here)
 
--- a link's first cell is one
-pub link-cell : (v : LegsValue) (cells : List Cell) (link : CellEdge) → AreCells v cells → IsCellEdge v cells link
-    → IsCell v (get_or cells link.from (record { position = 0; via = None }))
-link-cell v cells link are is =
-    are.real link.from (get_or cells link.from (record { position = 0; via = None }))
-    (cell-read cells link.from (slice_get_within cells link.from is.cell is.from))
+-- an edge's first cell is one
+pub edge-cell : (v : LegsValue) (cells : List Cell) (edge : CellEdge) → AreCells v cells → IsCellEdge v cells edge
+    → IsCell v (get_or cells edge.from (record { position = 0; via = None }))
+edge-cell v cells edge are is =
+    are.real edge.from (get_or cells edge.from (record { position = 0; via = None }))
+    (cell-read cells edge.from (slice_get_within cells edge.from is.cell is.from))
 
--- whether a link is barred is told by its first cell
-barred-is : (v : LegsValue) (cells : List Cell) (link : CellEdge) (stays told : Bool) → IsCellEdge v cells link
-    → told ≡ (stays && bars v (get_or cells link.from (record { position = 0; via = None })).via link.sid)
-    → (cell : Cell) → slice_get cells link.from ≡ Some cell → (stays && bars v cell.via link.sid) ≡ told
-barred-is v cells link stays told is e cell here =
-    let read : slice_get cells link.from ≡ Some (get_or cells link.from (record { position = 0; via = None })) =
-    cell-read cells link.from (slice_get_within cells link.from is.cell is.from) in
-    let same : cell ≡ get_or cells link.from (record { position = 0; via = None }) =
-    some-same cell (get_or cells link.from (record { position = 0; via = None })) (sym here ∙ read) in
-    ap (λ (c : Cell). stays && bars v c.via link.sid) same ∙ sym e
+-- whether an edge is barred is told by its first cell
+barred-is : (v : LegsValue) (cells : List Cell) (edge : CellEdge) (stays told : Bool) → IsCellEdge v cells edge
+    → told ≡ (stays && bars v (get_or cells edge.from (record { position = 0; via = None })).via edge.sid)
+    → (cell : Cell) → slice_get cells edge.from ≡ Some cell → (stays && bars v cell.via edge.sid) ≡ told
+barred-is v cells edge stays told is e cell here =
+    let read : slice_get cells edge.from ≡ Some (get_or cells edge.from (record { position = 0; via = None })) =
+    cell-read cells edge.from (slice_get_within cells edge.from is.cell is.from) in
+    let same : cell ≡ get_or cells edge.from (record { position = 0; via = None }) =
+    some-same cell (get_or cells edge.from (record { position = 0; via = None })) (sym here ∙ read) in
+    ap (λ (c : Cell). stays && bars v c.via edge.sid) same ∙ sym e
 
-pub link-free : (v : LegsValue) (cells : List Cell) (link : CellEdge) (stays told : Bool) → IsCellEdge v cells link
-    → told ≡ (stays && bars v (get_or cells link.from (record { position = 0; via = None })).via link.sid) → told ≡ false
-    → IsFree v cells link stays
-link-free v cells link stays told is e free cell here = barred-is v cells link stays told is e cell here ∙ free
+pub edge-free : (v : LegsValue) (cells : List Cell) (edge : CellEdge) (stays told : Bool) → IsCellEdge v cells edge
+    → told ≡ (stays && bars v (get_or cells edge.from (record { position = 0; via = None })).via edge.sid) → told ≡ false
+    → IsFree v cells edge stays
+edge-free v cells edge stays told is e free cell here = barred-is v cells edge stays told is e cell here ∙ free
 
 -- after a barred move there is no room
 pub barred-none : (v : LegsValue) (via : Option ℕ) (room : ℕ) (m : Move) (left : ℕ) → (m.stays && bars v via m.sid) ≡ true
@@ -145,31 +145,31 @@ barred-none v via room m left barred h =
     none-some left
     (sym (ap (λ (b : Bool). if b then None else room_behind m.stays (option_map v.shape via) room (v.shape m.sid)) barred) ∙ h)
 
-pub link-barred : (v : LegsValue) (cells : List Cell) (link : CellEdge) (stays told : Bool) → IsCellEdge v cells link
-    → told ≡ (stays && bars v (get_or cells link.from (record { position = 0; via = None })).via link.sid) → told ≡ true
-    → (cell : Cell) (room left : ℕ) → slice_get cells link.from ≡ Some cell → room_to v cell.via room (move_by link stays) ≡ Some left → ⊥
-link-barred v cells link stays told is e barred cell room left here h =
-    barred-none v cell.via room (move_by link stays) left (barred-is v cells link stays told is e cell here ∙ barred) h
+pub edge-barred : (v : LegsValue) (cells : List Cell) (edge : CellEdge) (stays told : Bool) → IsCellEdge v cells edge
+    → told ≡ (stays && bars v (get_or cells edge.from (record { position = 0; via = None })).via edge.sid) → told ≡ true
+    → (cell : Cell) (room left : ℕ) → slice_get cells edge.from ≡ Some cell → room_to v cell.via room (move_by edge stays) ≡ Some left → ⊥
+edge-barred v cells edge stays told is e barred cell room left here h =
+    barred-none v cell.via room (move_by edge stays) left (barred-is v cells edge stays told is e cell here ∙ barred) h
 
--- a barred link lowers nothing
-pub rooms-barred : (v : LegsValue) (cells : List Cell) (link : CellEdge) (stays told : Bool) (low high : ℕ) (t : Costs)
-    → IsCellEdge v cells link → told ≡ (stays && bars v (get_or cells link.from (record { position = 0; via = None })).via link.sid) → told ≡ true → IsSound v cells t
-    → RoomsRelaxed v cells link stays low high t t false
-rooms-barred v cells link stays told low high t is e barred sound =
+-- a barred edge lowers nothing
+pub rooms-barred : (v : LegsValue) (cells : List Cell) (edge : CellEdge) (stays told : Bool) (low high : ℕ) (t : Costs)
+    → IsCellEdge v cells edge → told ≡ (stays && bars v (get_or cells edge.from (record { position = 0; via = None })).via edge.sid) → told ≡ true → IsSound v cells t
+    → RoomsRelaxed v cells edge stays low high t t false
+rooms-barred v cells edge stays told low high t is e barred sound =
     record {
       sound = sound;
-      passed = kept-passed (link.from + 1) t;
-      holds = λ cell room left here l h leaves. absurd (link-barred v cells link stays told is e barred cell room left here leaves);
+      passed = kept-passed (edge.from + 1) t;
+      holds = λ cell room left here l h leaves. absurd (edge-barred v cells edge stays told is e barred cell room left here leaves);
     }
 
--- what holds of a link between two tables holds in a later one that leaves what is after the link as it was
-pub holds-later : (v : LegsValue) (cells : List Cell) (link : CellEdge) (a b c : Costs) → EdgeHolds v cells link a b
+-- what holds of an edge between two tables holds in a later one that leaves what is after the edge as it was
+pub holds-later : (v : LegsValue) (cells : List Cell) (edge : CellEdge) (a b c : Costs) → EdgeHolds v cells edge a b
     → ((i : ℕ) → Under (at c i) (at b i))
-    → ((left : ℕ) → rest_at c link.to left ≡ rest_at a link.to left) → Holds v cells c link
-holds-later v cells link a b c h falls same cell stays room left e l r =
-    under-trans (entry c link.from room) (entry b link.from room) (offer stays link.hops (rest_at c link.to left))
-    (falls (8 * link.from + room))
-    (subst (λ (o : Option Cost). Under (entry b link.from room) (offer stays link.hops o)) (sym (same left)) (h cell stays room left e l r))
+    → ((left : ℕ) → rest_at c edge.to left ≡ rest_at a edge.to left) → Holds v cells c edge
+holds-later v cells edge a b c h falls same cell stays room left e l r =
+    under-trans (entry c edge.from room) (entry b edge.from room) (offer stays edge.hops (rest_at c edge.to left))
+    (falls (8 * edge.from + room))
+    (subst (λ (o : Option Cost). Under (entry b edge.from room) (offer stays edge.hops o)) (sym (same left)) (h cell stays room left e l r))
 
 pub rest-end : (a b : Costs) (to : Option ℕ) (left : ℕ) → to ≡ None → rest_at b to left ≡ rest_at a to left
 rest-end a b to left e = ap (λ (o : Option ℕ). rest_at b o left) e ∙ sym (ap (λ (o : Option ℕ). rest_at a o left) e)
@@ -180,8 +180,8 @@ pub rest-far : (later : ℕ) (a b : Costs) (to : Option ℕ) (j left : ℕ) → 
 rest-far later a b to j left above e h =
     ap (λ (o : Option ℕ). rest_at b o left) e ∙ above (8 * j + left) (omega (arith, h)) ∙ sym (ap (λ (o : Option ℕ). rest_at a o left) e)
 
-pub link-same : (a b : CellEdge) → a.from ≡ b.from → a.to ≡ b.to → a.sid ≡ b.sid → a.hops ≡ b.hops → a ≡ b
-link-same a b e f g h =
+pub edge-same : (a b : CellEdge) → a.from ≡ b.from → a.to ≡ b.to → a.sid ≡ b.sid → a.hops ≡ b.hops → a ≡ b
+edge-same a b e f g h =
     ap (λ (x : ℕ). let l : CellEdge = record { from = x; to = a.to; sid = a.sid; hops = a.hops } in l) e
     ∙ ap (λ (x : Option ℕ). let l : CellEdge = record { from = b.from; to = x; sid = a.sid; hops = a.hops } in l) f
     ∙ ap (λ (x : ℕ). let l : CellEdge = record { from = b.from; to = b.to; sid = x; hops = a.hops } in l) g
@@ -199,7 +199,7 @@ end-one v cells a b cell here is to from to_b sid is_b =
     ap (λ (n : ℕ). v.finish cell.position cell.via n) (sym sid)
     ∙ ap (λ (c : Cell). v.finish c.position c.via b.sid) (sym same) ∙ leads in
     let hops : a.hops ≡ b.hops = some-same a.hops b.hops (sym is ∙ there) in
-    link-same a b (sym from) (to ∙ sym to_b) (sym sid) hops
+    edge-same a b (sym from) (to ∙ sym to_b) (sym sid) hops
 
 pub leg-parts : (v : LegsValue) (cells : List Cell) (b : CellEdge) (to : ℕ) → b.to ≡ Some to → (is : IsCellEdge v cells b)
     → LeadsTo v cells is.cell b.sid b.hops (Some to)
@@ -220,4 +220,4 @@ leg-one v cells a b to to_a from to_b is_a is_b =
     let leg : v.leg is_a.cell.position is_a.cell.via a.sid ≡ Some second =
     ap (λ (c : Cell). v.leg c.position c.via a.sid) cell ∙ ap (λ (n : ℕ). v.leg is_b.cell.position is_b.cell.via n) sid ∙ also.2 in
     let hops : a.hops ≡ b.hops = ap (λ (l : Leg). l.hops) (some-same first second (sym leads.2 ∙ leg)) in
-    link-same a b (sym from) (to_a ∙ sym to_b) sid hops
+    edge-same a b (sym from) (to_a ∙ sym to_b) sid hops

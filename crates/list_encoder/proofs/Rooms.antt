@@ -1,4 +1,4 @@
--- After a link there is less room than in front of it, or a container was opened; and never more than seven.
+-- After an edge there is less room than in front of it, or a container was opened; and never more than seven.
 use Rattle.std.proofs.Common.{◌≡◌, ℕ, zero, suc, ◌+◌, ◌-◌, ◌*◌, ◌/◌, ◌<◌, ◌≤◌, Bool, true, false, ◌&&◌, Option, Some, None, refl, ◌∙◌, ap, subst, arith, nat_le}
 use Rattle.std.specs.Option.{option_map}
 use Rattle.std.proofs.lemmas.Bool.{and_parts, leb-true}

@@ -157,11 +157,11 @@ module _ (v : LegsValue) (laws : KeepsLaws v) (cells : List Cell) where
       let is = laws.leg cell.position cell.via sid (record { to = h.0; hops = hops }) h.2 in
       ((h.0, is.within, is.is_next), is.hops)
 
-  pub link-shape : (link : CellEdge) → IsCellEdge v cells link → IsShape (v.shape link.sid)
-  link-shape link is = laws.shapes link.sid (leads-sid is.cell link.sid link.hops link.to is.leads).0
+  pub edge-shape : (edge : CellEdge) → IsCellEdge v cells edge → IsShape (v.shape edge.sid)
+  edge-shape edge is = laws.shapes edge.sid (leads-sid is.cell edge.sid edge.hops edge.to is.leads).0
 
-  pub link-hops : (link : CellEdge) → IsCellEdge v cells link → link.hops ≤ 1000
-  link-hops link is = (leads-sid is.cell link.sid link.hops link.to is.leads).1
+  pub edge-hops : (edge : CellEdge) → IsCellEdge v cells edge → edge.hops ≤ 1000
+  edge-hops edge is = (leads-sid is.cell edge.sid edge.hops edge.to is.leads).1
 
   pub to-range : (t : Costs) (cell : Cell) (sid hops left : ℕ) (to : Option ℕ) → length t ≡ 8 * length cells
       → LeadsTo v cells cell sid hops to → left < 8
@@ -172,8 +172,8 @@ module _ (v : LegsValue) (laws : KeepsLaws v) (cells : List Cell) where
       let p : 8 * to + left < 8 * length cells = place-within to left (length cells) w l in
       omega (arith, p, long)
 
-  pub link-range : (t : Costs) (link : CellEdge) (left : ℕ) → IsSound v cells t → IsCellEdge v cells link → left < 8 → AreInRange t link.to left
-  link-range t link left sound is h = to-range t is.cell link.sid link.hops left link.to sound.long is.leads h
+  pub edge-range : (t : Costs) (edge : CellEdge) (left : ℕ) → IsSound v cells t → IsCellEdge v cells edge → left < 8 → AreInRange t edge.to left
+  edge-range t edge left sound is h = to-range t is.cell edge.sid edge.hops left edge.to sound.long is.leads h
 
   rest-bounded : (t : Costs) (to : Option ℕ) (left : ℕ) (d : Cost) → IsSound v cells t → left < 8 → rest_at t to left ≡ Some d
       → IsBounded (filled t) left d
@@ -182,34 +182,34 @@ module _ (v : LegsValue) (laws : KeepsLaws v) (cells : List Cell) where
       subst (λ (x : Cost). IsBounded (filled t) left x) same (bounded-nothing (filled t) left)
   rest-bounded t (Some to) left d sound h e = sound.bounded to left d h e
 
-  bounded-behind : (n left room hops : ℕ) (stays : Bool) (d : Cost) (o : Option ℕ) (link : CellEdge) → IsCellEdge v cells link → link.hops ≡ hops
+  bounded-behind : (n left room hops : ℕ) (stays : Bool) (d : Cost) (o : Option ℕ) (edge : CellEdge) → IsCellEdge v cells edge → edge.hops ≡ hops
       → room < 8
-      → room_to v o room (move_by link stays) ≡ Some left → IsBounded n left d
+      → room_to v o room (move_by edge stays) ≡ Some left → IsBounded n left d
       → IsBounded (n + 1) room (plus (move_cost stays hops) d)
-  bounded-behind n left room hops true d o link is e h r b =
-      bounded-stays n left room hops d b (stay-less v o room link.sid left (link-shape link is) r)
-      (subst (λ (x : ℕ). x ≤ 1000) e (link-hops link is))
-  bounded-behind n left room hops false d o link is e h r b =
-      bounded-opens n left room hops d b (open-few v o room link.sid left (link-shape link is) r)
-      (subst (λ (x : ℕ). x ≤ 1000) e (link-hops link is))
+  bounded-behind n left room hops true d o edge is e h r b =
+      bounded-stays n left room hops d b (stay-less v o room edge.sid left (edge-shape edge is) r)
+      (subst (λ (x : ℕ). x ≤ 1000) e (edge-hops edge is))
+  bounded-behind n left room hops false d o edge is e h r b =
+      bounded-opens n left room hops d b (open-few v o room edge.sid left (edge-shape edge is) r)
+      (subst (λ (x : ℕ). x ≤ 1000) e (edge-hops edge is))
 
-  -- after a link, what is left is that of a path, and so it is in front
-  link-attains : (t : Costs) (cell : Cell) (sid hops : ℕ) (to : Option ℕ) (stays : Bool) (room left : ℕ) (d : Cost) → IsSound v cells t
+  -- after an edge, what is left is that of a path, and so it is in front
+  edge-attains : (t : Costs) (cell : Cell) (sid hops : ℕ) (to : Option ℕ) (stays : Bool) (room left : ℕ) (d : Cost) → IsSound v cells t
       → LeadsTo v cells cell sid hops to → left < 8 → room_to v cell.via room (record { stays = stays; sid = sid }) ≡ Some left
       → rest_at t to left ≡ Some d → Attains v (state_at cell room) (Some (plus (move_cost stays hops) d))
-  link-attains t cell sid hops None stays room left d sound leads h r e =
+  edge-attains t cell sid hops None stays room left d sound leads h r e =
       let m : Move = record { stays = stays; sid = sid } in
       let last : last_of v (state_at cell room) m ≡ Some (move_cost stays hops) = last-made v (state_at cell room) m left hops r leads in
       let same : nothing ≡ d = cc in
       let sum : move_cost stays hops ≡ plus (move_cost stays hops) d =
       sym (plus-nothing (move_cost stays hops)) ∙ ap (plus (move_cost stays hops)) same in
       (m ∷ [], last ∙ ap Some sum)
-  link-attains t cell sid hops (Some to) stays room left d sound leads h r e =
+  edge-attains t cell sid hops (Some to) stays room left d sound leads h r e =
       let m : Move = record { stays = stays; sid = sid } in
       let leg : Leg = record { to = leads.0; hops = hops } in
       let rest = sound.attained to left (cell_at leads.0 sid) d leads.1 h e in
-      let edge = edge-made v (state_at cell room) m left leg r leads.2 in
-      (m ∷ rest.0, attained v (state_at cell room) m (edge_by m left leg) rest.0 d edge rest.1)
+      let edge_fact = edge-made v (state_at cell room) m left leg r leads.2 in
+      (m ∷ rest.0, attained v (state_at cell room) m (edge_by m left leg) rest.0 d edge_fact rest.1)
 
   -- one entry lowered to the cost of a path
   module _ (t : Costs) (k room : ℕ) (cell : Cell) (c : Cost) (sound : IsSound v cells t) (here : slice_get cells k ≡ Some cell)
@@ -296,71 +296,71 @@ module _ (v : LegsValue) (laws : KeepsLaws v) (cells : List Cell) where
       let many : filled t ≤ length t = count_by-le-length is_some t in
       omega (arith, bound, many, sound.long, few)
 
-  -- lowering a room of a link's first cell by what is left after the link
-  module _ (are : AreCells v cells) (t : Costs) (link : CellEdge) (stays : Bool) (room : ℕ) (o : Option ℕ) (left : ℕ) (is : IsCellEdge v cells link)
-      (sound : IsSound v cells t) (low : room < 8) (leaves : LeavesRoom v cells link stays room o) (some : o ≡ Some left) where
-    pub room-is : room_to v is.cell.via room (move_by link stays) ≡ Some left
+  -- lowering a room of an edge's first cell by what is left after the edge
+  module _ (are : AreCells v cells) (t : Costs) (edge : CellEdge) (stays : Bool) (room : ℕ) (o : Option ℕ) (left : ℕ) (is : IsCellEdge v cells edge)
+      (sound : IsSound v cells t) (low : room < 8) (leaves : LeavesRoom v cells edge stays room o) (some : o ≡ Some left) where
+    pub room-is : room_to v is.cell.via room (move_by edge stays) ≡ Some left
     room-is = sym (leaves is.cell is.from) ∙ some
 
     pub left-few : left < 8
-    left-few = behind-few v is.cell.via room (move_by link stays) left (link-shape link is) low room-is
+    left-few = behind-few v is.cell.via room (move_by edge stays) left (edge-shape edge is) low room-is
 
-    pub left-range : AreInRange t link.to left
-    left-range = link-range t link left sound is left-few
+    pub left-range : AreInRange t edge.to left
+    left-range = edge-range t edge left sound is left-few
 
-    pub from-within : 8 * link.from + room < length t
+    pub from-within : 8 * edge.from + room < length t
     from-within =
-        let w : link.from < length cells = slice_get_within cells link.from is.cell is.from in
-        let p : 8 * link.from + room < 8 * length cells = place-within link.from room (length cells) w low in
+        let w : edge.from < length cells = slice_get_within cells edge.from is.cell is.from in
+        let p : 8 * edge.from + room < 8 * length cells = place-within edge.from room (length cells) w low in
         omega (arith, p, sound.long)
 
-    pub from-few : 8 * link.from + room < 2 ^ 64
+    pub from-few : 8 * edge.from + room < 2 ^ 64
     from-few =
         let w = from-within in
         omega (arith, w, sound.long, are.few)
 
-    sum-bounded : (rest : Cost) → rest_at t link.to left ≡ Some rest → IsBounded (filled t + 1) room (plus (move_cost stays link.hops) rest)
+    sum-bounded : (rest : Cost) → rest_at t edge.to left ≡ Some rest → IsBounded (filled t + 1) room (plus (move_cost stays edge.hops) rest)
     sum-bounded rest e =
-        bounded-behind (filled t) left room link.hops stays rest is.cell.via link is refl low room-is
-        (rest-bounded t link.to left rest sound left-few e)
+        bounded-behind (filled t) left room edge.hops stays rest is.cell.via edge is refl low room-is
+        (rest-bounded t edge.to left rest sound left-few e)
 
-    pub sum-few : (rest : Cost) → rest_at t link.to left ≡ Some rest
-        → ((plus (move_cost stays link.hops) rest).containers < 1000000) × ((plus (move_cost stays link.hops) rest).hops < 1000000000)
-    sum-few rest e = costs-few t room (plus (move_cost stays link.hops) rest) sound are.few low (sum-bounded rest e)
+    pub sum-few : (rest : Cost) → rest_at t edge.to left ≡ Some rest
+        → ((plus (move_cost stays edge.hops) rest).containers < 1000000) × ((plus (move_cost stays edge.hops) rest).hops < 1000000000)
+    sum-few rest e = costs-few t room (plus (move_cost stays edge.hops) rest) sound are.few low (sum-bounded rest e)
 
-    holds-some : (after : Costs) (rest : Cost) → rest_at t link.to left ≡ Some rest
-        → Under (entry after link.from room) (Some (plus (move_cost stays link.hops) rest))
-        → RoomHolds (entry after link.from room) stays link t o
+    holds-some : (after : Costs) (rest : Cost) → rest_at t edge.to left ≡ Some rest
+        → Under (entry after edge.from room) (Some (plus (move_cost stays edge.hops) rest))
+        → RoomHolds (entry after edge.from room) stays edge t o
     holds-some after rest e h =
-        subst (λ (p : Option ℕ). RoomHolds (entry after link.from room) stays link t p) (sym some)
-        (subst (λ (q : Option Cost). Under (entry after link.from room) (offer stays link.hops q)) (sym e) h)
+        subst (λ (p : Option ℕ). RoomHolds (entry after edge.from room) stays edge t p) (sym some)
+        (subst (λ (q : Option Cost). Under (entry after edge.from room) (offer stays edge.hops q)) (sym e) h)
 
-    lowered : (after : Costs) (rest : Cost) → rest_at t link.to left ≡ Some rest
-        → IsLowered t after (8 * link.from + room) (plus (move_cost stays link.hops) rest)
-        → RoomRelaxed v cells link t after stays room o true
+    lowered : (after : Costs) (rest : Cost) → rest_at t edge.to left ≡ Some rest
+        → IsLowered t after (8 * edge.from + room) (plus (move_cost stays edge.hops) rest)
+        → RoomRelaxed v cells edge t after stays room o true
     lowered after rest e h =
-        let c : Cost = plus (move_cost stays link.hops) rest in
-        let i : ℕ = 8 * link.from + room in
+        let c : Cost = plus (move_cost stays edge.hops) rest in
+        let i : ℕ = 8 * edge.from + room in
         let few = sum-few rest e in
-        let attains = link-attains t is.cell link.sid link.hops link.to stays room left rest sound is.leads left-few room-is e in
-        let is_sound = sound-set t link.from room is.cell c sound is.from low h.improves attains (sum-bounded rest e) in
-        let before : i < 8 * (link.from + 1) = omega (arith, low) in
-        let passed = set-passed t i c from-within h.improves (link.from + 1) before few.0 few.1 in
+        let attains = edge-attains t is.cell edge.sid edge.hops edge.to stays room left rest sound is.leads left-few room-is e in
+        let is_sound = sound-set t edge.from room is.cell c sound is.from low h.improves attains (sum-bounded rest e) in
+        let before : i < 8 * (edge.from + 1) = omega (arith, low) in
+        let passed = set-passed t i c from-within h.improves (edge.from + 1) before few.0 few.1 in
         let here : at (set t i (Some c)) i ≡ Some c = at-same t i (Some c) from-within in
         let under : Under (at (set t i (Some c)) i) (Some c) = subst (λ (q : Option Cost). Under q (Some c)) (sym here)
         (under-itself (Some c)) in
-        subst (λ (x : Costs). RoomRelaxed v cells link t x stays room o true) (sym h.is)
+        subst (λ (x : Costs). RoomRelaxed v cells edge t x stays room o true) (sym h.is)
         (record { sound = is_sound; passed = passed; holds = holds-some (set t i (Some c)) rest e under })
 
-    kept : (after : Costs) (rest : Cost) → rest_at t link.to left ≡ Some rest
-        → IsKept t after (8 * link.from + room) (plus (move_cost stays link.hops) rest)
-        → RoomRelaxed v cells link t after stays room o false
+    kept : (after : Costs) (rest : Cost) → rest_at t edge.to left ≡ Some rest
+        → IsKept t after (8 * edge.from + room) (plus (move_cost stays edge.hops) rest)
+        → RoomRelaxed v cells edge t after stays room o false
     kept after rest e h =
-        subst (λ (x : Costs). RoomRelaxed v cells link t x stays room o false) (sym h.is)
-        (record { sound = sound; passed = kept-passed (link.from + 1) t; holds = holds-some t rest e h.under })
+        subst (λ (x : Costs). RoomRelaxed v cells edge t x stays room o false) (sym h.is)
+        (record { sound = sound; passed = kept-passed (edge.from + 1) t; holds = holds-some t rest e h.under })
 
-    pub room-relaxed : (after : Costs) (rest : Cost) (changed : Bool) → rest_at t link.to left ≡ Some rest
-        → Lowers t after (8 * link.from + room) (plus (move_cost stays link.hops) rest) changed
-        → RoomRelaxed v cells link t after stays room o changed
+    pub room-relaxed : (after : Costs) (rest : Cost) (changed : Bool) → rest_at t edge.to left ≡ Some rest
+        → Lowers t after (8 * edge.from + room) (plus (move_cost stays edge.hops) rest) changed
+        → RoomRelaxed v cells edge t after stays room o changed
     room-relaxed after rest true e h = lowered after rest e h
     room-relaxed after rest false e h = kept after rest e h

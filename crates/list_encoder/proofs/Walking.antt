@@ -15,7 +15,7 @@ use Rattle.list_encoder.specs.Cells.{cell_at, start_cell, state_at, AreCells}
 use Rattle.list_encoder.specs.Table.{Costs, rest_at, AreLeast, move_by}
 use Rattle.list_encoder.specs.Picks.{IsSpot, PicksFirst}
 use Rattle.list_encoder.proofs.Rooms.{behind-few, stay-less, open-few}
-use Rattle.list_encoder.proofs.Tables.{link-shape}
+use Rattle.list_encoder.proofs.Tables.{edge-shape}
 use Rattle.list_encoder.proofs.RelaxedRooms.{leg-parts}
 use Rattle.list_encoder.proofs.Heading.{head-of}
 use Rattle.list_encoder.proofs.Pathing.{pick_move, first-least, FirstBehind}
@@ -43,41 +43,41 @@ module _ (v : LegsValue) (laws : KeepsLaws v) (cells : List Cell) (are : AreCell
       by [] h = none-some spot.cost h
       by (n ∷ more) h =
           let head = head-of v laws cells are t least spot n more is h in
-          picks.covers head.link head.from head.is_link n.stays head.left head.rest head.tight
+          picks.covers head.edge head.from head.is_edge n.stays head.left head.rest head.tight
 
   module _ (pick : Pick) (picks : PicksFirst v cells t spot (Some pick)) where
     room-few : pick.room < 8
     room-few =
-        behind-few v spot.cell.via spot.room (move_by picks.found.link pick.step.stays) pick.room
-        (link-shape v laws cells picks.found.link picks.found.is_link) is.few picks.found.tight.room_is
+        behind-few v spot.cell.via spot.room (move_by picks.found.edge pick.step.stays) pick.room
+        (edge-shape v laws cells picks.found.edge picks.found.is_edge) is.few picks.found.tight.room_is
 
-    step-is : pick.step ≡ step_of v (pick_move pick picks.found.link.sid)
+    step-is : pick.step ≡ step_of v (pick_move pick picks.found.edge.sid)
     step-is =
         ap (λ (x : PrefixValue). let s : PathStep = record { stays = pick.step.stays; prefix = x } in s) picks.found.prefix_is
 
     steps-are : (begin : Spot) (steps : List PathStep) → (walked : Walked v cells t begin steps spot)
-        → steps ++ pick.step ∷ [] ≡ map (step_of v) (walked.moves ++ pick_move pick picks.found.link.sid ∷ [])
+        → steps ++ pick.step ∷ [] ≡ map (step_of v) (walked.moves ++ pick_move pick picks.found.edge.sid ∷ [])
     steps-are begin steps walked =
         ap (λ (xs : List PathStep). xs ++ pick.step ∷ []) walked.are
         ∙ ap (λ (s : PathStep). map (step_of v) walked.moves ++ s ∷ []) step-is
-        ∙ sym (map-append (step_of v) walked.moves (pick_move pick picks.found.link.sid ∷ []))
+        ∙ sym (map-append (step_of v) walked.moves (pick_move pick picks.found.edge.sid ∷ []))
 
     -- the last move
     pub walked-end : (begin : Spot) (steps : List PathStep) → Walked v cells t begin steps spot → pick.to ≡ None → begin.cell ≡ start_cell
         → begin.room ≡ 0
         → IsPath v (steps ++ pick.step ∷ [])
     walked-end begin steps walked to cell room =
-        let none : picks.found.link.to ≡ None = sym picks.found.to_is ∙ to in
-        let last = first-least v laws cells are t least spot is pick picks.found picks.covers [] (behind-none picks.found.link.to none) in
-        let whole = walked.leads (pick_move pick picks.found.link.sid ∷ []) last in
+        let none : picks.found.edge.to ≡ None = sym picks.found.to_is ∙ to in
+        let last = first-least v laws cells are t least spot is pick picks.found picks.covers [] (behind-none picks.found.edge.to none) in
+        let whole = walked.leads (pick_move pick picks.found.edge.sid ∷ []) last in
         record {
-          moves = walked.moves ++ pick_move pick picks.found.link.sid ∷ [];
+          moves = walked.moves ++ pick_move pick picks.found.edge.sid ∷ [];
           cost = begin.cost;
           first =
               subst (λ (r : ℕ). IsFirstLeast v (state_at start_cell r) begin.cost
-              (walked.moves ++ pick_move pick picks.found.link.sid ∷ [])) room
+              (walked.moves ++ pick_move pick picks.found.edge.sid ∷ [])) room
               (subst (λ (c : Cell). IsFirstLeast v (state_at c begin.room) begin.cost
-              (walked.moves ++ pick_move pick picks.found.link.sid ∷ [])) cell whole);
+              (walked.moves ++ pick_move pick picks.found.edge.sid ∷ [])) cell whole);
           is_path = steps-are begin steps walked;
         }
       where
@@ -89,7 +89,7 @@ module _ (v : LegsValue) (laws : KeepsLaws v) (cells : List Cell) (are : AreCell
     pub next-is : (place : ℕ) (cell : Cell) → pick.to ≡ Some place → slice_get cells place ≡ Some cell
         → IsSpot cells t (record { place = place; cell = cell; room = pick.room; cost = pick.rest })
     next-is place cell to here =
-        let there : picks.found.link.to ≡ Some place = sym picks.found.to_is ∙ to in
+        let there : picks.found.edge.to ≡ Some place = sym picks.found.to_is ∙ to in
         record {
           here = here;
           few = room-few;
@@ -98,22 +98,22 @@ module _ (v : LegsValue) (laws : KeepsLaws v) (cells : List Cell) (are : AreCell
 
     pub place-within : (place : ℕ) → pick.to ≡ Some place → place < length cells
     place-within place to =
-        let leads = leg-parts v cells picks.found.link place (sym picks.found.to_is ∙ to) picks.found.is_link in
-        slice_get_within cells place (cell_at leads.0 picks.found.link.sid) leads.1
+        let leads = leg-parts v cells picks.found.edge place (sym picks.found.to_is ∙ to) picks.found.is_edge in
+        slice_get_within cells place (cell_at leads.0 picks.found.edge.sid) leads.1
 
     pub walked-more : (begin : Spot) (steps : List PathStep) (place : ℕ) (cell : Cell) → Walked v cells t begin steps spot
         → pick.to ≡ Some place
         → slice_get cells place ≡ Some cell
         → Walked v cells t begin (steps ++ pick.step ∷ []) (record { place = place; cell = cell; room = pick.room; cost = pick.rest })
     walked-more begin steps place cell walked to here =
-        let m : Move = pick_move pick picks.found.link.sid in
-        let there : picks.found.link.to ≡ Some place = sym picks.found.to_is ∙ to in
+        let m : Move = pick_move pick picks.found.edge.sid in
+        let there : picks.found.edge.to ≡ Some place = sym picks.found.to_is ∙ to in
         record {
           is_spot = next-is place cell to here;
           moves = walked.moves ++ m ∷ [];
           are = steps-are begin steps walked;
           leads = λ rest first.
-              let behind : FirstBehind v cells pick rest picks.found.link.to =
+              let behind : FirstBehind v cells pick rest picks.found.edge.to =
               subst (λ (o : Option ℕ). FirstBehind v cells pick rest o) (sym there) (cell, here, first) in
               let whole = walked.leads (m ∷ rest) (first-least v laws cells are t least spot is pick picks.found picks.covers rest behind)
               in
@@ -125,16 +125,16 @@ module _ (v : LegsValue) (laws : KeepsLaws v) (cells : List Cell) (are : AreCell
     pub walk-falls : 8 * pick.rest.containers + pick.room < 8 * spot.cost.containers + spot.room
     walk-falls = by pick.step.stays picks.found.tight.room_is (ap (λ (c : Cost). c.containers) picks.found.tight.cost_is)
       where
-        by : (stays : Bool) → room_to v spot.cell.via spot.room (move_by picks.found.link stays) ≡ Some pick.room
-            → (move_cost stays picks.found.link.hops).containers + pick.rest.containers ≡ spot.cost.containers
+        by : (stays : Bool) → room_to v spot.cell.via spot.room (move_by picks.found.edge stays) ≡ Some pick.room
+            → (move_cost stays picks.found.edge.hops).containers + pick.rest.containers ≡ spot.cost.containers
             → 8 * pick.rest.containers + pick.room < 8 * spot.cost.containers + spot.room
         by true r e =
-            let less = stay-less v spot.cell.via spot.room picks.found.link.sid pick.room
-            (link-shape v laws cells picks.found.link picks.found.is_link) r in
+            let less = stay-less v spot.cell.via spot.room picks.found.edge.sid pick.room
+            (edge-shape v laws cells picks.found.edge picks.found.is_edge) r in
             omega (arith, less, e)
         by false r e =
-            let few = open-few v spot.cell.via spot.room picks.found.link.sid pick.room
-            (link-shape v laws cells picks.found.link picks.found.is_link) r in
+            let few = open-few v spot.cell.via spot.room picks.found.edge.sid pick.room
+            (edge-shape v laws cells picks.found.edge picks.found.is_edge) r in
             omega (arith, few, e)
 
     -- the same, with the steps as they are pushed

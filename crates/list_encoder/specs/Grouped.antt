@@ -8,26 +8,26 @@ Groups = List (Vec CellEdge Global)
 
 -- the edge is in the group of a cell
 abbrev pub IsIn : Groups → ℕ → CellEdge → Type 0
-IsIn groups to link = (group : Vec CellEdge Global) × (slice_get groups to ≡ Some group) × Contains group.items link
+IsIn groups to edge = (group : Vec CellEdge Global) × (slice_get groups to ≡ Some group) × Contains group.items edge
 
 abbrev pub AreEmpty : ℕ → Groups → Type 0
-AreEmpty count groups = (length groups ≡ count) × ((to : ℕ) (link : CellEdge) → ¬ IsIn groups to link)
+AreEmpty count groups = (length groups ≡ count) × ((to : ℕ) (edge : CellEdge) → ¬ IsIn groups to edge)
 
 -- one edge more, in the group of its cell
-pub record PutsEdge (before after : Groups) (link : CellEdge) : Type 0 where
+pub record PutsEdge (before after : Groups) (edge : CellEdge) : Type 0 where
   pub long : length after ≡ length before
   pub kept : (to : ℕ) (other : CellEdge) → IsIn before to other → IsIn after to other
-  pub put : (to : ℕ) → link.to ≡ Some to → to < length before → IsIn after to link
-  pub only : (to : ℕ) (other : CellEdge) → IsIn after to other → IsIn before to other ⊎ ((link ≡ other) × (link.to ≡ Some to))
+  pub put : (to : ℕ) → edge.to ≡ Some to → to < length before → IsIn after to edge
+  pub only : (to : ℕ) (other : CellEdge) → IsIn after to other → IsIn before to other ⊎ ((edge ≡ other) × (edge.to ≡ Some to))
 
 -- edges more, each in the group of its cell
-pub record PutsEdges (before : Groups) (links : List CellEdge) (after : Groups) : Type 0 where
+pub record PutsEdges (before : Groups) (edges : List CellEdge) (after : Groups) : Type 0 where
   pub long : length after ≡ length before
-  pub put : (to : ℕ) (link : CellEdge) → Contains links link → link.to ≡ Some to → to < length before → IsIn after to link
-  pub only : (to : ℕ) (link : CellEdge) → IsIn after to link → IsIn before to link ⊎ (Contains links link × (link.to ≡ Some to))
+  pub put : (to : ℕ) (edge : CellEdge) → Contains edges edge → edge.to ≡ Some to → to < length before → IsIn after to edge
+  pub only : (to : ℕ) (edge : CellEdge) → IsIn after to edge → IsIn before to edge ⊎ (Contains edges edge × (edge.to ≡ Some to))
 
 -- the edges into each of the first cells
-pub record AreGrouped (links : List CellEdge) (count : ℕ) (groups : Groups) : Type 0 where
+pub record AreGrouped (edges : List CellEdge) (count : ℕ) (groups : Groups) : Type 0 where
   pub long : length groups ≡ count
-  pub each : (to : ℕ) (link : CellEdge) → Contains links link → link.to ≡ Some to → to < count → IsIn groups to link
-  pub only : (to : ℕ) (link : CellEdge) → IsIn groups to link → Contains links link × (link.to ≡ Some to)
+  pub each : (to : ℕ) (edge : CellEdge) → Contains edges edge → edge.to ≡ Some to → to < count → IsIn groups to edge
+  pub only : (to : ℕ) (edge : CellEdge) → IsIn groups to edge → Contains edges edge × (edge.to ≡ Some to)

@@ -19,12 +19,12 @@ IsSettledAt done (Some to) left = is_done done (8 * to + left) ≡ true
 -- what is left from a settled state is offered by an edge into its cell, and is at most what is left from those that wait
 pub record IsOffer (v : LegsValue) (cells : List Cell) (t : Costs) (waiting : BTreeSet Waiting) (done : List Bool) (offer : Offer) : Type 0
   where
-    pub is_edge : IsCellEdge v cells offer.link
+    pub is_edge : IsCellEdge v cells offer.edge
     pub sound : IsSound v cells t
     pub front : IsFront t waiting done offer.rest
-    pub early : 8 * offer.link.from + 8 ≤ length done
-    pub rest_is : rest_at t offer.link.to offer.left ≡ Some offer.rest
-    pub settled : IsSettledAt done offer.link.to offer.left
+    pub early : 8 * offer.edge.from + 8 ≤ length done
+    pub rest_is : rest_at t offer.edge.to offer.left ≡ Some offer.rest
+    pub settled : IsSettledAt done offer.edge.to offer.left
 
 -- costs of states that aren't settled were lowered, and wait so
 pub record Advances (v : LegsValue) (cells : List Cell) (before : Costs) (was : List Bool) (after : Costs) (waiting : BTreeSet Waiting)
@@ -38,7 +38,7 @@ pub record Advances (v : LegsValue) (cells : List Cell) (before : Costs) (was : 
 
 -- a state of an edge's first cell has at most what it gets by an offer
 abbrev pub Takes : Offer → Bool → Costs → ℕ → Type 0
-Takes offer stays t room = Under (entry t offer.link.from room) (Some (plus (move_cost stays offer.link.hops) offer.rest))
+Takes offer stays t room = Under (entry t offer.edge.from room) (Some (plus (move_cost stays offer.edge.hops) offer.rest))
 
 pub record OffersRoom (v : LegsValue) (cells : List Cell) (offer : Offer) (room : ℕ) (left : Option ℕ) (before : Costs) (was : List Bool)
     (after : Costs) (waiting : BTreeSet Waiting) (done : List Bool) : Type 0 where
@@ -48,8 +48,8 @@ pub record OffersRoom (v : LegsValue) (cells : List Cell) (offer : Offer) (room 
 -- a room after which the offer's is left
 abbrev pub LeavesIt : LegsValue → List Cell → Offer → Bool → ℕ → Type 0
 LeavesIt v cells offer stays room =
-    (cell : Cell) × (slice_get cells offer.link.from ≡ Some cell)
-    × (room_to v cell.via room (move_by offer.link stays) ≡ Some offer.left)
+    (cell : Cell) × (slice_get cells offer.edge.from ≡ Some cell)
+    × (room_to v cell.via room (move_by offer.edge stays) ≡ Some offer.left)
 
 -- the first rooms
 pub record OffersWay (v : LegsValue) (cells : List Cell) (offer : Offer) (rooms : ℕ) (before : Costs) (was : List Bool) (after : Costs)
@@ -63,17 +63,17 @@ pub record OffersEdge (v : LegsValue) (cells : List Cell) (offer : Offer) (befor
   pub takes : (stays : Bool) (room : ℕ) → room < 8 → LeavesIt v cells offer stays room → Takes offer stays after room
 
 abbrev pub offer_of : CellEdge → ℕ → Cost → Offer
-offer_of link left rest = record { link = link; stays = false; left = left; rest = rest }
+offer_of edge left rest = record { edge = edge; stays = false; left = left; rest = rest }
 
 -- by each of the edges the state is an offer
 abbrev pub LeadInto : LegsValue → List Cell → Costs → BTreeSet Waiting → List Bool → List CellEdge → ℕ → Cost → Type 0
-LeadInto v cells t waiting done links left rest =
+LeadInto v cells t waiting done edges left rest =
     IsSound v cells t × IsFront t waiting done rest
-    × ((link : CellEdge) → Contains links link → IsOffer v cells t waiting done (offer_of link left rest))
+    × ((edge : CellEdge) → Contains edges edge → IsOffer v cells t waiting done (offer_of edge left rest))
 
 -- the first edges
-pub record OffersAll (v : LegsValue) (cells : List Cell) (links : List CellEdge) (count left : ℕ) (rest : Cost) (before : Costs)
+pub record OffersAll (v : LegsValue) (cells : List Cell) (edges : List CellEdge) (count left : ℕ) (rest : Cost) (before : Costs)
     (was : List Bool) (after : Costs) (waiting : BTreeSet Waiting) (done : List Bool) : Type 0 where
   pub advances : Advances v cells before was after waiting done rest
-  pub takes : (link : CellEdge) (i : ℕ) (stays : Bool) (room : ℕ) → i < count → slice_get links i ≡ Some link → room < 8
-      → LeavesIt v cells (offer_of link left rest) stays room → Takes (offer_of link left rest) stays after room
+  pub takes : (edge : CellEdge) (i : ℕ) (stays : Bool) (room : ℕ) → i < count → slice_get edges i ≡ Some edge → room < 8
+      → LeavesIt v cells (offer_of edge left rest) stays room → Takes (offer_of edge left rest) stays after room

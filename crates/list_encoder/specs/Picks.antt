@@ -26,19 +26,19 @@ pub record IsSpot (cells : List Cell) (t : Costs) (spot : Spot) : Type 0 where
   pub few : spot.room < 8
   pub is : entry t spot.place spot.room ≡ Some spot.cost
 
--- a move by a link is tight: its cost with what is left after it is what is left in front of it
-pub record IsTight (v : LegsValue) (t : Costs) (spot : Spot) (link : CellEdge) (stays : Bool) (left : ℕ) (rest : Cost) : Type 0 where
-  pub room_is : room_to v spot.cell.via spot.room (move_by link stays) ≡ Some left
-  pub rest_is : rest_at t link.to left ≡ Some rest
-  pub cost_is : plus (move_cost stays link.hops) rest ≡ spot.cost
+-- a move by an edge is tight: its cost with what is left after it is what is left in front of it
+pub record IsTight (v : LegsValue) (t : Costs) (spot : Spot) (edge : CellEdge) (stays : Bool) (left : ℕ) (rest : Cost) : Type 0 where
+  pub room_is : room_to v spot.cell.via spot.room (move_by edge stays) ≡ Some left
+  pub rest_is : rest_at t edge.to left ≡ Some rest
+  pub cost_is : plus (move_cost stays edge.hops) rest ≡ spot.cost
 
 pub record IsPick (v : LegsValue) (cells : List Cell) (t : Costs) (spot : Spot) (pick : Pick) : Type 0 where
-  pub link : CellEdge
-  pub from : link.from ≡ spot.place
-  pub is_link : IsCellEdge v cells link
-  pub tight : IsTight v t spot link pick.step.stays pick.room pick.rest
-  pub prefix_is : pick.step.prefix ≡ (v.shape link.sid).prefix
-  pub to_is : pick.to ≡ link.to
+  pub edge : CellEdge
+  pub from : edge.from ≡ spot.place
+  pub is_edge : IsCellEdge v cells edge
+  pub tight : IsTight v t spot edge pick.step.stays pick.room pick.rest
+  pub prefix_is : pick.step.prefix ≡ (v.shape edge.sid).prefix
+  pub to_is : pick.to ≡ edge.to
 
 abbrev pub IsPickOrNone : LegsValue → List Cell → Costs → Spot → Option Pick → Type 0
 IsPickOrNone v cells t spot None = Unit {0}
@@ -49,38 +49,38 @@ abbrev pub Covers : Option Pick → PathStep → Type 0
 Covers None step = ⊥
 Covers (Some p) step = path_before (step ∷ []) (p.step ∷ []) ≡ false
 
-abbrev pub link_step : LegsValue → CellEdge → Bool → PathStep
-link_step v link stays = record { stays = stays; prefix = (v.shape link.sid).prefix }
+abbrev pub edge_step : LegsValue → CellEdge → Bool → PathStep
+edge_step v edge stays = record { stays = stays; prefix = (v.shape edge.sid).prefix }
 
--- the tight moves by a link that stay, or those that don't
+-- the tight moves by an edge that stay, or those that don't
 abbrev pub CoversMoves : LegsValue → Costs → Spot → Option Pick → CellEdge → Bool → Type 0
-CoversMoves v t spot best link stays =
-    (left : ℕ) (rest : Cost) → IsTight v t spot link stays left rest → Covers best (link_step v link stays)
+CoversMoves v t spot best edge stays =
+    (left : ℕ) (rest : Cost) → IsTight v t spot edge stays left rest → Covers best (edge_step v edge stays)
 
--- all tight moves by a link
+-- all tight moves by an edge
 abbrev pub CoversEdge : LegsValue → Costs → Spot → Option Pick → CellEdge → Type 0
-CoversEdge v t spot best link = (stays : Bool) → CoversMoves v t spot best link stays
+CoversEdge v t spot best edge = (stays : Bool) → CoversMoves v t spot best edge stays
 
-pub record PicksMoves (v : LegsValue) (cells : List Cell) (t : Costs) (spot : Spot) (link : CellEdge) (stays : Bool) (best : Option Pick) :
+pub record PicksMoves (v : LegsValue) (cells : List Cell) (t : Costs) (spot : Spot) (edge : CellEdge) (stays : Bool) (best : Option Pick) :
     Type 0 where
   pub found : IsPickOrNone v cells t spot best
-  pub covers : CoversMoves v t spot best link stays
+  pub covers : CoversMoves v t spot best edge stays
 
-pub record PicksEdge (v : LegsValue) (cells : List Cell) (t : Costs) (spot : Spot) (link : CellEdge) (best : Option Pick) : Type 0 where
+pub record PicksEdge (v : LegsValue) (cells : List Cell) (t : Costs) (spot : Spot) (edge : CellEdge) (best : Option Pick) : Type 0 where
   pub found : IsPickOrNone v cells t spot best
-  pub covers : CoversEdge v t spot best link
+  pub covers : CoversEdge v t spot best edge
 
 -- of all finishes from the cell
 pub record PicksEnds (v : LegsValue) (cells : List Cell) (t : Costs) (spot : Spot) (best : Option Pick) : Type 0 where
   pub found : IsPickOrNone v cells t spot best
-  pub covers : (link : CellEdge) → link.from ≡ spot.place → link.to ≡ None → IsCellEdge v cells link → CoversEdge v t spot best link
+  pub covers : (edge : CellEdge) → edge.from ≡ spot.place → edge.to ≡ None → IsCellEdge v cells edge → CoversEdge v t spot best edge
 
 -- of all legs from the cell
 pub record PicksLegs (v : LegsValue) (cells : List Cell) (t : Costs) (spot : Spot) (best : Option Pick) : Type 0 where
   pub found : IsPickOrNone v cells t spot best
-  pub covers : (link : CellEdge) (to : ℕ) → link.from ≡ spot.place → link.to ≡ Some to → IsCellEdge v cells link → CoversEdge v t spot best link
+  pub covers : (edge : CellEdge) (to : ℕ) → edge.from ≡ spot.place → edge.to ≡ Some to → IsCellEdge v cells edge → CoversEdge v t spot best edge
 
--- of all links from the cell
+-- of all edges from the cell
 pub record PicksFirst (v : LegsValue) (cells : List Cell) (t : Costs) (spot : Spot) (best : Option Pick) : Type 0 where
   pub found : IsPickOrNone v cells t spot best
-  pub covers : (link : CellEdge) → link.from ≡ spot.place → IsCellEdge v cells link → CoversEdge v t spot best link
+  pub covers : (edge : CellEdge) → edge.from ≡ spot.place → IsCellEdge v cells edge → CoversEdge v t spot best edge

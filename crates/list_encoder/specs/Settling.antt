@@ -14,14 +14,14 @@ use Rattle.list_encoder.specs.Grouped.{Groups, IsIn}
 -- each group has edges into its cell, from cells that have a group
 abbrev pub LeadToCells : LegsValue → List Cell → Groups → Type 0
 LeadToCells v cells groups =
-    (to : ℕ) (link : CellEdge) → IsIn groups to link → IsCellEdge v cells link × (link.to ≡ Some to) × (link.from < length groups)
+    (to : ℕ) (edge : CellEdge) → IsIn groups to edge → IsCellEdge v cells edge × (edge.to ≡ Some to) × (edge.from < length groups)
 
 -- the cost of an edge into a cell, with what is left from the cell's settled states, bounds what is left in front of it
 abbrev pub HoldsDone : LegsValue → List Cell → Costs → List Bool → CellEdge → ℕ → Type 0
-HoldsDone v cells t done link to =
-    (cell : Cell) (stays : Bool) (room left : ℕ) → slice_get cells link.from ≡ Some cell → room < 8 → left < 8
-    → room_to v cell.via room (move_by link stays) ≡ Some left → is_done done (8 * to + left) ≡ true
-    → Under (entry t link.from room) (offer stays link.hops (entry t to left))
+HoldsDone v cells t done edge to =
+    (cell : Cell) (stays : Bool) (room left : ℕ) → slice_get cells edge.from ≡ Some cell → room < 8 → left < 8
+    → room_to v cell.via room (move_by edge stays) ≡ Some left → is_done done (8 * to + left) ≡ true
+    → Under (entry t edge.from room) (offer stays edge.hops (entry t to left))
 
 -- so far the edges into the settled states hold
 pub record SettlesSoFar (v : LegsValue) (cells : List Cell) (groups : Groups) (before : Costs) (t : Costs) (waiting : BTreeSet Waiting)
@@ -32,11 +32,11 @@ pub record SettlesSoFar (v : LegsValue) (cells : List Cell) (groups : Groups) (b
   pub long : length done ≡ 8 * length groups
   pub falls : (i : ℕ) → Under (at t i) (at before i)
   pub past : (i : ℕ) → 8 * length groups ≤ i → at t i ≡ at before i
-  pub hold : (to : ℕ) (link : CellEdge) → IsIn groups to link → HoldsDone v cells t done link to
+  pub hold : (to : ℕ) (edge : CellEdge) → IsIn groups to edge → HoldsDone v cells t done edge to
 
 -- the edges of all groups hold
 pub record SettlesAll (v : LegsValue) (cells : List Cell) (groups : Groups) (before after : Costs) : Type 0 where
   pub sound : IsSound v cells after
   pub falls : (i : ℕ) → Under (at after i) (at before i)
   pub past : (i : ℕ) → 8 * length groups ≤ i → at after i ≡ at before i
-  pub holds : (to : ℕ) (link : CellEdge) → IsIn groups to link → Holds v cells after link
+  pub holds : (to : ℕ) (edge : CellEdge) → IsIn groups to edge → Holds v cells after edge

@@ -20,7 +20,7 @@ at t i = slice_index_or t i None
 abbrev pub entry : Costs → ℕ → ℕ → Option Cost
 entry t cell room = at t (8 * cell + room)
 
--- what is left to the end after a link: nothing at the end itself
+-- what is left to the end after an edge: nothing at the end itself
 abbrev pub rest_at : Costs → Option ℕ → ℕ → Option Cost
 rest_at t None room = Some nothing
 rest_at t (Some cell) room = entry t cell room
@@ -35,14 +35,14 @@ LeadsTo v cells cell sid hops (Some to) =
     (position : ℕ) × (slice_get cells to ≡ Some (cell_at position sid))
     × (v.leg cell.position cell.via sid ≡ Some (record { to = position; hops = hops }))
 
-pub record IsCellEdge (v : LegsValue) (cells : List Cell) (link : CellEdge) : Type 0 where
+pub record IsCellEdge (v : LegsValue) (cells : List Cell) (edge : CellEdge) : Type 0 where
   pub cell : Cell
-  pub from : slice_get cells link.from ≡ Some cell
-  pub leads : LeadsTo v cells cell link.sid link.hops link.to
+  pub from : slice_get cells edge.from ≡ Some cell
+  pub leads : LeadsTo v cells cell edge.sid edge.hops edge.to
 
--- a link as a move, which stays in the container or opens one
+-- an edge as a move, which stays in the container or opens one
 abbrev pub move_by : CellEdge → Bool → Move
-move_by link stays = record { stays = stays; sid = link.sid }
+move_by edge stays = record { stays = stays; sid = edge.sid }
 
 -- how many entries have a cost
 abbrev pub filled : Costs → ℕ
@@ -91,49 +91,49 @@ pub record Passed (cell : ℕ) (before after : Costs) (changed : Bool) : Type 0 
   pub same : changed ≡ false → after ≡ before
   pub smaller : changed ≡ true → total after < total before
 
--- the cost of a link, with what is left after it in one table, bounds what is left in front of it in another
+-- the cost of an edge, with what is left after it in one table, bounds what is left in front of it in another
 abbrev pub EdgeHolds : LegsValue → List Cell → CellEdge → Costs → Costs → Type 0
-EdgeHolds v cells link before after =
-    (cell : Cell) (stays : Bool) (room left : ℕ) → slice_get cells link.from ≡ Some cell → room < 8
-    → room_to v cell.via room (move_by link stays) ≡ Some left
-    → Under (entry after link.from room) (offer stays link.hops (rest_at before link.to left))
+EdgeHolds v cells edge before after =
+    (cell : Cell) (stays : Bool) (room left : ℕ) → slice_get cells edge.from ≡ Some cell → room < 8
+    → room_to v cell.via room (move_by edge stays) ≡ Some left
+    → Under (entry after edge.from room) (offer stays edge.hops (rest_at before edge.to left))
 
 abbrev pub Holds : LegsValue → List Cell → Costs → CellEdge → Type 0
-Holds v cells t link = EdgeHolds v cells link t t
+Holds v cells t edge = EdgeHolds v cells edge t t
 
--- one room of a link
+-- one room of an edge
 abbrev pub RoomHolds : Option Cost → Bool → CellEdge → Costs → Option ℕ → Type 0
-RoomHolds o stays link before None = Unit {0}
-RoomHolds o stays link before (Some left) = Under o (offer stays link.hops (rest_at before link.to left))
+RoomHolds o stays edge before None = Unit {0}
+RoomHolds o stays edge before (Some left) = Under o (offer stays edge.hops (rest_at before edge.to left))
 
--- what lowering a table by a link gives
-pub record Relaxed (v : LegsValue) (cells : List Cell) (link : CellEdge) (before after : Costs) (changed : Bool) : Type 0 where
+-- what lowering a table by an edge gives
+pub record Relaxed (v : LegsValue) (cells : List Cell) (edge : CellEdge) (before after : Costs) (changed : Bool) : Type 0 where
   pub sound : IsSound v cells after
-  pub passed : Passed (link.from + 1) before after changed
-  pub holds : EdgeHolds v cells link before after
+  pub passed : Passed (edge.from + 1) before after changed
+  pub holds : EdgeHolds v cells edge before after
 
-pub record RoomRelaxed (v : LegsValue) (cells : List Cell) (link : CellEdge) (before after : Costs) (stays : Bool) (room : ℕ) (left : Option ℕ)
+pub record RoomRelaxed (v : LegsValue) (cells : List Cell) (edge : CellEdge) (before after : Costs) (stays : Bool) (room : ℕ) (left : Option ℕ)
     (changed : Bool) : Type 0 where
   pub sound : IsSound v cells after
-  pub passed : Passed (link.from + 1) before after changed
-  pub holds : RoomHolds (entry after link.from room) stays link before left
+  pub passed : Passed (edge.from + 1) before after changed
+  pub holds : RoomHolds (entry after edge.from room) stays edge before left
 
--- the rooms from one on and before another of a link's first cell, where the link stays in the container, or where it opens one
-pub record RoomsRelaxed (v : LegsValue) (cells : List Cell) (link : CellEdge) (stays : Bool) (low high : ℕ) (before after : Costs)
+-- the rooms from one on and before another of an edge's first cell, where the edge stays in the container, or where it opens one
+pub record RoomsRelaxed (v : LegsValue) (cells : List Cell) (edge : CellEdge) (stays : Bool) (low high : ℕ) (before after : Costs)
     (changed : Bool) : Type 0 where
   pub sound : IsSound v cells after
-  pub passed : Passed (link.from + 1) before after changed
-  pub holds : (cell : Cell) (room left : ℕ) → slice_get cells link.from ≡ Some cell → low ≤ room → room < high
-      → room_to v cell.via room (move_by link stays) ≡ Some left
-      → Under (entry after link.from room) (offer stays link.hops (rest_at before link.to left))
+  pub passed : Passed (edge.from + 1) before after changed
+  pub holds : (cell : Cell) (room left : ℕ) → slice_get cells edge.from ≡ Some cell → low ≤ room → room < high
+      → room_to v cell.via room (move_by edge stays) ≡ Some left
+      → Under (entry after edge.from room) (offer stays edge.hops (rest_at before edge.to left))
 
--- all links from a cell on hold
+-- all edges from a cell on hold
 abbrev pub HoldFrom : LegsValue → List Cell → Costs → ℕ → Type 0
-HoldFrom v cells t cell = (link : CellEdge) → cell ≤ link.from → IsCellEdge v cells link → Holds v cells t link
+HoldFrom v cells t cell = (edge : CellEdge) → cell ≤ edge.from → IsCellEdge v cells edge → Holds v cells t edge
 
--- links within a position, each from a cell before a given one
+-- edges within a position, each from a cell before a given one
 abbrev pub AreCellEdges : LegsValue → List Cell → ℕ → List CellEdge → Type 0
-AreCellEdges v cells cell links = (link : CellEdge) → Contains links link → IsCellEdge v cells link × (link.from < cell)
+AreCellEdges v cells cell edges = (edge : CellEdge) → Contains edges edge → IsCellEdge v cells edge × (edge.from < cell)
 
 -- each entry is the least cost of a path from its state
 abbrev pub AreLeast : LegsValue → List Cell → Costs → Type 0
@@ -148,10 +148,10 @@ abbrev pub AreInRange : Costs → Option ℕ → ℕ → Type 0
 AreInRange t None room = Unit {0}
 AreInRange t (Some cell) room = 8 * cell + room < length t
 
--- the room after a link's SID, from a room after its first cell's
+-- the room after an edge's SID, from a room after its first cell's
 abbrev pub LeavesRoom : LegsValue → List Cell → CellEdge → Bool → ℕ → Option ℕ → Type 0
-LeavesRoom v cells link stays room left =
-    (cell : Cell) → slice_get cells link.from ≡ Some cell → left ≡ room_to v cell.via room (move_by link stays)
+LeavesRoom v cells edge stays room left =
+    (cell : Cell) → slice_get cells edge.from ≡ Some cell → left ≡ room_to v cell.via room (move_by edge stays)
 
 -- the shape of a cell's SID
 abbrev pub IsShapeOf : LegsValue → List Cell → ℕ → Option Shape → Type 0
@@ -159,7 +159,7 @@ IsShapeOf v cells k shape = (cell : Cell) → slice_get cells k ≡ Some cell �
 
 -- the finishes from a cell
 abbrev pub EndsHold : LegsValue → List Cell → ℕ → Costs → Type 0
-EndsHold v cells k t = (link : CellEdge) → link.from ≡ k → link.to ≡ None → IsCellEdge v cells link → Holds v cells t link
+EndsHold v cells k t = (edge : CellEdge) → edge.from ≡ k → edge.to ≡ None → IsCellEdge v cells edge → Holds v cells t edge
 
 pub record EndsRelaxed (v : LegsValue) (cells : List Cell) (k : ℕ) (before after : Costs) (changed : Bool) : Type 0 where
   pub sound : IsSound v cells after
@@ -168,37 +168,37 @@ pub record EndsRelaxed (v : LegsValue) (cells : List Cell) (k : ℕ) (before aft
 
 -- the leg from a cell into another, where there is one
 abbrev pub IsEdgeInto : LegsValue → List Cell → ℕ → ℕ → Option CellEdge → Type 0
-IsEdgeInto v cells from to (Some link) = IsCellEdge v cells link × (link.from ≡ from) × (link.to ≡ Some to)
-IsEdgeInto v cells from to None = (link : CellEdge) → link.from ≡ from → link.to ≡ Some to → ¬ IsCellEdge v cells link
+IsEdgeInto v cells from to (Some edge) = IsCellEdge v cells edge × (edge.from ≡ from) × (edge.to ≡ Some to)
+IsEdgeInto v cells from to None = (edge : CellEdge) → edge.from ≡ from → edge.to ≡ Some to → ¬ IsCellEdge v cells edge
 
 -- the legs from a cell into the cells from one on and before another: those to later positions hold, the others are listed
 abbrev pub LegsHold : LegsValue → List Cell → ℕ → ℕ → ℕ → ℕ → Costs → List CellEdge → Type 0
-LegsHold v cells k first later end t links =
-    (link : CellEdge) (to : ℕ) → link.from ≡ k → link.to ≡ Some to → first ≤ to → to < end → IsCellEdge v cells link
-    → MatchBool (nat_lt to later) (Contains links link) (Holds v cells t link)
+LegsHold v cells k first later end t edges =
+    (edge : CellEdge) (to : ℕ) → edge.from ≡ k → edge.to ≡ Some to → first ≤ to → to < end → IsCellEdge v cells edge
+    → MatchBool (nat_lt to later) (Contains edges edge) (Holds v cells t edge)
 
 abbrev pub Keeps : List CellEdge → List CellEdge → Type 0
-Keeps before after = (link : CellEdge) → Contains before link → Contains after link
+Keeps before after = (edge : CellEdge) → Contains before edge → Contains after edge
 
-pub record LegsRelaxed (v : LegsValue) (cells : List Cell) (k first later : ℕ) (before after : Costs) (listed links : List CellEdge)
+pub record LegsRelaxed (v : LegsValue) (cells : List Cell) (k first later : ℕ) (before after : Costs) (listed edges : List CellEdge)
     (changed : Bool)
     : Type 0 where
   pub sound : IsSound v cells after
   pub passed : Passed (k + 1) before after changed
-  pub holds : LegsHold v cells k first later (length cells) after links
-  pub keeps : Keeps listed links
-  pub are : AreCellEdges v cells later links
+  pub holds : LegsHold v cells k first later (length cells) after edges
+  pub keeps : Keeps listed edges
+  pub are : AreCellEdges v cells later edges
 
 -- the cells from one on and before another
-pub record Gathers (v : LegsValue) (cells : List Cell) (first later : ℕ) (before after : Costs) (links : List CellEdge) : Type 0 where
+pub record Gathers (v : LegsValue) (cells : List Cell) (first later : ℕ) (before after : Costs) (edges : List CellEdge) : Type 0 where
   pub sound : IsSound v cells after
   pub falls : (i : ℕ) → Under (at after i) (at before i)
   pub above : (i : ℕ) → 8 * later ≤ i → at after i ≡ at before i
   pub ends : (k : ℕ) → first ≤ k → k < later → EndsHold v cells k after
-  pub legs : (k : ℕ) → first ≤ k → k < later → LegsHold v cells k first later (length cells) after links
-  pub are : AreCellEdges v cells later links
+  pub legs : (k : ℕ) → first ≤ k → k < later → LegsHold v cells k first later (length cells) after edges
+  pub are : AreCellEdges v cells later edges
 
--- a link to the end, or to a cell from one on
+-- an edge to the end, or to a cell from one on
 abbrev pub IsOnward : ℕ → Option ℕ → Type 0
 IsOnward cell None = Unit {0}
 IsOnward cell (Some to) = cell ≤ to
@@ -206,5 +206,5 @@ IsOnward cell (Some to) = cell ≤ to
 pub record Settled (v : LegsValue) (cells : List Cell) (first later : ℕ) (before after : Costs) : Type 0 where
   pub sound : IsSound v cells after
   pub above : (i : ℕ) → 8 * later ≤ i → at after i ≡ at before i
-  pub holds : (link : CellEdge) → first ≤ link.from → link.from < later → IsCellEdge v cells link → IsOnward first link.to
-      → Holds v cells after link
+  pub holds : (edge : CellEdge) → first ≤ edge.from → edge.from < later → IsCellEdge v cells edge → IsOnward first edge.to
+      → Holds v cells after edge

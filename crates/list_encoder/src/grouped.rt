@@ -8,25 +8,25 @@ use base::NoMemory;
 use std::alloc::Global;
 
 /// an edge is put to those that lead to its cell
-fn put_edge(groups: &mut [Vec<CellEdge>], link: CellEdge) -> Result<(), NoMemory>
-    ensures { OnOk result (PutsEdge groups.old groups.new link) }
+fn put_edge(groups: &mut [Vec<CellEdge>], edge: CellEdge) -> Result<(), NoMemory>
+    ensures { OnOk result (PutsEdge groups.old groups.new edge) }
 {
-    let Some(to) = link.to else {
+    let Some(to) = edge.to else {
         return Ok(());
     };
     if to >= groups.len() {
         return Ok(());
     }
-    groups[to].push(link)?;
+    groups[to].push(edge)?;
     Ok(())
 }
 
 /// each edge is put to those that lead to its cell
-fn put_edges(groups: &mut [Vec<CellEdge>], links: &[CellEdge]) -> Result<(), NoMemory>
-    ensures { OnOk result (PutsEdges groups.old links.now groups.new) }
+fn put_edges(groups: &mut [Vec<CellEdge>], edges: &[CellEdge]) -> Result<(), NoMemory>
+    ensures { OnOk result (PutsEdges groups.old edges.now groups.new) }
 {
-    for link in links {
-        put_edge(groups, *link)?;
+    for edge in edges {
+        put_edge(groups, *edge)?;
     }
     Ok(())
 }
@@ -45,12 +45,12 @@ fn no_groups(alloc: Global, count: usize) -> Result<Vec<Vec<CellEdge>>, NoMemory
 /// The edges into each of the first cells. (own rule)
 pub fn grouped(
     alloc: Global,
-    links: &[CellEdge],
+    edges: &[CellEdge],
     count: usize,
 ) -> Result<Vec<Vec<CellEdge>>, NoMemory>
-    ensures { IfOk result (λ groups. AreGrouped links.now count groups.items) }
+    ensures { IfOk result (λ groups. AreGrouped edges.now count groups.items) }
 {
     let mut groups = no_groups(alloc, count)?;
-    put_edges(groups.as_mut_slice(), links)?;
+    put_edges(groups.as_mut_slice(), edges)?;
     Ok(groups)
 }

@@ -11,36 +11,36 @@ use base::NoMemory;
 use list_pack::{Cost, Legs, Shape, move_cost, plus, room_behind};
 use std::alloc::Global;
 
-/// one room of a link's first cell is lowered by the link, where a room is left after it
+/// one room of an edge's first cell is lowered by the edge, where a room is left after it
 fn relax_room<L: Legs>(
     legs: &L,
     cells: &[Cell],
     table: &mut [Option<Cost>],
-    link: CellEdge,
+    edge: CellEdge,
     stays: bool,
     room: u8,
     left: Option<u8>,
 ) -> bool
     requires laws { KeepsLaws (L.seen legs.now) }
     requires cells { AreCells (L.seen legs.now) cells.now }
-    requires link { tables.IsCellEdge (L.seen legs.now) cells.now link }
+    requires edge { tables.IsCellEdge (L.seen legs.now) cells.now edge }
     requires sound { tables.IsSound (L.seen legs.now) cells.now table.old }
     requires room { room < 8 }
-    requires left { tables.LeavesRoom (L.seen legs.now) cells.now link stays room left }
-    ensures { tables.RoomRelaxed (L.seen legs.now) cells.now link table.old table.new stays room
+    requires left { tables.LeavesRoom (L.seen legs.now) cells.now edge stays room left }
+    ensures { tables.RoomRelaxed (L.seen legs.now) cells.now edge table.old table.new stays room
         left result }
 {
     let Some(behind) = left else {
         return false;
     };
-    let Some(rest) = rest_at(table, link.to, behind) else {
+    let Some(rest) = rest_at(table, edge.to, behind) else {
         return false;
     };
-    let cost = plus(move_cost(stays, link.hops), rest);
-    lower(table, 8 * link.from + room as usize, cost)
+    let cost = plus(move_cost(stays, edge.hops), rest);
+    lower(table, 8 * edge.from + room as usize, cost)
 }
 
-/// the rooms of a link's first cell are lowered by the link where it stays in the container and is
+/// the rooms of an edge's first cell are lowered by the edge where it stays in the container and is
 /// not barred; where it can't stay with the most room that there may be, it can't with less
 fn relax_stays<L: Legs>(
     legs: &L,
@@ -48,33 +48,33 @@ fn relax_stays<L: Legs>(
     table: &mut [Option<Cost>],
     from: &Option<Shape>,
     next: &Shape,
-    link: CellEdge,
+    edge: CellEdge,
 ) -> bool
     requires laws { KeepsLaws (L.seen legs.now) }
     requires cells { AreCells (L.seen legs.now) cells.now }
-    requires link { tables.IsCellEdge (L.seen legs.now) cells.now link }
-    requires from { tables.IsShapeOf (L.seen legs.now) cells.now link.from from.now }
-    requires next { next.now ≡ (L.seen legs.now).shape link.sid }
+    requires edge { tables.IsCellEdge (L.seen legs.now) cells.now edge }
+    requires from { tables.IsShapeOf (L.seen legs.now) cells.now edge.from from.now }
+    requires next { next.now ≡ (L.seen legs.now).shape edge.sid }
     requires sound { tables.IsSound (L.seen legs.now) cells.now table.old }
-    ensures { tables.RoomsRelaxed (L.seen legs.now) cells.now link true 0 8 table.old table.new
+    ensures { tables.RoomsRelaxed (L.seen legs.now) cells.now edge true 0 8 table.old table.new
         result }
 {
     if room_behind(true, from, 7, next).is_none() {
         return false;
     }
-    if is_barred(legs, cells[link.from], true, link.sid) {
+    if is_barred(legs, cells[edge.from], true, edge.sid) {
         return false;
     }
     let mut changed = false;
     for room in 0..8 {
         let left = room_behind(true, from, room, next);
-        let lowered = relax_room(legs, cells, table, link, true, room, left);
+        let lowered = relax_room(legs, cells, table, edge, true, room, left);
         changed = either(changed, lowered);
     }
     changed
 }
 
-/// the rooms of a link's first cell above 0 are lowered by the link where it opens a container,
+/// the rooms of an edge's first cell above 0 are lowered by the edge where it opens a container,
 /// which with some room in front is the same for all
 fn relax_opens<L: Legs>(
     legs: &L,
@@ -82,47 +82,47 @@ fn relax_opens<L: Legs>(
     table: &mut [Option<Cost>],
     from: &Option<Shape>,
     next: &Shape,
-    link: CellEdge,
+    edge: CellEdge,
 ) -> bool
     requires laws { KeepsLaws (L.seen legs.now) }
     requires cells { AreCells (L.seen legs.now) cells.now }
-    requires link { tables.IsCellEdge (L.seen legs.now) cells.now link }
-    requires from { tables.IsShapeOf (L.seen legs.now) cells.now link.from from.now }
-    requires next { next.now ≡ (L.seen legs.now).shape link.sid }
+    requires edge { tables.IsCellEdge (L.seen legs.now) cells.now edge }
+    requires from { tables.IsShapeOf (L.seen legs.now) cells.now edge.from from.now }
+    requires next { next.now ≡ (L.seen legs.now).shape edge.sid }
     requires sound { tables.IsSound (L.seen legs.now) cells.now table.old }
-    ensures { tables.RoomsRelaxed (L.seen legs.now) cells.now link false 1 8 table.old table.new
+    ensures { tables.RoomsRelaxed (L.seen legs.now) cells.now edge false 1 8 table.old table.new
         result }
 {
     let full = room_behind(false, from, 1, next);
     let mut changed = false;
     for room in 1..8 {
-        let lowered = relax_room(legs, cells, table, link, false, room, full);
+        let lowered = relax_room(legs, cells, table, edge, false, room, full);
         changed = either(changed, lowered);
     }
     changed
 }
 
-/// the rooms of a link's first cell, whose SID's shape is given, are lowered by the link
+/// the rooms of an edge's first cell, whose SID's shape is given, are lowered by the edge
 fn relax<L: Legs>(
     legs: &L,
     cells: &[Cell],
     table: &mut [Option<Cost>],
     from: &Option<Shape>,
-    link: CellEdge,
+    edge: CellEdge,
 ) -> bool
     requires cells { AreCells (L.seen legs.now) cells.now }
-    requires link { tables.IsCellEdge (L.seen legs.now) cells.now link }
-    requires from { tables.IsShapeOf (L.seen legs.now) cells.now link.from from.now }
+    requires edge { tables.IsCellEdge (L.seen legs.now) cells.now edge }
+    requires from { tables.IsShapeOf (L.seen legs.now) cells.now edge.from from.now }
     requires sound { tables.IsSound (L.seen legs.now) cells.now table.old }
-    ensures { tables.Relaxed (L.seen legs.now) cells.now link table.old table.new result }
+    ensures { tables.Relaxed (L.seen legs.now) cells.now edge table.old table.new result }
 {
     legs.steps();
-    let next = legs.shape(link.sid);
+    let next = legs.shape(edge.sid);
     let packed = room_behind(false, from, 0, &next);
-    let first = relax_room(legs, cells, table, link, false, 0, packed);
-    let above = relax_opens(legs, cells, table, from, &next, link);
+    let first = relax_room(legs, cells, table, edge, false, 0, packed);
+    let above = relax_opens(legs, cells, table, from, &next, edge);
     let opens = either(first, above);
-    let stays = relax_stays(legs, cells, table, from, &next, link);
+    let stays = relax_stays(legs, cells, table, from, &next, edge);
     either(opens, stays)
 }
 
@@ -144,13 +144,13 @@ fn relax_ends<L: Legs>(
     let mut changed = false;
     for sid in legs.sids_at(legs.steps()) {
         if let Some(hops) = legs.finish(cell.position, cell.via, *sid) {
-            let link = CellEdge {
+            let edge = CellEdge {
                 from: k,
                 to: None,
                 sid: *sid,
                 hops,
             };
-            let lowered = relax(legs, cells, table, from, link);
+            let lowered = relax(legs, cells, table, from, edge);
             changed = either(changed, lowered);
         }
     }
@@ -158,7 +158,7 @@ fn relax_ends<L: Legs>(
 }
 
 /// The leg from a cell into another, where there is one. (own rule)
-pub fn link_into<L: Legs>(legs: &L, cells: &[Cell], from: usize, to: usize) -> Option<CellEdge>
+pub fn edge_into<L: Legs>(legs: &L, cells: &[Cell], from: usize, to: usize) -> Option<CellEdge>
     requires from { from < length cells.now }
     requires to { to < length cells.now }
     ensures { tables.IsEdgeInto (L.seen legs.now) cells.now from to result }
@@ -188,24 +188,24 @@ fn relax_legs<L: Legs>(
     k: usize,
     first: usize,
     later: usize,
-    links: &mut Vec<CellEdge>,
+    edges: &mut Vec<CellEdge>,
 ) -> Result<bool, NoMemory>
     requires cells { AreCells (L.seen legs.now) cells.now }
     requires within { k < later }
     requires later { later ≤ length cells.now }
     requires from { tables.IsShapeOf (L.seen legs.now) cells.now k from.now }
     requires sound { tables.IsSound (L.seen legs.now) cells.now table.old }
-    requires links { tables.AreCellEdges (L.seen legs.now) cells.now later links.old.items }
+    requires edges { tables.AreCellEdges (L.seen legs.now) cells.now later edges.old.items }
     ensures { IfOk result (λ changed. tables.LegsRelaxed (L.seen legs.now) cells.now k first later
-        table.old table.new links.old.items links.new.items changed) }
+        table.old table.new edges.old.items edges.new.items changed) }
 {
     let mut changed = false;
     for to in first..cells.len() {
-        if let Some(link) = link_into(legs, cells, k, to) {
+        if let Some(edge) = edge_into(legs, cells, k, to) {
             if to < later {
-                links.push(link)?;
+                edges.push(edge)?;
             } else {
-                let lowered = relax(legs, cells, table, from, link);
+                let lowered = relax(legs, cells, table, from, edge);
                 changed = either(changed, lowered);
             }
         }
@@ -227,14 +227,14 @@ pub fn gather<L: Legs>(
     requires first { first ≤ later }
     requires later { later ≤ length cells.now }
     requires sound { tables.IsSound (L.seen legs.now) cells.now table.old }
-    ensures { IfOk result (λ links. tables.Gathers (L.seen legs.now) cells.now first later
-        table.old table.new links.items) }
+    ensures { IfOk result (λ edges. tables.Gathers (L.seen legs.now) cells.now first later
+        table.old table.new edges.items) }
 {
-    let mut links = Vec::new(alloc);
+    let mut edges = Vec::new(alloc);
     for k in first..later {
         let from = shape_of(legs, cells[k]);
         relax_ends(legs, cells, table, &from, k);
-        relax_legs(legs, cells, table, &from, k, first, later, &mut links)?;
+        relax_legs(legs, cells, table, &from, k, first, later, &mut edges)?;
     }
-    Ok(links)
+    Ok(edges)
 }

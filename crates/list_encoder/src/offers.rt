@@ -18,7 +18,7 @@ use list_pack::{Cost, Legs, Shape, move_cost, plus, room_behind};
 #[derive(Clone, Copy, Debug)]
 pub struct Offer {
     /// The edge into the state's cell.
-    pub link: CellEdge,
+    pub edge: CellEdge,
     /// Whether its SID stays in the container.
     pub stays: bool,
     /// The state's room, below 8.
@@ -43,7 +43,7 @@ fn offer_room<L: Legs>(
     requires offer { IsOffer (L.seen legs.now) cells.now table.old queue.old.waiting
         queue.old.done.items offer }
     requires room { room < 8 }
-    requires left { LeavesRoom (L.seen legs.now) cells.now offer.link offer.stays room left }
+    requires left { LeavesRoom (L.seen legs.now) cells.now offer.edge offer.stays room left }
     ensures { OnOk result (OffersRoom (L.seen legs.now) cells.now offer room left table.old
         queue.old.done.items table.new queue.new.waiting queue.new.done.items) }
 {
@@ -53,8 +53,8 @@ fn offer_room<L: Legs>(
     if after != offer.left {
         return Ok(());
     }
-    let cost = plus(move_cost(offer.stays, offer.link.hops), offer.rest);
-    lower_open(table, queue, 8 * offer.link.from + room as usize, cost)?;
+    let cost = plus(move_cost(offer.stays, offer.edge.hops), offer.rest);
+    lower_open(table, queue, 8 * offer.edge.from + room as usize, cost)?;
     Ok(())
 }
 
@@ -97,15 +97,15 @@ fn offer_way<L: Legs>(
     requires cells { AreCells (L.seen legs.now) cells.now }
     requires offer { IsOffer (L.seen legs.now) cells.now table.old queue.old.waiting
         queue.old.done.items offer }
-    requires from { IsShapeOf (L.seen legs.now) cells.now offer.link.from from.now }
-    requires next { next.now ≡ (L.seen legs.now).shape offer.link.sid }
+    requires from { IsShapeOf (L.seen legs.now) cells.now offer.edge.from from.now }
+    requires next { next.now ≡ (L.seen legs.now).shape offer.edge.sid }
     ensures { OnOk result (OffersWay (L.seen legs.now) cells.now offer 8 table.old
         queue.old.done.items table.new queue.new.waiting queue.new.done.items) }
 {
     if !may_lead(&offer, from, next) {
         return Ok(());
     }
-    if is_barred(legs, cells[offer.link.from], offer.stays, offer.link.sid) {
+    if is_barred(legs, cells[offer.edge.from], offer.stays, offer.edge.sid) {
         return Ok(());
     }
     for room in 0..8 {
@@ -130,8 +130,8 @@ fn offer_edge<L: Legs>(
         queue.old.done.items table.new queue.new.waiting queue.new.done.items) }
 {
     legs.steps();
-    let from = shape_of(legs, cells[offer.link.from]);
-    let next = legs.shape(offer.link.sid);
+    let from = shape_of(legs, cells[offer.edge.from]);
+    let next = legs.shape(offer.edge.sid);
     let opens = Offer {
         stays: false,
         ..offer
@@ -152,19 +152,19 @@ pub fn offer_all<L: Legs>(
     cells: &[Cell],
     table: &mut [Option<Cost>],
     queue: &mut Queue,
-    links: &[CellEdge],
+    edges: &[CellEdge],
     left: u8,
     rest: Cost,
 ) -> Result<(), NoMemory>
     requires cells { AreCells (L.seen legs.now) cells.now }
     requires lead { LeadInto (L.seen legs.now) cells.now table.old queue.old.waiting
-        queue.old.done.items links.now left rest }
-    ensures { OnOk result (OffersAll (L.seen legs.now) cells.now links.now (length links.now) left
+        queue.old.done.items edges.now left rest }
+    ensures { OnOk result (OffersAll (L.seen legs.now) cells.now edges.now (length edges.now) left
         rest table.old queue.old.done.items table.new queue.new.waiting queue.new.done.items) }
 {
-    for link in links {
+    for edge in edges {
         let offer = Offer {
-            link: *link,
+            edge: *edge,
             stays: false,
             left,
             rest,

@@ -8,7 +8,7 @@ ghost use Rattle.list_encoder.specs.Table.{IsCellEdge};
 ghost use Rattle.list_encoder.specs.Picks.{better_of, is_sum, IsSpot, PicksMoves, PicksEdge, PicksEnds, PicksLegs, PicksFirst};
 
 use crate::cells::{Cell, is_barred, shape_of};
-use crate::lowering::link_into;
+use crate::lowering::edge_into;
 use crate::table::{CellEdge, rest_at};
 use list_pack::{Cost, Legs, PathStep, Shape, move_cost, room_behind, step_before};
 
@@ -66,32 +66,32 @@ fn is_sum(a: Cost, b: Cost, sum: Cost) -> bool
     containers == u64::from(sum.containers) && hops == u64::from(sum.hops)
 }
 
-/// the move by a link that stays in the container, or the one that doesn't, where it is tight
+/// the move by an edge that stays in the container, or the one that doesn't, where it is tight
 fn pick_move<L: Legs>(
     legs: &L,
     cells: &[Cell],
     table: &[Option<Cost>],
     from: &Option<Shape>,
     spot: Spot,
-    link: CellEdge,
+    edge: CellEdge,
     stays: bool,
 ) -> Option<Pick>
     requires cells { AreCells (L.seen legs.now) cells.now }
     requires long { length table.now ≡ 8 * length cells.now }
     requires spot { IsSpot cells.now table.now spot }
     requires from { from.now ≡ option_map (L.seen legs.now).shape spot.cell.via }
-    requires link { IsCellEdge (L.seen legs.now) cells.now link }
-    requires place { link.from ≡ spot.place }
-    ensures { PicksMoves (L.seen legs.now) cells.now table.now spot link stays result }
+    requires edge { IsCellEdge (L.seen legs.now) cells.now edge }
+    requires place { edge.from ≡ spot.place }
+    ensures { PicksMoves (L.seen legs.now) cells.now table.now spot edge stays result }
 {
     legs.steps();
-    if is_barred(legs, spot.cell, stays, link.sid) {
+    if is_barred(legs, spot.cell, stays, edge.sid) {
         return None;
     }
-    let next = legs.shape(link.sid);
+    let next = legs.shape(edge.sid);
     let room = room_behind(stays, from, spot.room, &next)?;
-    let rest = rest_at(table, link.to, room)?;
-    if !is_sum(move_cost(stays, link.hops), rest, spot.cost) {
+    let rest = rest_at(table, edge.to, room)?;
+    if !is_sum(move_cost(stays, edge.hops), rest, spot.cost) {
         return None;
     }
     Some(Pick {
@@ -99,31 +99,31 @@ fn pick_move<L: Legs>(
             stays,
             prefix: next.prefix,
         },
-        to: link.to,
+        to: edge.to,
         room,
         rest,
     })
 }
 
-/// the first tight move by a link
-fn pick_link<L: Legs>(
+/// the first tight move by an edge
+fn pick_edge<L: Legs>(
     legs: &L,
     cells: &[Cell],
     table: &[Option<Cost>],
     from: &Option<Shape>,
     spot: Spot,
-    link: CellEdge,
+    edge: CellEdge,
 ) -> Option<Pick>
     requires cells { AreCells (L.seen legs.now) cells.now }
     requires long { length table.now ≡ 8 * length cells.now }
     requires spot { IsSpot cells.now table.now spot }
     requires from { from.now ≡ option_map (L.seen legs.now).shape spot.cell.via }
-    requires link { IsCellEdge (L.seen legs.now) cells.now link }
-    requires place { link.from ≡ spot.place }
-    ensures { PicksEdge (L.seen legs.now) cells.now table.now spot link result }
+    requires edge { IsCellEdge (L.seen legs.now) cells.now edge }
+    requires place { edge.from ≡ spot.place }
+    ensures { PicksEdge (L.seen legs.now) cells.now table.now spot edge result }
 {
-    let stays = pick_move(legs, cells, table, from, spot, link, true);
-    let opens = pick_move(legs, cells, table, from, spot, link, false);
+    let stays = pick_move(legs, cells, table, from, spot, edge, true);
+    let opens = pick_move(legs, cells, table, from, spot, edge, false);
     better(stays, opens)
 }
 
@@ -144,13 +144,13 @@ fn pick_end<L: Legs>(
     let mut best = None;
     for sid in legs.sids_at(legs.steps()) {
         if let Some(hops) = legs.finish(spot.cell.position, spot.cell.via, *sid) {
-            let link = CellEdge {
+            let edge = CellEdge {
                 from: spot.place,
                 to: None,
                 sid: *sid,
                 hops,
             };
-            best = better(best, pick_link(legs, cells, table, from, spot, link));
+            best = better(best, pick_edge(legs, cells, table, from, spot, edge));
         }
     }
     best
@@ -172,8 +172,8 @@ fn pick_leg<L: Legs>(
 {
     let mut best = None;
     for to in 0..cells.len() {
-        if let Some(link) = link_into(legs, cells, spot.place, to) {
-            best = better(best, pick_link(legs, cells, table, from, spot, link));
+        if let Some(edge) = edge_into(legs, cells, spot.place, to) {
+            best = better(best, pick_edge(legs, cells, table, from, spot, edge));
         }
     }
     best

@@ -37,9 +37,9 @@ fn settle_waiting<L: Legs>(
 {
     legs.steps();
     while let Some(next) = settle_first(queue) {
-        let links = into[next.place / 8].as_slice();
+        let edges = into[next.place / 8].as_slice();
         let left = (next.place % 8) as u8;
-        offer_all(legs, cells, table, queue, links, left, cost_of(next))?;
+        offer_all(legs, cells, table, queue, edges, left, cost_of(next))?;
     }
     Ok(())
 }
@@ -59,11 +59,11 @@ fn settle<L: Legs>(
     requires sound { IsSound (L.seen legs.now) cells.now table.old }
     ensures { OnOk result (Settled (L.seen legs.now) cells.now first later table.old table.new) }
 {
-    let links = gather(alloc, legs, cells, table, first, later)?;
-    if links.is_empty() {
+    let edges = gather(alloc, legs, cells, table, first, later)?;
+    if edges.is_empty() {
         return Ok(());
     }
-    let into = grouped(alloc, links.as_slice(), later)?;
+    let into = grouped(alloc, edges.as_slice(), later)?;
     let mut queue = queue_of(alloc, table, 8 * later)?;
     settle_waiting(legs, cells, table, &mut queue, into.as_slice())?;
     Ok(())

@@ -31,7 +31,7 @@ pub fn entry(table: &[Option<Cost>], cell: usize, room: u8) -> Option<Cost>
     table[8 * cell + room as usize]
 }
 
-/// What is left to the end after a link, with so much room. (own rule)
+/// What is left to the end after an edge, with so much room. (own rule)
 pub fn rest_at(table: &[Option<Cost>], to: Option<usize>, room: u8) -> Option<Cost>
     requires { AreInRange table.now to room }
     ensures { result ≡ rest_at table.now to room }

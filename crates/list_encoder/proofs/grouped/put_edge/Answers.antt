@@ -6,7 +6,7 @@ use Rattle.list_encoder.proofs.grouped.put_edge.Goals as goal
 pub returns : goal.returns
 returns c =
     let groups = c.args.groups.now in
-    puts-one groups c.args.link c.in-Some.to (get_or groups c.in-Some.to c.index-groups-to.result) c.push.new.self c.in-Some.is
+    puts-one groups c.args.edge c.in-Some.to (get_or groups c.in-Some.to c.index-groups-to.result) c.push.new.self c.in-Some.is
     c.if-to-groups.false
     (slice_get-get_or groups c.in-Some.to c.index-groups-to.result c.if-to-groups.false)
     c.in_ok-push.ensures.items

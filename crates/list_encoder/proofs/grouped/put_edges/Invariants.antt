@@ -2,5 +2,5 @@ use Rattle.std.proofs.Common.{take}
 use Rattle.list_encoder.specs.Grouped.{PutsEdges}
 use Rattle.list_encoder.proofs.grouped.put_edges.Given as goal
 
-abbrev pub invariant-loop-link : goal.invariant-loop-link
-invariant-loop-link l = PutsEdges l.fn.groups (take l.link-index l.links) l.groups
+abbrev pub invariant-loop-edge : goal.invariant-loop-edge
+invariant-loop-edge l = PutsEdges l.fn.groups (take l.edge-index l.edges) l.groups

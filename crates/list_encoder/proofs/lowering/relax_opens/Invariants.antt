@@ -3,4 +3,4 @@ use Rattle.list_encoder.specs.Table.{RoomsRelaxed}
 use Rattle.list_encoder.proofs.lowering.relax_opens.Given as goal
 
 abbrev pub invariant-loop-room : goal.invariant-loop-room
-invariant-loop-room g l = RoomsRelaxed (g.L.Legs.seen l.legs) l.cells l.link false 1 l.room l.initial.table l.table l.changed
+invariant-loop-room g l = RoomsRelaxed (g.L.Legs.seen l.legs) l.cells l.edge false 1 l.room l.initial.table l.table l.changed

@@ -7,50 +7,50 @@ use Rattle.list_encoder.proofs.lowering.relax_room.Goals as goal
 
 pub rest_at-requires : goal.rest_at-requires
 rest_at-requires g c =
-    left-range (g.L.Legs.seen c.args.legs.now) c.requires.laws c.args.cells.now c.requires.cells c.args.table.now c.args.link
-    c.args.stays c.args.room c.args.left c.in-Some.behind c.requires.link c.requires.sound c.requires.room c.requires.left c.in-Some.is
+    left-range (g.L.Legs.seen c.args.legs.now) c.requires.laws c.args.cells.now c.requires.cells c.args.table.now c.args.edge
+    c.args.stays c.args.room c.args.left c.in-Some.behind c.requires.edge c.requires.sound c.requires.room c.requires.left c.in-Some.is
 
 pub plus-cost-requires-clause-containers : goal.plus-cost-requires-clause-containers
 plus-cost-requires-clause-containers g c =
-    let few = sum-few (g.L.Legs.seen c.args.legs.now) c.requires.laws c.args.cells.now c.requires.cells c.args.table.now c.args.link
-    c.args.stays c.args.room c.args.left c.in-Some.behind c.requires.link c.requires.sound c.requires.room c.requires.left c.in-Some.is
+    let few = sum-few (g.L.Legs.seen c.args.legs.now) c.requires.laws c.args.cells.now c.requires.cells c.args.table.now c.args.edge
+    c.args.stays c.args.room c.args.left c.in-Some.behind c.requires.edge c.requires.sound c.requires.room c.requires.left c.in-Some.is
     c.in-Some-rest_at.rest (sym c.rest_at.ensures ∙ c.in-Some-rest_at.is) in
     let same = ap (λ (x : Cost). x.containers) c.move_cost.ensures in
     omega (arith, few.0, same)
 
 pub plus-cost-requires-clause-hops : goal.plus-cost-requires-clause-hops
 plus-cost-requires-clause-hops g c =
-    let few = sum-few (g.L.Legs.seen c.args.legs.now) c.requires.laws c.args.cells.now c.requires.cells c.args.table.now c.args.link
-    c.args.stays c.args.room c.args.left c.in-Some.behind c.requires.link c.requires.sound c.requires.room c.requires.left c.in-Some.is
+    let few = sum-few (g.L.Legs.seen c.args.legs.now) c.requires.laws c.args.cells.now c.requires.cells c.args.table.now c.args.edge
+    c.args.stays c.args.room c.args.left c.in-Some.behind c.requires.edge c.requires.sound c.requires.room c.requires.left c.in-Some.is
     c.in-Some-rest_at.rest (sym c.rest_at.ensures ∙ c.in-Some-rest_at.is) in
     let same = ap (λ (x : Cost). x.hops) c.move_cost.ensures in
     omega (arith, few.1, same)
 
-pub overflow_mul-link : goal.overflow_mul-link
-overflow_mul-link g c =
-    let few = from-few (g.L.Legs.seen c.args.legs.now) c.requires.laws c.args.cells.now c.requires.cells c.args.table.now c.args.link
-    c.args.stays c.args.room c.args.left c.in-Some.behind c.requires.link c.requires.sound c.requires.room c.requires.left
+pub overflow_mul-edge : goal.overflow_mul-edge
+overflow_mul-edge g c =
+    let few = from-few (g.L.Legs.seen c.args.legs.now) c.requires.laws c.args.cells.now c.requires.cells c.args.table.now c.args.edge
+    c.args.stays c.args.room c.args.left c.in-Some.behind c.requires.edge c.requires.sound c.requires.room c.requires.left
     c.in-Some.is in
     omega (arith, few)
 
-pub overflow_add-link : goal.overflow_add-link
-overflow_add-link g c =
-    let few = from-few (g.L.Legs.seen c.args.legs.now) c.requires.laws c.args.cells.now c.requires.cells c.args.table.now c.args.link
-    c.args.stays c.args.room c.args.left c.in-Some.behind c.requires.link c.requires.sound c.requires.room c.requires.left
+pub overflow_add-edge : goal.overflow_add-edge
+overflow_add-edge g c =
+    let few = from-few (g.L.Legs.seen c.args.legs.now) c.requires.laws c.args.cells.now c.requires.cells c.args.table.now c.args.edge
+    c.args.stays c.args.room c.args.left c.in-Some.behind c.requires.edge c.requires.sound c.requires.room c.requires.left
     c.in-Some.is in
     omega (arith, few)
 
 pub lower-requires : goal.lower-requires
 lower-requires g c =
-    from-within (g.L.Legs.seen c.args.legs.now) c.requires.laws c.args.cells.now c.requires.cells c.args.table.now c.args.link
-    c.args.stays c.args.room c.args.left c.in-Some.behind c.requires.link c.requires.sound c.requires.room c.requires.left c.in-Some.is
+    from-within (g.L.Legs.seen c.args.legs.now) c.requires.laws c.args.cells.now c.requires.cells c.args.table.now c.args.edge
+    c.args.stays c.args.room c.args.left c.in-Some.behind c.requires.edge c.requires.sound c.requires.room c.requires.left c.in-Some.is
 
 pub returns : goal.returns
 returns g c =
-    let cost : c.plus-cost.result ≡ plus (move_cost c.args.stays c.args.link.hops) c.in-Some-rest_at.rest =
+    let cost : c.plus-cost.result ≡ plus (move_cost c.args.stays c.args.edge.hops) c.in-Some-rest_at.rest =
     c.plus-cost.ensures ∙ ap (λ (x : Cost). plus x c.in-Some-rest_at.rest) c.move_cost.ensures in
-    room-relaxed (g.L.Legs.seen c.args.legs.now) c.requires.laws c.args.cells.now c.requires.cells c.args.table.now c.args.link
-    c.args.stays c.args.room c.args.left c.in-Some.behind c.requires.link c.requires.sound c.requires.room c.requires.left c.in-Some.is
+    room-relaxed (g.L.Legs.seen c.args.legs.now) c.requires.laws c.args.cells.now c.requires.cells c.args.table.now c.args.edge
+    c.args.stays c.args.room c.args.left c.in-Some.behind c.requires.edge c.requires.sound c.requires.room c.requires.left c.in-Some.is
     c.lower.new.table c.in-Some-rest_at.rest c.lower.result (sym c.rest_at.ensures ∙ c.in-Some-rest_at.is)
-    (subst (λ (x : Cost). tables.Lowers c.args.table.now c.lower.new.table (8 * c.args.link.from + c.args.room) x c.lower.result) cost
+    (subst (λ (x : Cost). tables.Lowers c.args.table.now c.lower.new.table (8 * c.args.edge.from + c.args.room) x c.lower.result) cost
     c.lower.ensures)

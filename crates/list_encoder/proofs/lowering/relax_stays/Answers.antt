@@ -1,25 +1,25 @@
 use Rattle.std.proofs.Common.{◌+◌, Bool, true, sym, subst}
 use Rattle.list_encoder.specs.Table.{RoomsRelaxed}
-use Rattle.list_encoder.proofs.RelaxedRooms.{rooms-more, leaves, link-cell, link-free, rooms-barred}
+use Rattle.list_encoder.proofs.RelaxedRooms.{rooms-more, leaves, edge-cell, edge-free, rooms-barred}
 use Rattle.list_encoder.proofs.lowering.relax_stays.Goals as goal
 
 pub is_barred-requires-clause-cell : goal.is_barred-requires-clause-cell
 is_barred-requires-clause-cell g c =
-    link-cell (g.L.Legs.seen c.args.legs.now) c.args.cells.now c.args.link c.requires.cells c.requires.link
+    edge-cell (g.L.Legs.seen c.args.legs.now) c.args.cells.now c.args.edge c.requires.cells c.requires.edge
 
 pub returns-then-is_barred : goal.returns-then-is_barred
 returns-then-is_barred g c =
-    rooms-barred (g.L.Legs.seen c.args.legs.now) c.args.cells.now c.args.link true c.is_barred.result 0 8 c.args.table.now
-    c.requires.link c.is_barred.ensures c.if-is_barred.true c.requires.sound
+    rooms-barred (g.L.Legs.seen c.args.legs.now) c.args.cells.now c.args.edge true c.is_barred.result 0 8 c.args.table.now
+    c.requires.edge c.is_barred.ensures c.if-is_barred.true c.requires.sound
 
 pub loop-room-preserved : goal.loop-room-preserved
 loop-room-preserved g c =
     let v = g.L.Legs.seen c.args.legs.now in
-    subst (λ (b : Bool). RoomsRelaxed v c.args.cells.now c.args.link true 0 (c.loop-room.room + 1) c.args.table.now
+    subst (λ (b : Bool). RoomsRelaxed v c.args.cells.now c.args.edge true 0 (c.loop-room.room + 1) c.args.table.now
     c.relax_room-lowered.new.table b) (sym c.either-changed.ensures)
-    (rooms-more v c.args.cells.now c.args.link true 0 c.loop-room.room c.room_behind-left.result c.args.table.now c.loop-room.table
+    (rooms-more v c.args.cells.now c.args.edge true 0 c.loop-room.room c.room_behind-left.result c.args.table.now c.loop-room.table
     c.relax_room-lowered.new.table c.loop-room.changed c.relax_room-lowered.result c.loop-room.invariant c.relax_room-lowered.ensures
-    (leaves v c.args.cells.now c.args.link true c.loop-room.room c.args.from.now c.args.next.now c.room_behind-left.result c.requires.from
+    (leaves v c.args.cells.now c.args.edge true c.loop-room.room c.args.from.now c.args.next.now c.room_behind-left.result c.requires.from
     c.requires.next
-    (link-free v c.args.cells.now c.args.link true c.is_barred.result c.requires.link c.is_barred.ensures c.if-is_barred.false)
+    (edge-free v c.args.cells.now c.args.edge true c.is_barred.result c.requires.edge c.is_barred.ensures c.if-is_barred.false)
     c.room_behind-left.ensures))

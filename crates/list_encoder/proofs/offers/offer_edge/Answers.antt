@@ -7,14 +7,14 @@ use Rattle.list_encoder.proofs.offers.offer_edge.Goals as goal
 pub offer_way-requires-clause-from : goal.offer_way-requires-clause-from
 offer_way-requires-clause-from g c =
     let is = c.requires.offer.is_edge in
-    shape-read (g.L.Legs.seen c.args.legs.now) c.args.cells.now c.args.offer.link.from c.shape_of-from.result
-    (slice_get_within c.args.cells.now c.args.offer.link.from is.cell is.from) c.shape_of-from.ensures
+    shape-read (g.L.Legs.seen c.args.legs.now) c.args.cells.now c.args.offer.edge.from c.shape_of-from.result
+    (slice_get_within c.args.cells.now c.args.offer.edge.from is.cell is.from) c.shape_of-from.ensures
 
 pub offer_way-requires-2-clause-from : goal.offer_way-requires-2-clause-from
 offer_way-requires-2-clause-from g c =
     let is = c.requires.offer.is_edge in
-    shape-read (g.L.Legs.seen c.args.legs.now) c.args.cells.now c.args.offer.link.from c.shape_of-from.result
-    (slice_get_within c.args.cells.now c.args.offer.link.from is.cell is.from) c.shape_of-from.ensures
+    shape-read (g.L.Legs.seen c.args.legs.now) c.args.cells.now c.args.offer.edge.from c.shape_of-from.result
+    (slice_get_within c.args.cells.now c.args.offer.edge.from is.cell is.from) c.shape_of-from.ensures
 
 pub returns : goal.returns
 returns g c =

@@ -8,7 +8,7 @@ use Rattle.list_encoder.proofs.offers.offer_room.Goals as goal
 
 pub plus-cost-requires-clause-containers : goal.plus-cost-requires-clause-containers
 plus-cost-requires-clause-containers g c =
-    let few = sum-few (g.L.Legs.seen c.args.legs.now) c.requires.laws c.args.cells.now c.requires.cells c.args.table.now c.args.offer.link
+    let few = sum-few (g.L.Legs.seen c.args.legs.now) c.requires.laws c.args.cells.now c.requires.cells c.args.table.now c.args.offer.edge
     c.args.offer.stays c.args.room c.args.left c.args.offer.left c.requires.offer.is_edge c.requires.offer.sound c.requires.room
     c.requires.left
     (c.in-Some.is ∙ ap Some c.if-after-offer.false) c.args.offer.rest c.requires.offer.rest_is in
@@ -17,7 +17,7 @@ plus-cost-requires-clause-containers g c =
 
 pub plus-cost-requires-clause-hops : goal.plus-cost-requires-clause-hops
 plus-cost-requires-clause-hops g c =
-    let few = sum-few (g.L.Legs.seen c.args.legs.now) c.requires.laws c.args.cells.now c.requires.cells c.args.table.now c.args.offer.link
+    let few = sum-few (g.L.Legs.seen c.args.legs.now) c.requires.laws c.args.cells.now c.requires.cells c.args.table.now c.args.offer.edge
     c.args.offer.stays c.args.room c.args.left c.args.offer.left c.requires.offer.is_edge c.requires.offer.sound c.requires.room
     c.requires.left
     (c.in-Some.is ∙ ap Some c.if-after-offer.false) c.args.offer.rest c.requires.offer.rest_is in
@@ -26,7 +26,7 @@ plus-cost-requires-clause-hops g c =
 
 pub lower_open-requires-clause-within : goal.lower_open-requires-clause-within
 lower_open-requires-clause-within g c =
-    from-within (g.L.Legs.seen c.args.legs.now) c.requires.laws c.args.cells.now c.requires.cells c.args.table.now c.args.offer.link
+    from-within (g.L.Legs.seen c.args.legs.now) c.requires.laws c.args.cells.now c.requires.cells c.args.table.now c.args.offer.edge
     c.args.offer.stays c.args.room c.args.left c.args.offer.left c.requires.offer.is_edge c.requires.offer.sound c.requires.room
     c.requires.left
     (c.in-Some.is ∙ ap Some c.if-after-offer.false)
@@ -37,19 +37,19 @@ returns g c =
     let offer = c.args.offer in
     let t = c.args.table.now in
     let new = c.lower_open.new in
-    let moved = move_cost offer.stays offer.link.hops in
+    let moved = move_cost offer.stays offer.edge.hops in
     let cost : c.plus-cost.result ≡ plus moved offer.rest =
     c.plus-cost.ensures ∙ ap (λ (x : Cost). plus x offer.rest) c.move_cost.ensures in
-    let lowered : IsLoweredAt t new.table new.queue.waiting new.queue.done.items offer.rest (8 * offer.link.from + c.args.room)
+    let lowered : IsLoweredAt t new.table new.queue.waiting new.queue.done.items offer.rest (8 * offer.edge.from + c.args.room)
     (plus moved offer.rest) c.in_ok-lower_open.field-0 =
-    subst (λ (x : Cost). IsLoweredAt t new.table new.queue.waiting new.queue.done.items offer.rest (8 * offer.link.from + c.args.room) x
+    subst (λ (x : Cost). IsLoweredAt t new.table new.queue.waiting new.queue.done.items offer.rest (8 * offer.edge.from + c.args.room) x
     c.in_ok-lower_open.field-0) cost
     (c.in_ok-lower_open.ensures.lowered offer.rest c.requires.offer.front
     (subst (AtMost offer.rest) (sym cost) (at-most-more moved offer.rest))) in
     room-lowered v c.args.cells.now t c.args.queue.now.waiting c.args.queue.now.done.items offer c.requires.offer c.args.room c.args.left
     c.in-Some.after new.table new.queue.waiting new.queue.done.items c.in_ok-lower_open.field-0 c.in-Some.is c.if-after-offer.false
     c.lower_open.ensures.done c.requires.room
-    (room-relaxed (g.L.Legs.seen c.args.legs.now) c.requires.laws c.args.cells.now c.requires.cells c.args.table.now c.args.offer.link
+    (room-relaxed (g.L.Legs.seen c.args.legs.now) c.requires.laws c.args.cells.now c.requires.cells c.args.table.now c.args.offer.edge
     c.args.offer.stays c.args.room c.args.left c.args.offer.left c.requires.offer.is_edge c.requires.offer.sound c.requires.room
     c.requires.left
     (c.in-Some.is ∙ ap Some c.if-after-offer.false) new.table offer.rest c.in_ok-lower_open.field-0 c.requires.offer.rest_is

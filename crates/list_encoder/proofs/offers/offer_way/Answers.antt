@@ -1,10 +1,10 @@
-use Rattle.list_encoder.proofs.RelaxedRooms.{leaves, link-cell, link-free}
+use Rattle.list_encoder.proofs.RelaxedRooms.{leaves, edge-cell, edge-free}
 use Rattle.list_encoder.proofs.Offering.{offer-later, way-barred, way-more}
 use Rattle.list_encoder.proofs.offers.offer_way.Goals as goal
 
 pub is_barred-requires-clause-cell : goal.is_barred-requires-clause-cell
 is_barred-requires-clause-cell g c =
-    link-cell (g.L.Legs.seen c.args.legs.now) c.args.cells.now c.args.offer.link c.requires.cells c.requires.offer.is_edge
+    edge-cell (g.L.Legs.seen c.args.legs.now) c.args.cells.now c.args.offer.edge c.requires.cells c.requires.offer.is_edge
 
 pub returns-then-is_barred : goal.returns-then-is_barred
 returns-then-is_barred g c =
@@ -16,9 +16,9 @@ offer_room-requires-clause-left g c =
     let v = g.L.Legs.seen c.args.legs.now in
     let offer = c.args.offer in
     let cells = c.args.cells.now in
-    leaves v cells offer.link offer.stays c.loop-room.room c.args.from.now c.args.next.now c.room_behind-left.result c.requires.from
+    leaves v cells offer.edge offer.stays c.loop-room.room c.args.from.now c.args.next.now c.room_behind-left.result c.requires.from
     c.requires.next
-    (link-free v cells offer.link offer.stays c.is_barred.result c.requires.offer.is_edge c.is_barred.ensures c.if-is_barred.false)
+    (edge-free v cells offer.edge offer.stays c.is_barred.result c.requires.offer.is_edge c.is_barred.ensures c.if-is_barred.false)
     c.room_behind-left.ensures
 
 pub loop-room-preserved : goal.loop-room-preserved
@@ -33,9 +33,9 @@ loop-room-preserved g c =
           c.loop-room.invariant.is c.in_ok-offer_room.ensures.advances;
       so = way-more v cells offer c.args.table.now c.loop-room.table c.offer_room.new.table c.args.queue.now.done.items old.done.items
           new.done.items old.waiting new.waiting c.loop-room.room c.room_behind-left.result
-          (leaves v cells offer.link offer.stays c.loop-room.room c.args.from.now c.args.next.now c.room_behind-left.result c.requires.from
+          (leaves v cells offer.edge offer.stays c.loop-room.room c.args.from.now c.args.next.now c.room_behind-left.result c.requires.from
           c.requires.next
-          (link-free v cells offer.link offer.stays c.is_barred.result c.requires.offer.is_edge c.is_barred.ensures c.if-is_barred.false)
+          (edge-free v cells offer.edge offer.stays c.is_barred.result c.requires.offer.is_edge c.is_barred.ensures c.if-is_barred.false)
           c.room_behind-left.ensures)
           c.loop-room.invariant.so c.in_ok-offer_room.ensures;
     }

@@ -15,7 +15,7 @@ loop-sid-preserved g c =
       | in-Some w ↦
           subst Is (sym (w.best-is ∙ w.better-best.ensures))
           (ends-add v c.args.cells.now c.args.table.now c.args.spot c.sids_at-sid-items.result.now c.loop-sid.sid-index c.loop-sid.best
-          w.pick_link.result _ c.requires.spot sid refl refl (sym c.finish.ensures ∙ w.in-Some.is) c.loop-sid.invariant w.pick_link.ensures)
+          w.pick_edge.result _ c.requires.spot sid refl refl (sym c.finish.ensures ∙ w.in-Some.is) c.loop-sid.invariant w.pick_edge.ensures)
       | in_default w ↦
           subst Is (sym w.best-is)
           (ends-pass v c.args.cells.now c.args.table.now c.args.spot c.sids_at-sid-items.result.now c.loop-sid.sid-index _ c.loop-sid.best

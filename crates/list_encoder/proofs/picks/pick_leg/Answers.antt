@@ -10,15 +10,15 @@ pub loop-to-preserved : goal.loop-to-preserved
 loop-to-preserved g c =
     let v = g.L.Legs.seen c.args.legs.now in
     let Is : Option Pick → Type 0 = λ o. LegsPicked v c.args.cells.now c.args.table.now c.args.spot (c.loop-to.to + 1) o in
-    let none : c.link_into.result ≡ None → (link : CellEdge) → link.from ≡ c.args.spot.place → link.to ≡ Some c.loop-to.to
-    → ¬ IsCellEdge v c.args.cells.now link =
-    λ e. subst (λ (o : Option CellEdge). IsEdgeInto v c.args.cells.now c.args.spot.place c.loop-to.to o) e c.link_into.ensures in
-    elim c.match-link_into.branch [
+    let none : c.edge_into.result ≡ None → (edge : CellEdge) → edge.from ≡ c.args.spot.place → edge.to ≡ Some c.loop-to.to
+    → ¬ IsCellEdge v c.args.cells.now edge =
+    λ e. subst (λ (o : Option CellEdge). IsEdgeInto v c.args.cells.now c.args.spot.place c.loop-to.to o) e c.edge_into.ensures in
+    elim c.match-edge_into.branch [
       | in-Some w ↦
           subst Is (sym (w.best-is ∙ w.better-best.ensures))
-          (legs-add v c.args.cells.now c.args.table.now c.args.spot c.loop-to.to c.loop-to.best w.pick_link.result w.in-Some.link
+          (legs-add v c.args.cells.now c.args.table.now c.args.spot c.loop-to.to c.loop-to.best w.pick_edge.result w.in-Some.edge
           w.in-Some.ensures.0
-          w.in-Some.ensures.1 w.in-Some.ensures.2 c.loop-to.invariant w.pick_link.ensures)
+          w.in-Some.ensures.1 w.in-Some.ensures.2 c.loop-to.invariant w.pick_edge.ensures)
       | in_default w ↦
           subst Is (sym w.best-is)
           (legs-pass v c.args.cells.now c.args.table.now c.args.spot c.loop-to.to c.loop-to.best (none w.in_default.is) c.loop-to.invariant)

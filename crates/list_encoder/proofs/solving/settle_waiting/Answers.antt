@@ -28,7 +28,7 @@ offer_all-requires-clause-lead g c =
     c.loop-next.queue.waiting
     c.settle_first.new.queue.waiting c.loop-next.queue.done.items c.in-Some.next c.loop-next.invariant c.in-Some.ensures.first
     c.in-Some.ensures.least c.in-Some.ensures.update) c.index-into-next.is)
-    c.as_slice-links.result.now c.as_slice-links.ensures.value c.cost_of.result c.cost_of.ensures
+    c.as_slice-edges.result.now c.as_slice-edges.ensures.value c.cost_of.result c.cost_of.ensures
     c.requires.edges
 
 pub loop-next-smaller : goal.loop-next-smaller
@@ -43,7 +43,7 @@ loop-next-smaller g c =
     c.loop-next.queue.waiting
     c.settle_first.new.queue.waiting c.loop-next.queue.done.items c.in-Some.next c.loop-next.invariant c.in-Some.ensures.first
     c.in-Some.ensures.least c.in-Some.ensures.update) c.index-into-next.is)
-    c.as_slice-links.result.now c.as_slice-links.ensures.value c.cost_of.result c.cost_of.ensures
+    c.as_slice-edges.result.now c.as_slice-edges.ensures.value c.cost_of.result c.cost_of.ensures
     c.offer_all.new.table c.offer_all.new.queue.waiting c.offer_all.new.queue.done.items c.in_ok-offer_all.ensures
 
 pub loop-next-preserved : goal.loop-next-preserved
@@ -58,7 +58,7 @@ loop-next-preserved g c =
     c.loop-next.queue.waiting
     c.settle_first.new.queue.waiting c.loop-next.queue.done.items c.in-Some.next c.loop-next.invariant c.in-Some.ensures.first
     c.in-Some.ensures.least c.in-Some.ensures.update) c.index-into-next.is)
-    c.as_slice-links.result.now c.as_slice-links.ensures.value c.cost_of.result c.cost_of.ensures
+    c.as_slice-edges.result.now c.as_slice-edges.ensures.value c.cost_of.result c.cost_of.ensures
     c.offer_all.new.table c.offer_all.new.queue.waiting c.offer_all.new.queue.done.items c.in_ok-offer_all.ensures
 
 pub returns : goal.returns

@@ -2,11 +2,11 @@ use Rattle.std.proofs.Common.{Option, subst, sym}
 use Rattle.list_encoder.specs.declared.picks.Pick.{Pick}
 use Rattle.list_encoder.specs.Picks.{PicksEdge}
 use Rattle.list_encoder.proofs.Picking.{both-moves}
-use Rattle.list_encoder.proofs.picks.pick_link.Goals as goal
+use Rattle.list_encoder.proofs.picks.pick_edge.Goals as goal
 
 pub returns : goal.returns
 returns g c =
-    subst (λ (o : Option Pick). PicksEdge (g.L.Legs.seen c.args.legs.now) c.args.cells.now c.args.table.now c.args.spot c.args.link o)
+    subst (λ (o : Option Pick). PicksEdge (g.L.Legs.seen c.args.legs.now) c.args.cells.now c.args.table.now c.args.spot c.args.edge o)
     (sym c.better.ensures)
-    (both-moves (g.L.Legs.seen c.args.legs.now) c.args.cells.now c.args.table.now c.args.spot c.args.link c.pick_move-stays.result
+    (both-moves (g.L.Legs.seen c.args.legs.now) c.args.cells.now c.args.table.now c.args.spot c.args.edge c.pick_move-stays.result
     c.pick_move-opens.result c.pick_move-stays.ensures c.pick_move-opens.ensures)
