@@ -135,7 +135,7 @@ fn last_by<L: Legs>(
     if is_barred(legs, state, step.stays, n) {
         return None;
     }
-    let _ = room_behind(step.stays, from, state.room, &next)?;
+    room_behind(step.stays, from, state.room, &next)?;
     Some(move_cost(step.stays, hops))
 }
 

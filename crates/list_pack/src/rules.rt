@@ -3,6 +3,7 @@
 ghost use Rattle.std.specs.Prelude.{◌≡◌, ◌+◌, ◌<◌, ◌≤◌, ◌&&◌, ◌↔◌, nat_le, Option, None, map, IsTrue, IfSome};
 ghost use Rattle.std.specs.Option.{option_map};
 ghost use Rattle.std.specs.List.{list_all, list_any};
+ghost use Rattle.net_model.specs.Network.{Network};
 ghost use Rattle.net_model.specs.Rules as net_rules;
 ghost use Rattle.list_pack.specs.SidLists.{IsLegalList, kind_csid, list_sid, sid_block, prefixes_of, prefixes_in, is_named};
 ghost use Rattle.list_pack.specs.PathLists as paths;
@@ -102,12 +103,11 @@ fn taken_with(net: &Net, asked: &Option<Block>, used: u32, sid: &Prefix) -> u32
 }
 
 /// how much the first SID of a container takes
-fn first_taken(net: &Net, asked: &Option<Block>, sid: &Prefix) -> u32
-    ensures value { result ≡ rules.first_taken (option_map sid_block asked.now)
-        (list_sid net.now sid.now) }
+fn first_taken(asked: &Option<Block>, sid: &Prefix) -> u32
+    ensures value { (net : Network) → result
+        ≡ rules.first_taken (option_map sid_block asked.now) (list_sid net sid.now) }
     ensures few { result ≤ 128 }
 {
-    let _ = net;
     match asked {
         None => u32::from(sid.len()),
         Some(_) => 1,
@@ -149,7 +149,7 @@ fn keeps(net: &Net, asked: &Option<Block>, first: &Prefix, more: &[Prefix]) -> b
         return false;
     }
     let mut last = first;
-    let mut used = first_taken(net, asked, first);
+    let mut used = first_taken(asked, first);
     for sid in more {
         let taken = taken_with(net, asked, used, sid);
         if taken > 128 || !stays_in(net, asked, taken, last, sid) {

@@ -1,6 +1,7 @@
 //! Traces, read.
 
 ghost use Rattle.std.specs.Prelude.{◌≡◌, ◌<◌, ◌≤◌, IfOk, length, map};
+ghost use Rattle.net_model.specs.Network.{Network};
 ghost use Rattle.trace_replay.specs.Reading.{Reads, bad_from, behind_head, behind_packet, is_over, phase_behind, pieces_of};
 
 use crate::line::{Line, read_line};
@@ -101,10 +102,9 @@ fn behind_packet(line: &Option<Line>) -> Option<Phase>
 
 /// How far a trace has come after its first line, if this is it.
 #[tactic(auto, unfolding(crate::specs::Lines::head_text))]
-fn behind_first(net: &Net, line: &[u8]) -> Option<Phase>
-    ensures { result ≡ phase_behind net.now Phase.Begins line.now }
+fn behind_first(line: &[u8]) -> Option<Phase>
+    ensures { (net : Network) → result ≡ phase_behind net Phase.Begins line.now }
 {
-    let _ = net.nodes();
     if line == b"srv6 trace 1".as_slice() {
         return Some(Phase::Empty);
     }
@@ -121,7 +121,7 @@ fn phase_behind(
     ensures { IfOk result (λ next. next ≡ phase_behind net.now phase line.now) }
 {
     match phase {
-        Phase::Begins => Ok(behind_first(net, line)),
+        Phase::Begins => Ok(behind_first(line)),
         Phase::Empty => Ok(behind_head(&read_line(alloc, net, line)?)),
         Phase::Packets => Ok(behind_packet(&read_line(alloc, net, line)?)),
         Phase::Over => Ok(None),
