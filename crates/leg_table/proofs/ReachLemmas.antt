@@ -21,7 +21,7 @@ use Rattle.walk_rules.proofs.PublicLaws.{way-from}
 use Rattle.intent_reader.specs.Rules.{first_end, stand_after}
 use Rattle.intent_reader.specs.declared.intent.Step.{Step}
 use Rattle.intent_reader.specs.declared.intent.Step.TheVariants.{Links, Function}
-use Rattle.leg_table.specs.declared.ride.Behind.{Behind}
+use Rattle.leg_table.specs.declared.step_links.Behind.{Behind}
 use Rattle.leg_table.specs.Tasks.{has_link, left_after}
 use Rattle.leg_table.specs.Ride.{Ride, more_lowered, ride_on, ride_by, ride_end, ride_of}
 use Rattle.leg_table.specs.Sids.{sid_address}

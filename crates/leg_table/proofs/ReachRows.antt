@@ -11,7 +11,7 @@ use Rattle.intent_reader.specs.Rules.{first_end, far_node, function_node, stand_
 use Rattle.intent_reader.specs.declared.intent.Step.{Step}
 use Rattle.intent_reader.specs.declared.intent.Step.TheVariants.{Links, Function}
 use Rattle.leg_table.specs.declared.reach.Reach.{Reach}
-use Rattle.leg_table.specs.declared.ride.Behind.{Behind}
+use Rattle.leg_table.specs.declared.step_links.Behind.{Behind}
 use Rattle.leg_table.specs.Reach.{stand, AreWays, IsReach, AreReaches, AreLater}
 use Rattle.leg_table.proofs.Courses.{end-within}
 use Rattle.leg_table.proofs.Links.{far_end-is}

@@ -11,7 +11,7 @@ use Rattle.walk_rules.specs.declared.place.Place.{Place}
 use Rattle.intent_reader.specs.Rules.{IsIntent, stand_after, node_after}
 use Rattle.intent_reader.specs.declared.intent.Step.{Step}
 use Rattle.intent_reader.specs.declared.intent.Intent.{Intent}
-use Rattle.leg_table.specs.declared.ride.Behind.{Behind}
+use Rattle.leg_table.specs.declared.step_links.Behind.{Behind}
 use Rattle.leg_table.specs.Course.{way_behind}
 use Rattle.leg_table.specs.Leg.{is_start, place_from, start_of}
 use Rattle.leg_table.specs.declared.reach.Reach.{Reach}

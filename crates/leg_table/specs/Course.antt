@@ -2,7 +2,7 @@
 use Rattle.std.specs.Prelude.{ℕ, drop, Option, Some, None}
 use Rattle.std.specs.Option.{option_map, option_and_then}
 use Rattle.net_model.specs.Network.{Network}
-use Rattle.leg_table.specs.declared.ride.Behind.{Behind}
+use Rattle.leg_table.specs.declared.step_links.Behind.{Behind}
 use Rattle.leg_table.specs.Ride.{Ride, ride_of}
 use Rattle.leg_table.specs.Leg.{left_behind, if_none_left, start_of}
 use Rattle.leg_table.specs.Sids.{sid_address}

@@ -11,7 +11,7 @@ use Rattle.walk_rules.specs.Relation.{IsPlace}
 use Rattle.intent_reader.specs.Rules.{stand_after, node_after}
 use Rattle.intent_reader.specs.declared.intent.Step.{Step}
 use Rattle.intent_reader.specs.declared.intent.Intent.{Intent}
-use Rattle.leg_table.specs.declared.ride.Behind.{Behind}
+use Rattle.leg_table.specs.declared.step_links.Behind.{Behind}
 use Rattle.leg_table.specs.declared.reach.Reach.{Reach}
 use Rattle.leg_table.specs.Tasks.{left_after}
 use Rattle.leg_table.specs.Ride.{one_if, all_in_step, ride_of}

@@ -19,8 +19,8 @@
 mod laws;
 mod nests;
 mod reach;
-mod ride;
 mod rows;
+mod step_links;
 mod strict_legs;
 
 pub use laws::{

@@ -7,8 +7,8 @@ ghost use Rattle.walk_rules.specs.Relation.{IsPlace};
 ghost use Rattle.intent_reader.specs.Rules as rules;
 ghost use Rattle.leg_table.specs.Reach.{way_along, stand, AreWays, IsReach, AreReaches, AreLater, way_at, way_over, way_by};
 
-use crate::ride::{Behind, all_in_step, left_after};
 use crate::rows::node_behind;
+use crate::step_links::{Behind, all_in_step, left_after};
 use base::NoMemory;
 use intent_reader::Step;
 use net_model::{Net, NodeTable};

@@ -5,7 +5,7 @@ ghost use Rattle.intent_reader.specs.Rules as rules;
 ghost use Rattle.leg_table.specs.Sids as sids;
 ghost use Rattle.leg_table.specs.Table.{AreRows};
 
-use crate::ride::first_end;
+use crate::step_links::first_end;
 use base::{NoMemory, Seq};
 use intent_reader::{Intent, Step};
 use net_model::Net;

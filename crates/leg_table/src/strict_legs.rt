@@ -15,8 +15,8 @@ ghost use Rattle.flat_networks.specs.Units.{AreNestedUnits};
 
 use crate::nests::{Units, nested_of, stays};
 use crate::reach::{Reach, reaches_of, way_at, way_from};
-use crate::ride::Behind;
 use crate::rows::{Row, is_sid_at, rows_of};
+use crate::step_links::Behind;
 use base::NoMemory;
 use intent_reader::{Intent, Step};
 use list_pack::{Leg, Legs, ListLegs, Shape};

@@ -30,7 +30,7 @@ use Rattle.net_words.specs.declared.link.DescribedLink.{DescribedLink}
 use Rattle.net_words.specs.declared.route.DescribedRoute.{DescribedRoute}
 use Rattle.net_words.specs.declared.policy.DescribedPolicy.{DescribedPolicy}
 use Rattle.net_words.specs.declared.sid.DescribedSid.{DescribedSid}
-use Rattle.net_words.specs.declared.prefixes.FamilyPrefix.{FamilyPrefix}
+use Rattle.net_words.specs.declared.family_prefix.FamilyPrefix.{FamilyPrefix}
 use Rattle.net_words.specs.declared.description.Description.{Description}
 use Rattle.net_words.specs.Prefixes.{of_family, or_else, family_prefix_of, family_prefix_in}
 use Rattle.net_words.specs.Words.{block_kind_of, csid_bits_of, behaviour_of, csid_of, flavour_of}

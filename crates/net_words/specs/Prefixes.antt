@@ -11,7 +11,7 @@ use Rattle.text_faults.specs.declared.kind.FaultKind.TheVariants as kinds
 use Rattle.text_faults.specs.Faults.{fault_at}
 use Rattle.srv6_rules.specs.declared.sid.Family.{Family}
 use Rattle.srv6_rules.specs.declared.sid.Family.TheVariants.{V6, V4}
-use Rattle.net_words.specs.declared.prefixes.FamilyPrefix.{FamilyPrefix}
+use Rattle.net_words.specs.declared.family_prefix.FamilyPrefix.{FamilyPrefix}
 use Rattle.toml_words.specs.Reading.{◌>>=◌, or_fault}
 use Rattle.toml_words.specs.Tree.{text_in}
 

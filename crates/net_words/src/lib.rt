@@ -8,13 +8,14 @@
 
 mod block;
 mod description;
+mod family_prefix;
+pub mod figures;
 mod intent;
 mod limits;
 mod link;
 mod node;
 mod numbers;
 mod policy;
-mod prefixes;
 mod route;
 mod sid;
 mod step;
@@ -22,12 +23,12 @@ mod words;
 
 pub use block::DescribedBlock;
 pub use description::{Description, describe, read_description};
+pub use family_prefix::FamilyPrefix;
 pub use intent::{DescribedIntent, Mode, describe_intent, read_intent_words};
 pub use limits::{DEFAULT_CONTAINERS, MAX_CONTAINERS, MAX_STEPS};
 pub use link::DescribedLink;
 pub use node::DescribedNode;
 pub use policy::DescribedPolicy;
-pub use prefixes::FamilyPrefix;
 pub use route::DescribedRoute;
 pub use sid::{BehaviourWord, DescribedSid, Flavour};
 pub use step::DescribedStep;

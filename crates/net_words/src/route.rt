@@ -8,7 +8,7 @@ ghost use Rattle.text_faults.specs.declared.fault.TextFault.{TextFault};
 ghost use Rattle.text_faults.specs.Reading.{Gives};
 ghost use Rattle.net_words.specs.Description.{route_of};
 
-use crate::prefixes::FamilyPrefix;
+use crate::family_prefix::FamilyPrefix;
 use base::Seq;
 use net_model::{LAST_TABLE, MAX_LINKS_OF_SET, Name};
 use std::alloc::Global;

@@ -23,6 +23,7 @@ pub(crate) trait Word: Sized {
 pub(crate) fn word_in<W: Word>(value: &Value, place: FaultPlace, key: Key) -> Result<W, TextFault>
     ensures { result ≡ word_in W.meaning place key (view value.now) }
 {
+    // each kind of value is asked with its key, whether its faults name it or not
     let _ = key;
     let word = text_in(value, place)?;
     meant(W::meant_by(word), place)

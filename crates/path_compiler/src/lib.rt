@@ -12,9 +12,9 @@
 
 mod certificates;
 mod compiled;
+mod compiling;
 pub mod laws;
-mod lists;
 
 pub use certificates::checked_over;
 pub use compiled::{CompileFault, Compiled};
-pub use lists::{compile, compile_over};
+pub use compiling::{compile, compile_over};

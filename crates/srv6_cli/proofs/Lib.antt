@@ -1,6 +1,6 @@
 pub mod Completing
 pub mod Consequences
-pub mod Serving
+pub mod ServeLaws
 pub mod Stops
 pub mod Sureness
 pub mod Usage

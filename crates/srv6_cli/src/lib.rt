@@ -8,8 +8,8 @@
 
 mod commands;
 pub mod laws;
-mod top;
+mod serving;
 
 pub use command_output::{MAX_INPUT_BYTES, NodeName, Refusal, Status};
 pub use generate_commands::{MAX_PACKETS, Summary, summary};
-pub use top::serve;
+pub use serving::serve;

@@ -1,4 +1,4 @@
-use Rattle.leg_table.specs.declared.ride.Behind.{Behind}
+use Rattle.leg_table.specs.declared.step_links.Behind.{Behind}
 use Rattle.std.proofs.Common.{Option, subst, sym, ◌≤◌}
 use Rattle.std.specs.Prelude.{IfSome}
 use Rattle.walk_rules.specs.Way.{way_in}

@@ -1,7 +1,7 @@
 use Rattle.srv6_cli.specs.Command.{command_of}
 use Rattle.command_output.specs.Verbs.{words_of}
-use Rattle.srv6_cli.proofs.Serving.{serves, told_whole}
-use Rattle.srv6_cli.proofs.top.serve.Goals as goal
+use Rattle.srv6_cli.proofs.ServeLaws.{serves, told_whole}
+use Rattle.srv6_cli.proofs.serving.serve.Goals as goal
 
 pub conclude-requires : goal.conclude-requires
 conclude-requires g c = told_whole _ c.command-answer.result _ _ c.command-answer.ensures

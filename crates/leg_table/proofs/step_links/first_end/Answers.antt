@@ -1,6 +1,6 @@
 use Rattle.std.proofs.Common.{◌∙◌}
 use Rattle.leg_table.proofs.Courses.{first_end-far, end-within}
-use Rattle.leg_table.proofs.ride.first_end.Goals as goal
+use Rattle.leg_table.proofs.step_links.first_end.Goals as goal
 
 pub returns-clause-value : goal.returns-clause-value
 returns-clause-value c = c.far_end.ensures ∙ first_end-far c.args.net.now c.args.set.now c.requires.some

@@ -1,4 +1,4 @@
-//! The links of a step, where they end, and what is left after an execution.
+//! The links of a step, where they end, and what is left of the steps after an execution.
 
 ghost use Rattle.std.specs.Prelude.{◌≡◌, ◌≤◌, ◌<◌, length, IfSome};
 ghost use Rattle.std.specs.List.{list_all};

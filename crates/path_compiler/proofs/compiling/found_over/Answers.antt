@@ -2,7 +2,7 @@ use Rattle.std.proofs.Common.{subst}
 use Rattle.net_model.specs.Network.{Network}
 use Rattle.list_pack.specs.Meaning.{Means}
 use Rattle.path_compiler.proofs.Answering.{result-found}
-use Rattle.path_compiler.proofs.lists.found_over.Goals as goal
+use Rattle.path_compiler.proofs.compiling.found_over.Goals as goal
 
 pub returns : goal.returns
 returns g c =

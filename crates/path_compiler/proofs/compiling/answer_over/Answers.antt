@@ -2,7 +2,7 @@ use Rattle.std.proofs.Common.{sym, ◌∙◌, subst}
 use Rattle.net_model.specs.Network.{Network}
 use Rattle.list_pack.specs.Meaning.{Means}
 use Rattle.path_compiler.proofs.Answering.{no-list}
-use Rattle.path_compiler.proofs.lists.answer_over.Goals as goal
+use Rattle.path_compiler.proofs.compiling.answer_over.Goals as goal
 
 pub returns-then-is_empty : goal.returns-then-is_empty
 returns-then-is_empty g c =

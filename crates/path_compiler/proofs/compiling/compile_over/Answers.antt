@@ -2,7 +2,7 @@ use Rattle.std.proofs.Common.{subst}
 use Rattle.net_model.specs.Network.{Network}
 use Rattle.list_pack.specs.Meaning.{Means}
 use Rattle.path_compiler.proofs.Handing.{none-less}
-use Rattle.path_compiler.proofs.lists.compile_over.Goals as goal
+use Rattle.path_compiler.proofs.compiling.compile_over.Goals as goal
 
 pub returns-clause-handing : goal.returns-clause-handing
 returns-clause-handing g c =

@@ -64,30 +64,6 @@ fn found_over<L: ListLegs>(
     compiled_of(alloc, net, reduced, solution)
 }
 
-/// a list that was found, judged by the intent's bounds
-fn judged<L: ListLegs>(
-    net: &Net,
-    intent: &Intent,
-    legs: &L,
-    found: Compiled,
-) -> Result<Compiled, CompileFault>
-    requires flat { flatness_of net.now ≡ Ok tt }
-    requires found { IsFound (L.seen legs.now) net.now (L.realizes legs.now) (L.executes legs.now)
-        intent.now.reduced found }
-    ensures { AnswersOver (L.seen legs.now) net.now (L.realizes legs.now) (L.executes legs.now)
-        intent.now result }
-{
-    let _ = net;
-    let _ = legs;
-    if found.containers > intent.max_containers {
-        return Err(CompileFault::TooLong { found });
-    }
-    if found.need >= u32::from(intent.hop_limit) {
-        return Err(CompileFault::HopLimit { found });
-    }
-    Ok(found)
-}
-
 /// the answer over any legs of a flat network
 fn answer_over<L: ListLegs>(
     alloc: Global,
@@ -108,10 +84,17 @@ fn answer_over<L: ListLegs>(
     if solution.path.as_slice().is_empty() {
         return Err(CompileFault::NoList { solution });
     }
-    match found_over(alloc, net, intent.reduced, legs, solution) {
-        Ok(found) => judged(net, intent, legs, found),
-        Err(NoMemory) => Err(CompileFault::NoMemory),
+    let found = match found_over(alloc, net, intent.reduced, legs, solution) {
+        Ok(found) => found,
+        Err(NoMemory) => return Err(CompileFault::NoMemory),
+    };
+    if found.containers > intent.max_containers {
+        return Err(CompileFault::TooLong { found });
     }
+    if found.need >= u32::from(intent.hop_limit) {
+        return Err(CompileFault::HopLimit { found });
+    }
+    Ok(found)
 }
 
 /// Compiles to the least list over any legs of a flat network that mean what their lists realize:
