@@ -35,12 +35,31 @@ module _ {L E T N P H X : Type 0} (w : World L E T N P H X) where
   enough_by m (Exposes sid place inside) ts e ih h = h
   enough_by m Loses ts e ih h = cc
 
-  ride-enough : (m : ℕ) (ts : List T) (place : P) (own : H) (e : End T N (Met P H X)) → met_end m ts (open_at place own) ≡ Some e
+  pub ride-enough : (m : ℕ) (ts : List T) (place : P) (own : H) (e : End T N (Met P H X)) → met_end m ts (open_at place own) ≡ Some e
       → met_end (suc (length ts)) ts (open_at place own) ≡ Some e
   unfolding end_of
   ride-enough zero ts place own e h = cc
   ride-enough (suc m) ts place own e h =
       enough_by m (w.look place own) ts e (λ ts place own g. ride-enough m ts place own e g) h
+
+  -- ---- a ride for all choices
+
+  pub ride-all : (ts : List T) (place : P) (own : H) → AreJoined w ts
+      → ForAllChoices w.events (met_move w) ts (open_at place own) ↔ ((e : End T N (Met P H X)) × (ride_of w ts place own ≡ Some e))
+  unfolding ride_of
+  ride-all ts place own joined = (
+    λ all. let one = choices-one w.events (met_move w) ts (open_at place own) all in
+        (one.end, ride-enough one.fuel ts place own one.end one.gives),
+    λ r. one-choices w.events (met_move w) ts (open_at place own) (met-joined w ts joined)
+        (record { fuel = suc (length ts); end = r.0; gives = r.1 }),
+  )
+
+  pub ride-each : (ts : List T) (place : P) (own : H) → AreJoined w ts → (e : End T N (Met P H X)) → ride_of w ts place own ≡ Some e
+      → (pick : ℕ → ℕ) (r : Reaches w.events (met_move w) ts (open_at place own) pick) → SameEnd e r
+  unfolding ride_of
+  ride-each ts place own joined e ride pick r =
+      choices-agree w.events (met_move w) ts (open_at place own) (met-joined w ts joined)
+      (record { fuel = suc (length ts); end = e; gives = ride }) pick r
 
   -- ---- a leg behind a header
 

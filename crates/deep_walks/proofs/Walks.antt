@@ -133,24 +133,24 @@ module _ {L E N T S R : Type 0} (events : Events L E T) (move : S → Move L E N
   -- ---- from the one walk to each choice
 
   -- a walk under choices, if it is done, ends as a walk along steps
-  record Agrees (ts : List T) (o : Option (Got E N R)) (e : End T N R) : Type 0 where
-    got : Got E N R
-    gives : o ≡ Some got
-    along : left_by events ts got.trace ≡ Some e.left
-    sids : got.sids ≡ e.sids
-    result : got.result ≡ e.result
+  pub record Agrees (ts : List T) (o : Option (Got E N R)) (e : End T N R) : Type 0 where
+    pub got : Got E N R
+    pub gives : o ≡ Some got
+    pub along : left_by events ts got.trace ≡ Some e.left
+    pub sids : got.sids ≡ e.sids
+    pub result : got.result ≡ e.result
 
   joined-at : (ts : List T) (s : S) → AllJoined events move ts → AllByRecursion (λ t. LeadsOn events t (move s)) ts
   joined-at [] s all = tt
   joined-at (t ∷ ts) s all = (all.0 s, joined-at ts s all.1)
 
-  up_by : (more : ℕ) (m : Move L E N S R) (ts : List T) (pick : ℕ → ℕ) (taken : ℕ) (e : End T N R)
+  one-each_by : (more : ℕ) (m : Move L E N S R) (ts : List T) (pick : ℕ → ℕ) (taken : ℕ) (e : End T N R)
       → ((ts : List T) (s : S) (taken : ℕ) (e : End T N R) → AllJoined events move ts → end_of events move more ts s ≡ Some e
       → Agrees ts (got_of events move more s pick taken) e)
       → AllByRecursion (λ t. LeadsOn events t m) ts → AllJoined events move ts → end_by events (end_of events move more) m ts ≡ Some e
       → Agrees ts (got_by events (got_of events move more) m pick taken) e
-  up_by more (Fork first rest to) [] pick taken e ih here all h = cc
-  up_by more (Fork first rest to) (t ∷ ts) pick taken e ih here all h =
+  one-each_by more (Fork first rest to) [] pick taken e ih here all h = cc
+  one-each_by more (Fork first rest to) (t ∷ ts) pick taken e ih here all h =
       let link = link_of first rest (pick taken) in
       let a = if_parts (all_in events t (first ∷ rest)) (option_and_then (end_of events move more ts) (to first)) e h in
       let b = then_parts (end_of events move more ts) (to first) e a.1 in
@@ -165,7 +165,7 @@ module _ {L E N T S R : Type 0} (events : Events L E T) (move : S → Move L E N
         sids = r.sids;
         result = r.result;
       }
-  up_by more (Go told sids next) ts pick taken e ih here all h =
+  one-each_by more (Go told sids next) ts pick taken e ih here all h =
       let a = map_parts (end_after sids) _ e h in
       let b = then_parts (λ us. end_of events move more us next) (left_by events ts told) a.0 a.1 in
       let r = ih b.0 next taken a.0 (left-all events (Joined events move) told ts b.0 b.1 all) b.2 in
@@ -176,7 +176,7 @@ module _ {L E N T S R : Type 0} (events : Events L E T) (move : S → Move L E N
         sids = ap (λ xs. sids ++ xs) r.sids ∙ ap (λ (x : End T N R). x.sids) a.2;
         result = r.result ∙ ap (λ (x : End T N R). x.result) a.2;
       }
-  up_by more (Done told sids result) ts pick taken e ih here all h =
+  one-each_by more (Done told sids result) ts pick taken e ih here all h =
       let a = map_parts (end_with sids result) (left_by events ts told) e h in
       record {
         got = record { trace = told; sids = sids; result = result };
@@ -185,24 +185,24 @@ module _ {L E N T S R : Type 0} (events : Events L E T) (move : S → Move L E N
         sids = ap (λ (x : End T N R). x.sids) a.2;
         result = ap (λ (x : End T N R). x.result) a.2;
       }
-  up_by more Fail ts pick taken e ih here all h = cc
+  one-each_by more Fail ts pick taken e ih here all h = cc
 
-  up : (fuel : ℕ) (ts : List T) (s : S) (pick : ℕ → ℕ) (taken : ℕ) (e : End T N R) → AllJoined events move ts
+  pub one-each : (fuel : ℕ) (ts : List T) (s : S) (pick : ℕ → ℕ) (taken : ℕ) (e : End T N R) → AllJoined events move ts
       → end_of events move fuel ts s ≡ Some e → Agrees ts (got_of events move fuel s pick taken) e
   unfolding got_of end_of
-  up zero ts s pick taken e all h = cc
-  up (suc more) ts s pick taken e all h =
-      up_by more (move s) ts pick taken e (λ ts s taken e all h. up more ts s pick taken e all h) (joined-at ts s all) all h
+  one-each zero ts s pick taken e all h = cc
+  one-each (suc more) ts s pick taken e all h =
+      one-each_by more (move s) ts pick taken e (λ ts s taken e all h. one-each more ts s pick taken e all h) (joined-at ts s all) all h
 
   pub one-choices : (ts : List T) (s : S) → AllJoined events move ts → OneWalk events move ts s → ForAllChoices events move ts s
   one-choices ts s all w choices some =
-      let r = up w.fuel ts s (choice_at choices) 0 w.end all w.gives in
+      let r = one-each w.fuel ts s (choice_at choices) 0 w.end all w.gives in
       record { fuel = w.fuel; got = r.got; left = w.end.left; gives = r.gives; along = r.along }
 
   pub choices-agree : (ts : List T) (s : S) → AllJoined events move ts → (w : OneWalk events move ts s) (pick : ℕ → ℕ)
       → (r : Reaches events move ts s pick) → SameEnd w.end r
   choices-agree ts s all w pick r =
-      let a = up w.fuel ts s pick 0 w.end all w.gives in
+      let a = one-each w.fuel ts s pick 0 w.end all w.gives in
       let same : r.got ≡ a.got = got-same r.fuel w.fuel s pick 0 r.got a.got r.gives a.gives in
       record {
         left = same_Some _ _ (sym r.along ∙ (ap (λ (g : Got E N R). left_by events ts g.trace) same ∙ a.along));
@@ -275,7 +275,7 @@ module _ {L E N T S R : Type 0} (events : Events L E T) (move : S → Move L E N
   -- ---- rows that agree for as many decisions as there are steps give the same walk
 
   -- two rows agree for so many choices, each from a place of its own
-  abbrev RowsAgree : ℕ → (ℕ → ℕ) → (ℕ → ℕ) → ℕ → ℕ → Type 0
+  abbrev pub RowsAgree : ℕ → (ℕ → ℕ) → (ℕ → ℕ) → ℕ → ℕ → Type 0
   RowsAgree count pick qick a b = (d : ℕ) → d < count → pick (a + d) ≡ qick (b + d)
 
   rows-first : (count : ℕ) (pick qick : ℕ → ℕ) (a b : ℕ) → RowsAgree (suc count) pick qick a b → pick a ≡ qick b
@@ -284,33 +284,33 @@ module _ {L E N T S R : Type 0} (events : Events L E T) (move : S → Move L E N
   rows-later : (count : ℕ) (pick qick : ℕ → ℕ) (a b : ℕ) → RowsAgree (suc count) pick qick a b → RowsAgree count pick qick (suc a) (suc b)
   rows-later count pick qick a b same d few = ap pick (omega arith) ∙ (same (suc d) (omega arith) ∙ ap qick (omega arith))
 
-  agree_by : (go : Walking E N S R) (m : Move L E N S R) (ts : List T) (pick qick : ℕ → ℕ) (a b : ℕ) (got : Got E N R) (left : List T)
+  rows-agree_by : (go : Walking E N S R) (m : Move L E N S R) (ts : List T) (pick qick : ℕ → ℕ) (a b : ℕ) (got : Got E N R) (left : List T)
       → ((ts : List T) (s : S) (a b : ℕ) (got : Got E N R) (left : List T) → RowsAgree (length ts) pick qick a b → go s pick a ≡ Some got
       → left_by events ts got.trace ≡ Some left → go s qick b ≡ Some got)
       → RowsAgree (length ts) pick qick a b → got_by events go m pick a ≡ Some got → left_by events ts got.trace ≡ Some left
       → got_by events go m qick b ≡ Some got
-  agree_by go (Fork first rest to) [] pick qick a b got left ih same h along =
+  rows-agree_by go (Fork first rest to) [] pick qick a b got left ih same h along =
       absurd (over-none go to (link_of first rest (pick a)) pick a got left h along)
-  agree_by go (Fork first rest to) (t ∷ ts) pick qick a b got left ih same h along =
+  rows-agree_by go (Fork first rest to) (t ∷ ts) pick qick a b got left ih same h along =
       let p = over-parts go to (link_of first rest (pick a)) t ts pick a got left h along in
       let r = ih ts p.next (suc a) (suc b) p.rest left (rows-later (length ts) pick qick a b same) p.gives p.along in
       subst (λ (c : ℕ). got_over events go to (link_of first rest c) qick b ≡ Some got) (rows-first (length ts) pick qick a b same)
       (map_from (got_after (events.crossed (link_of first rest (pick a)) ∷ []) []) (then_from (λ next. go next qick (suc b)) p.leads r) p.whole)
-  agree_by go (Go told sids next) ts pick qick a b got left ih same h along =
+  rows-agree_by go (Go told sids next) ts pick qick a b got left ih same h along =
       let p = go-parts go told sids next ts pick a got left h along in
       let fewer : length p.later ≤ length ts = left-short events told ts p.later p.first in
       map_from (got_after told sids) (ih p.later next a b p.rest left (λ d few. same d (omega (arith, few, fewer))) p.gives p.along) p.whole
-  agree_by go (Done told sids result) ts pick qick a b got left ih same h along = h
-  agree_by go Fail ts pick qick a b got left ih same h along = cc
+  rows-agree_by go (Done told sids result) ts pick qick a b got left ih same h along = h
+  rows-agree_by go Fail ts pick qick a b got left ih same h along = cc
 
-  agree : (fuel : ℕ) (ts : List T) (s : S) (pick qick : ℕ → ℕ) (a b : ℕ) (got : Got E N R) (left : List T)
+  pub rows-agree : (fuel : ℕ) (ts : List T) (s : S) (pick qick : ℕ → ℕ) (a b : ℕ) (got : Got E N R) (left : List T)
       → RowsAgree (length ts) pick qick a b → got_of events move fuel s pick a ≡ Some got → left_by events ts got.trace ≡ Some left
       → got_of events move fuel s qick b ≡ Some got
   unfolding got_of
-  agree zero ts s pick qick a b got left same h along = cc
-  agree (suc more) ts s pick qick a b got left same h along =
-      agree_by (got_of events move more) (move s) ts pick qick a b got left
-      (λ ts s a b got left same h along. agree more ts s pick qick a b got left same h along) same h along
+  rows-agree zero ts s pick qick a b got left same h along = cc
+  rows-agree (suc more) ts s pick qick a b got left same h along =
+      rows-agree_by (got_of events move more) (move s) ts pick qick a b got left
+      (λ ts s a b got left same h along. rows-agree more ts s pick qick a b got left same h along) same h along
 
   -- so many choices of a row, from one of them on
   abbrev row_from : (ℕ → ℕ) → ℕ → ℕ → List ℕ
@@ -341,7 +341,7 @@ module _ {L E N T S R : Type 0} (events : Events L E T) (move : S → Move L E N
         fuel = r.fuel;
         got = r.got;
         left = r.left;
-        gives = agree r.fuel ts s (choice_at row) pick 0 0 r.got r.left (λ d few. row-agrees pick count d (omega arith)) r.gives r.along;
+        gives = rows-agree r.fuel ts s (choice_at row) pick 0 0 r.got r.left (λ d few. row-agrees pick count d (omega arith)) r.gives r.along;
         along = r.along;
       }
 
@@ -396,7 +396,7 @@ module _ {L E N T S R : Type 0} (events : Events L E T) (move : S → Move L E N
   down_by more (Fork first rest to) (t ∷ ts) got left ih h along rows =
       let p = over-parts (got_of events move more) to (link_of first rest 0) t ts zeros 0 got left h along in
       let leads : to first ≡ Some p.next = ap to (sym (first-link first rest)) ∙ p.leads in
-      let later = agree more ts p.next zeros zeros 1 0 p.rest left (λ d few. refl) p.gives p.along in
+      let later = rows-agree more ts p.next zeros zeros 1 0 p.rest left (λ d few. refl) p.gives p.along in
       let each : (n : ℕ) → n ≤ length rest → is_in events t (link_at first rest n) ≡ true = λ n few.
       let r = rows (λ _. n) in
       let q = over-parts (got_of events move r.fuel) to (link_of first rest n) t ts (λ _. n) 0 r.got r.left r.gives r.along in
@@ -406,7 +406,7 @@ module _ {L E N T S R : Type 0} (events : Events L E T) (move : S → Move L E N
       let r = rows (then_row 0 pick) in
       let q = over-parts (got_of events move r.fuel) to (link_of first rest 0) t ts (then_row 0 pick) 0 r.got r.left r.gives r.along in
       let same : q.next ≡ p.next = same_Some _ _ (sym q.leads ∙ p.leads) in
-      let gives = agree r.fuel ts q.next (then_row 0 pick) pick 1 0 q.rest r.left (λ d few. then_row-later 0 pick d) q.gives q.along in
+      let gives = rows-agree r.fuel ts q.next (then_row 0 pick) pick 1 0 q.rest r.left (λ d few. then_row-later 0 pick d) q.gives q.along in
       record {
         fuel = r.fuel;
         got = q.rest;

@@ -15,7 +15,7 @@ pub data Look (L N P H X : Type 0) : Type 0 where
   Loses : Look L N P H X
 
 -- nodes, links and SIDs: what traces speak of, the events of an execution, what is done at a place with the packet on top, and how many
--- stages there are at most from a push to where the packet below it is on top again, both counted
+-- stages there are at most from a push on the own packet to where that is on top again, both counted
 pub record World (L E T N P H X : Type 0) : Type 0 where
   pub events : Events L E T
   pub executed : N → List E

@@ -4,3 +4,4 @@ pub mod Deep
 pub mod Counted
 pub mod Legs
 pub mod Needs
+pub mod Rests

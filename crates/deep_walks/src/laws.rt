@@ -3,10 +3,11 @@
 ghost use Rattle.std.specs.Prelude.{◌≡◌, ◌+◌, ◌<◌, ◌≤◌, ◌↔◌, ℕ, List, [], None, Some};
 ghost use Rattle.deep_walks.specs.Choices.{EndsWith, ForAllChoices, ForAllRows, OneWalk, Reaches, SameEnd};
 ghost use Rattle.deep_walks.specs.Counted.{counting};
-ghost use Rattle.deep_walks.specs.Deep.{AreJoined, Deep, World, deep_move, met_move, open_at, own_move, pushed_at, tunnel_of};
-ghost use Rattle.deep_walks.specs.Legs.{AlwaysHands, BehindHeader, HasPath, LegBehind, Path};
-ghost use Rattle.deep_walks.specs.Moves.{AllJoined, End, Events, Move, end_with};
+ghost use Rattle.deep_walks.specs.Deep.{AreJoined, Bared, Deep, Met, World, deep_move, met_move, open_at, own_move, pushed_at, tunnel_of};
+ghost use Rattle.deep_walks.specs.Legs.{AlwaysHands, BehindHeader, HasPath, LegBehind, Path, ride_of};
+ghost use Rattle.deep_walks.specs.Moves.{AllJoined, End, Events, Got, Move, end_of, end_with, got_of};
 ghost use Rattle.deep_walks.specs.Needs.{Forms};
+ghost use Rattle.deep_walks.specs.Rests.{Opened, RestEnds, open_move, rest_of, rest_open};
 
 /// A machine that is done along a beginning of the steps for all choices is so by the one walk that
 /// asks that all links of a set lie in the step. Where the links of a step lead a state to one next
@@ -41,6 +42,39 @@ pub fn a_pushed_header_walks_alone<L, E, T, N, P, H, X, R>()
         (place : P) (new own : H) (e : End T N R) →
         EndsWith w.events (deep_move w bottom) ts (pushed_at place new own) e
         ↔ BehindHeader w bottom ts place new own e }
+{}
+
+/// Where links of a step lead to one place, a packet with nothing below comes to its next execution,
+/// along a beginning of the steps and for all choices, exactly where there is a ride; and all choices
+/// then come to the execution at the ride's end, with its steps left (own rule).
+pub fn a_ride_is_for_all_choices<L, E, T, N, P, H, X>()
+    ensures all { (w : World L E T N P H X) (ts : List T) (place : P) (own : H) → AreJoined w ts →
+        ForAllChoices w.events (met_move w) ts (open_at place own)
+        ↔ ((e : End T N (Met P H X)) × (ride_of w ts place own ≡ Some e)) }
+    ensures each { (w : World L E T N P H X) (ts : List T) (place : P) (own : H) → AreJoined w ts →
+        (e : End T N (Met P H X)) → ride_of w ts place own ≡ Some e →
+        (pick : ℕ → ℕ) (r : Reaches w.events (met_move w) ts (open_at place own) pick) →
+        SameEnd e r }
+{}
+
+/// A walk up to the own hand-over is the walk to the first execution on the own packet, or the one to
+/// where that packet is on top, and what is left of it from there: under choices, whatever number of
+/// moves is left; and along steps (own rule).
+pub fn a_walk_goes_on_behind_its_first_execution<L, E, T, N, P, H, X>()
+    ensures on { (w : World L E T N P H X) (n : ℕ) (s : Deep P H) (pick : ℕ → ℕ) (taken : ℕ) →
+        (g : Got E N (Met P H X)) → got_of w.events (met_move w) n s pick taken ≡ Some g →
+        (count : ℕ) × (chosen : ℕ) × ((more : ℕ) →
+        got_of w.events (own_move w) (count + more) s pick taken
+        ≡ rest_of w more pick chosen g.trace g.sids g.result) }
+    ensures opened { (w : World L E T N P H X) (n : ℕ) (s : Deep P H) (pick : ℕ → ℕ) (taken : ℕ) →
+        (g : Got E N (Opened P H)) → got_of w.events (open_move w) n s pick taken ≡ Some g →
+        (count : ℕ) × (chosen : ℕ) × ((more : ℕ) →
+        got_of w.events (own_move w) (count + more) s pick taken
+        ≡ rest_open w more pick chosen g.trace g.sids g.result) }
+    ensures ends { (w : World L E T N P H X) (n : ℕ) (ts : List T) (s : Deep P H) →
+        (e : End T N (Bared P X)) → end_of w.events (own_move w) n ts s ≡ Some e →
+        (first : End T N (Met P H X)) × (end_of w.events (met_move w) n ts s ≡ Some first)
+        × RestEnds w first.left first.sids first.result e }
 {}
 
 /// Where links of a step lead to one place, a packet right below a header that was just pushed comes
