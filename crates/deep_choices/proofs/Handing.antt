@@ -25,7 +25,7 @@ advance-same : (ts : List Step) (e : Event) → tasks.advance ts e ≡ advance s
 advance-same [] e = refl
 advance-same (t ∷ ts) e = refl
 
-left-same : (ts : List Step) (es : List Event) → tasks.left_by ts es ≡ left_by step_events ts es
+pub left-same : (ts : List Step) (es : List Event) → tasks.left_by ts es ≡ left_by step_events ts es
 left-same ts [] = refl
 left-same ts (e ∷ es) =
     on (tasks.advance ts e) (λ us. left-same us es) ∙ ap (option_and_then (λ us. left_by step_events us es)) (advance-same ts e)
@@ -40,10 +40,10 @@ done-is None h = absurd (false≢true h)
 done-is (Some []) h = refl
 done-is (Some (t ∷ ts)) h = absurd (false≢true h)
 
-all-left : (ts : List Step) (es : List Event) → matches ts es ≡ true → left_by step_events ts es ≡ Some []
+pub all-left : (ts : List Step) (es : List Event) → matches ts es ≡ true → left_by step_events ts es ≡ Some []
 all-left ts es h = sym (left-same ts es) ∙ done-is (tasks.left_by ts es) (sym (matches-by ts es) ∙ h)
 
-left-all : (ts : List Step) (es : List Event) → left_by step_events ts es ≡ Some [] → matches ts es ≡ true
+pub left-all : (ts : List Step) (es : List Event) → left_by step_events ts es ≡ Some [] → matches ts es ≡ true
 left-all ts es h = matches-by ts es ∙ ap is_done (left-same ts es ∙ h)
 
 module _ (net : Network) (ts : List Step) (place : Place) (p : Packet) where
@@ -78,8 +78,11 @@ module _ (net : Network) (ts : List Step) (place : Place) (p : Packet) where
         steps = left-all ts r.got.trace (r.along ∙ ap Some h.all);
       }
 
-  hands : AlwaysHandsFrom net ts place p → AlwaysHands (world net most_stages) ts place p
+  pub hands : AlwaysHandsFrom net ts place p → AlwaysHands (world net most_stages) ts place p
   hands all choices some = let g = got-from choices (all choices some) in record { reaches = g.reaches; all = g.all }
+
+  pub always-from : AlwaysHands (world net most_stages) ts place p → AlwaysHandsFrom net ts place p
+  always-from all choices some = from-got choices (all choices some)
 
 pub hands-have : (net : Network) (ts : List Step) (place : Place) (p : Packet) → AreJoined (world net most_stages) ts
     → AlwaysHandsFrom net ts place p → (path : Path ℕ Place Content) × HasPath (world net most_stages) ts place p path

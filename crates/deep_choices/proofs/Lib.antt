@@ -1,5 +1,10 @@
+pub mod Watching
 pub mod Machine
 pub mod Joins
 pub mod Handing
+pub mod Meetings
 pub mod Rides
 pub mod Starts
+pub mod Forms
+pub mod Intents
+pub mod PublicLaws

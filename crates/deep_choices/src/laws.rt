@@ -1,6 +1,6 @@
 //! Laws of the definitions: each is the contract of an empty function.
 
-ghost use Rattle.std.specs.Prelude.{Bool, ◌≡◌, ◌<◌, List, [], ◌∷◌, ℕ, Some, suc, true, is_some};
+ghost use Rattle.std.specs.Prelude.{◌↔◌, Bool, ◌≡◌, ◌<◌, List, [], ◌∷◌, ℕ, Some, suc, true, is_some};
 ghost use Rattle.std.specs.Option.{option_and_then, option_map};
 ghost use Rattle.srv6_rules.specs.Packet.{Content, Packet, V6};
 ghost use Rattle.srv6_rules.specs.Policies.{outer_by};
@@ -10,15 +10,22 @@ ghost use Rattle.net_model.specs.Keeps.{Keeps};
 ghost use Rattle.net_model.specs.Network.{Network};
 ghost use Rattle.walk_rules.specs.declared.place.Place.{Place};
 ghost use Rattle.walk_rules.specs.Relation.{IsHow, IsPlace};
-ghost use Rattle.intent_reader.specs.Rules.{stand_after};
+ghost use Rattle.intent_reader.specs.Rules.{IsIntent, stand_after};
+ghost use Rattle.intent_reader.specs.declared.intent.Intent.{Intent};
 ghost use Rattle.intent_reader.specs.declared.intent.Step.{Step};
 ghost use Rattle.leg_table.specs.Ride as rides;
+ghost use Rattle.leg_table.specs.Ride.{with_hop_limit};
 ghost use Rattle.own_hands.specs.OwnHands.{handed_own, most_stages};
+ghost use Rattle.own_hands.specs.Realizes.{AlwaysHands, OwnHandsOver};
 ghost use Rattle.deep_stages.specs.Walks.{deep_walk};
-ghost use Rattle.deep_walks.specs.Deep.{AreJoined, deep_at, open_at, own_move, tunnel_of};
-ghost use Rattle.deep_walks.specs.Legs.{HasPath, Path, ride_of};
+ghost use Rattle.deep_walks.specs.Deep.{AreJoined, Met, deep_at, open_at, own_move, tunnel_of};
+ghost use Rattle.deep_walks.specs.Legs.{HasPath, LegBehind, Path, ride_of};
 ghost use Rattle.deep_walks.specs.Moves.{End, got_of};
-ghost use Rattle.deep_choices.specs.Look.{step_events, world};
+ghost use Rattle.deep_walks.specs.Needs.{look_of};
+ghost use Rattle.deep_choices.specs.Kinds.{kind_at, of_hop_limit};
+ghost use Rattle.deep_choices.specs.Look.{look_at, step_events, world};
+ghost use Rattle.deep_choices.specs.Meets.{AlwaysMeets, MeetsFrom, MetAs};
+ghost use Rattle.deep_choices.specs.Paths.{HasPathFor};
 ghost use Rattle.deep_choices.specs.Rides.{met_there};
 ghost use Rattle.deep_choices.specs.Starts.{IsHead, StartsBehind};
 ghost use Rattle.deep_choices.specs.Walks.{AlwaysHandsFrom, HandsFrom, handed_of};
@@ -87,4 +94,59 @@ pub fn a_network_hands_over_exactly_along_a_path()
         (path : Path ℕ Place Content) → HasPath (world net most_stages) ts place p path →
         (choices : List ℕ) (h : HandsFrom net ts place p choices) →
         (h.handed.sids ≡ path.sids) × (h.handed.content ≡ path.bared.inside) }
+{}
+
+/// Where the links of each step lead to one place, and a packet comes, for all choices, to its own
+/// hand-over along the steps at one hop limit above 0, there is a number, its need, so that packets
+/// that differ from it in their hop limit alone do so at just the hop limits above that number. What
+/// a node does with such packets is the same but that it lowers their hop limit, and drops those that
+/// it cannot lower (RFC 8200 section 3, RFC 8986 section 4.1).
+pub fn a_packet_of_a_network_has_a_need()
+    ensures shows { (net : Network) (place : Place) (form : Packet) (hop : ℕ) →
+        look_at net place (with_hop_limit hop form)
+        ≡ look_of of_hop_limit (kind_at net place form) hop }
+    ensures need { (net : Network) (ts : List Step) (place : Place) (form : Packet) (hop : ℕ) →
+        AreJoined (world net most_stages) ts → 0 < hop →
+        AlwaysHandsFrom net ts place (with_hop_limit hop form) →
+        (n : ℕ) × ((other : ℕ) → 0 < other →
+        (n < other) ↔ AlwaysHandsFrom net ts place (with_hop_limit other form)) }
+{}
+
+/// The packet that a headend makes for an intent round an inner packet comes, for all choices, to its
+/// own hand-over with the intent's steps as its trace, and hands over the inner packet lowered by
+/// one, exactly where it has a path of legs along the intent's steps that does; and then each choice
+/// executes the path's SIDs on it (own rule).
+pub fn an_intent_is_realized_exactly_along_paths()
+    ensures path { (net : Network) (intent : Intent) (segments : List ℕ) (inner : Content) →
+        (hop : ℕ) → IsIntent net intent →
+        AlwaysHands (OwnHandsOver net intent segments) inner hop
+        ↔ HasPathFor net intent segments inner hop }
+    ensures sids { (net : Network) (intent : Intent) (segments : List ℕ) (inner : Content) →
+        (hop : ℕ) → IsIntent net intent → (x : HasPathFor net intent segments inner hop) →
+        (choices : List ℕ) (h : OwnHandsOver net intent segments inner hop choices) →
+        h.handed.sids ≡ x.path.sids }
+{}
+
+/// Where the links of each step lead to one place, a packet comes to its first execution, along a
+/// beginning of the steps and for all choices: right below a header exactly where that header walks
+/// alone to a place and the packet rides from there, and with nothing below exactly where there is a
+/// ride. All choices then come to the same SID with the same steps left, and go on from the same place
+/// as the same packet over the same packets (RFC 8986 sections 4.13 and 4.14; own rule).
+pub fn a_leg_of_a_network_is_for_all_choices()
+    ensures behind { (net : Network) (ts : List Step) (place : Place) (new own : Packet) →
+        AreJoined (world net most_stages) ts →
+        AlwaysMeets net ts place new (own ∷ []) ↔ LegBehind (world net most_stages) ts place new own }
+    ensures behind_each { (net : Network) (ts : List Step) (place : Place) (new own : Packet) →
+        AreJoined (world net most_stages) ts →
+        (leg : LegBehind (world net most_stages) ts place new own) →
+        (choices : List ℕ) (h : MeetsFrom net ts place new (own ∷ []) choices) → MetAs leg.end h }
+    ensures alone { (net : Network) (ts : List Step) (place : Place) (own : Packet) →
+        AreJoined (world net most_stages) ts →
+        AlwaysMeets net ts place own []
+        ↔ ((e : End Step ℕ (Met Place Packet Content)) ×
+        (ride_of (world net most_stages) ts place own ≡ Some e)) }
+    ensures alone_each { (net : Network) (ts : List Step) (place : Place) (own : Packet) →
+        AreJoined (world net most_stages) ts → (e : End Step ℕ (Met Place Packet Content)) →
+        ride_of (world net most_stages) ts place own ≡ Some e →
+        (choices : List ℕ) (h : MeetsFrom net ts place own [] choices) → MetAs e h }
 {}

@@ -9,6 +9,8 @@
 mod laws;
 
 pub use laws::{
-    a_network_hands_over_exactly_along_a_path, a_network_walks_as_its_machine,
-    a_ride_is_by_look_ups, steps_that_follow_lead_to_one_place,
+    a_leg_of_a_network_is_for_all_choices, a_network_hands_over_exactly_along_a_path,
+    a_network_walks_as_its_machine, a_packet_of_a_network_has_a_need,
+    a_pushed_header_leads_to_a_start, a_ride_is_by_look_ups,
+    an_intent_is_realized_exactly_along_paths, steps_that_follow_lead_to_one_place,
 };
