@@ -1,0 +1,15 @@
+pub mod Machine
+pub mod Beginnings
+pub mod Ridden
+pub mod Executed
+pub mod Ways
+pub mod Starting
+pub mod Leading
+pub mod Up
+pub mod Over
+pub mod Down
+pub mod Means
+pub mod Tests
+pub mod Sentences
+pub mod Finishes
+pub mod Witnesses

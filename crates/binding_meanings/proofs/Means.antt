@@ -1,0 +1,184 @@
+-- The paths of legs through binding SIDs are the legal lists that realize the intent.
+use Rattle.std.proofs.Common.{◌≡◌, ℕ, ◌+◌, ◌<◌, true, List, [], length, Option, Some, None, sym, ap, ◌∙◌, zero-add}
+use Rattle.srv6_rules.specs.declared.sid.SidEntry.{SidEntry}
+use Rattle.srv6_rules.specs.Packet.{Packet, Content}
+use Rattle.net_model.specs.Network.{Network}
+use Rattle.net_model.specs.Keeps.{Keeps}
+use Rattle.net_model.specs.Rules.{IsNetwork}
+use Rattle.net_model.proofs.PublicLaws.{keeps_from_network}
+use Rattle.flat_networks.specs.Flat.{IsFlat}
+use Rattle.intent_reader.specs.Rules.{IsIntent}
+use Rattle.intent_reader.specs.declared.intent.Intent.{Intent}
+use Rattle.list_places.specs.Places.{Tunnel}
+use Rattle.list_pack.specs.declared.types.Container.{Container}
+use Rattle.list_pack.specs.Meaning.{AreSidsOf, Means}
+use Rattle.list_pack.specs.Value.{KeepsLaws}
+use Rattle.leg_table.specs.Meant.{HandsInner, IsRealizing, IsExecuting, IsHanding}
+use Rattle.leg_table.specs.OneLeg.{LegKind, LegLaws, KindLaws, HandsOver}
+use Rattle.leg_table.specs.Table.{shape_by, node_by}
+use Rattle.leg_table.specs.Tasks.{matches}
+use Rattle.leg_table.specs.Trace.{Handed}
+use Rattle.leg_table.specs.Value.{AnyWay}
+use Rattle.leg_table.proofs.FlatNets.{FlatFacts, flat-facts}
+use Rattle.leg_table.proofs.ListShapes.{suits-by, there}
+use Rattle.leg_table.proofs.Stays.{stays-follow}
+use Rattle.leg_table.proofs.Meanings as means
+use Rattle.own_hands.specs.Realizes.{OwnHandsOver, OwnListRealizes, OwnListExecutes}
+use Rattle.deep_walks.specs.Moves.{left_by}
+use Rattle.deep_walks.specs.Deep.{own_move}
+use Rattle.deep_walks.proofs.PublicLaws.{rows-agree}
+use Rattle.deep_choices.specs.Look.{step_events}
+use Rattle.deep_choices.proofs.Handing.{all-left}
+use Rattle.binding_starts.specs.Starts.{sid_leads_on}
+use Rattle.binding_starts.specs.Value.{binding_legs_value}
+use Rattle.binding_meanings.specs.Hands.{OwnListHands}
+use Rattle.binding_meanings.specs.Kind.{onward_of, hand_on, binding_kind}
+use Rattle.binding_meanings.proofs.Machine.{network_world, hand-on, hand-parts, hand-from, onward-goes}
+use Rattle.binding_meanings.proofs.Up.{leg-up, finish-up}
+use Rattle.binding_meanings.proofs.Over.{leg-over, finish-over}
+use Rattle.binding_meanings.proofs.Down.{none-barred, leg-down}
+
+module _ (net : Network) (intent : Intent) (network : IsNetwork net) (flat : IsFlat net) (is_intent : IsIntent net intent) where
+  abbrev k : LegKind
+  k = binding_kind net intent
+
+  keeps : Keeps net
+  keeps = keeps_from_network net network
+
+  facts : FlatFacts net
+  facts = flat-facts net network flat
+
+  sids-of : AreSidsOf (binding_legs_value net intent) net
+  sids-of n is =
+      let s = there net keeps intent n is in (
+        s.0,
+        s.1,
+        record {
+          prefix = ap (λ (o : Option SidEntry). (shape_by net.blocks o).prefix) s.1;
+          block = ap (λ (o : Option SidEntry). (shape_by net.blocks o).block) s.1;
+          lbl = ap (λ (o : Option SidEntry). (shape_by net.blocks o).lbl) s.1;
+          csid = ap (λ (o : Option SidEntry). (shape_by net.blocks o).csid) s.1;
+        },
+        sym (ap node_by s.1),
+      )
+
+  -- the laws of one leg and one finish
+  pub binding-leg_laws : (t : Tunnel) → t.inner ≡ intent.inner → LegLaws k AnyWay t
+  binding-leg_laws t family =
+      record {
+        leg_up = λ x y position via next leg hop p pick taken is on to high.
+            leg-up net keeps facts intent is_intent t x y position via next leg hop p pick taken is on to high;
+        finish_up = λ x position via next lowered hop p pick taken is on end high.
+            finish-up net keeps facts intent is_intent t x position via next lowered hop p pick taken family is on end high;
+        leg_over = λ x y position via next leg hop p pick taken h is on to over.
+            leg-over net keeps facts intent is_intent t x y position via next leg hop p pick taken h is on to over;
+        finish_over = λ x position via next lowered hop p pick taken h is on end over.
+            finish-over net keeps facts intent is_intent t x position via next lowered hop p pick taken h family is on end over;
+        down = λ x q position via hop p within at along nests to named positive hands.
+            leg-down net network flat facts intent is_intent t family x q position via hop p within at along nests to named positive hands;
+        some_longest = λ via p. (λ d. d, tt);
+      }
+
+  -- as many choices matter as there are steps
+  agree : (p : Packet) (pick other : ℕ → ℕ) (h : Handed) → ((d : ℕ) → d < length intent.steps → pick d ≡ other d)
+      → HandsOver k None p pick 0 h → matches intent.steps h.trace ≡ true → HandsOver k None p other 0 h
+  agree p pick other h same over met =
+      let some = hand-on net over.0 (onward_of net intent None p) pick 0 h over.1 in
+      let goes = onward-goes net intent None p some.0 some.1 in
+      let g = hand-parts net p some.0 goes over.0 pick 0 h (sym (ap (λ o. hand_on net over.0 o pick 0) some.1) ∙ over.1) in
+      let along = ap (λ (h : Handed). left_by step_events intent.steps h.trace) g.2 ∙ all-left intent.steps h.trace met in
+      let zero : (d : ℕ) → 0 + d ≡ d = λ d. zero-add d in
+      let gives = rows-agree step_events (own_move (network_world net)) over.0 intent.steps some.0 pick other 0 0 g.0 []
+      (λ d few. ap pick (zero d) ∙ same d few ∙ sym (ap other (zero d))) g.1 along in (
+        over.0,
+        ap (λ o. hand_on net over.0 o other 0) some.1
+            ∙ hand-from net p some.0 goes over.0 other 0 g.0 gives ∙ ap Some g.2,
+      )
+
+  -- and those of their kind, where they keep the laws of legs
+  pub binding-kind_laws : KeepsLaws (binding_legs_value net intent) → KindLaws k AnyWay
+  binding-kind_laws laws =
+      record {
+        network = network;
+        flat = flat;
+        legs = laws;
+        sids = sids-of;
+        suits = suits-by net keeps facts.suits (binding_legs_value net intent) sids-of
+            (λ n s is middle. sym (ap sid_leads_on is) ∙ middle)
+            (λ n m is also.
+            let s = sids-of n is in
+            let t = sids-of m also in
+            stays-follow net network n m s.0 t.0 s.1 t.1);
+        one = binding-leg_laws;
+        matter = λ p. length intent.steps;
+        agree = agree;
+      }
+
+  -- ---- realizing by the kind is realizing through binding SIDs
+
+  abbrev to-kind : {segments : List ℕ} {inner : Content} {hop : ℕ} {choices : List ℕ} → OwnHandsOver net intent segments inner hop choices
+      → HandsInner k segments inner hop choices
+  to-kind o =
+      record {
+        handed = o.handed;
+        over = (o.fuel, o.own);
+        steps = o.steps;
+        content = o.content;
+        allowed = none-barred net intent o.handed.sids;
+      }
+
+  abbrev of-kind : {segments : List ℕ} {inner : Content} {hop : ℕ} {choices : List ℕ} → HandsInner k segments inner hop choices
+      → OwnHandsOver net intent segments inner hop choices
+  of-kind o = record { fuel = o.over.0; handed = o.handed; own = o.over.1; steps = o.steps; content = o.content }
+
+  realizes-of : (list : List Container) (need : ℕ) → IsRealizing k list need → OwnListRealizes net intent list need
+  realizes-of list need r =
+      record {
+        reaches = λ inner ok hop above choices some. of-kind (r.reaches inner ok hop above choices some);
+        least = λ n reaches. r.least n (λ inner ok hop above choices some. to-kind (reaches inner ok hop above choices some));
+      }
+
+  to-realizes : (list : List Container) (need : ℕ) → OwnListRealizes net intent list need → IsRealizing k list need
+  to-realizes list need r =
+      record {
+        reaches = λ inner ok hop above choices some. to-kind (r.reaches inner ok hop above choices some);
+        least = λ n reaches. r.least n (λ inner ok hop above choices some. of-kind (reaches inner ok hop above choices some));
+      }
+
+  executes-of : (list : List Container) (count : ℕ) → IsExecuting k list count → OwnListExecutes net intent list count
+  executes-of list count e = λ inner hop choices h. e inner hop choices (to-kind h)
+
+  to-executes : (list : List Container) (count : ℕ) → OwnListExecutes net intent list count → IsExecuting k list count
+  to-executes list count e = λ inner hop choices h. e inner hop choices (of-kind h)
+
+  to-handing : (list : List Container) (hop : ℕ) → OwnListHands net intent list hop → IsHanding k list hop
+  to-handing list hop h =
+      record { positive = h.positive; inner = h.inner; always = λ choices some. to-kind (h.always choices some) }
+
+  -- so their paths are the legal lists that realize the intent
+  pub binding-means : KeepsLaws (binding_legs_value net intent)
+      → Means (binding_legs_value net intent) net (OwnListRealizes net intent) (OwnListExecutes net intent) (OwnListHands net intent)
+  binding-means laws =
+      let kind = means.kind-means k AnyWay (binding-kind_laws laws) in
+      record {
+        sids = kind.sids;
+        suits = kind.suits;
+        lists = λ moves c cost.
+            let is = kind.lists moves c cost in
+            record {
+              of_path = is.of_path;
+              legal = is.legal;
+              realizes = realizes-of _ _ is.realizes;
+              executes = executes-of _ _ is.executes;
+            };
+        paths = λ list need legal real.
+            let path = kind.paths list need legal (to-realizes list need real) in
+            record {
+              moves = path.moves;
+              hops = path.hops;
+              cost = path.cost;
+              within = path.within;
+              whole = λ executes. path.whole (to-executes _ _ executes);
+            };
+        handing = λ list hop legal hands. kind.handing list hop legal (to-handing list hop hands);
+      }

@@ -1,0 +1,148 @@
+-- A walk that comes to the own hand-over goes along the ride to the next SID, which lets the packet through.
+use Rattle.std.proofs.Common.{◌≡◌, ℕ, zero, suc, ◌+◌, ◌-◌, ◌%◌, ◌<◌, inl, inr, Bool, true, false, ◌&&◌, nat_le, if◌then◌else◌, List, [], ◌∷◌, Some, refl, sym, ap, ◌∙◌, subst, arith}
+use Rattle.std.specs.Prelude.{is_some}
+use Rattle.std.proofs.lemmas.Bool.{leb-false}
+use Rattle.std.proofs.lemmas.Option.{same_Some}
+use Rattle.srv6_rules.specs.Packet.{Packet, Content}
+use Rattle.net_model.specs.Network.{Network}
+use Rattle.net_model.specs.Keeps.{Keeps}
+use Rattle.walk_rules.specs.declared.place.Place.{Place}
+use Rattle.walk_rules.specs.Relation.{IsHow}
+use Rattle.walk_rules.specs.Treatment.{lowered, member_of}
+use Rattle.walk_rules.specs.Way.{Way, Over, way_of}
+use Rattle.intent_reader.specs.Rules.{stand_after}
+use Rattle.intent_reader.specs.declared.intent.Step.{Step}
+use Rattle.leg_table.specs.Ride.{Ride, one_if, ride_of, with_hop_limit}
+use Rattle.leg_table.specs.Trace.{Event, Crossed}
+use Rattle.leg_table.proofs.Handing.{Free, same_destination}
+use Rattle.leg_table.proofs.RideFacts.{IsSent, ride-each}
+use Rattle.leg_table.proofs.Rides.{arrived}
+use Rattle.deep_walks.specs.Moves.{Got, Fork, link_of, got_after, got_by, got_of}
+use Rattle.deep_walks.specs.Deep.{Bared, Loses, arrives, open_at, own_by}
+use Rattle.deep_walks.proofs.PublicLaws.{map_parts, arrives-parts}
+use Rattle.deep_choices.specs.Look.{leads, look_links, look_by, step_events}
+use Rattle.deep_choices.proofs.Watching.{member-link, one-link}
+use Rattle.binding_meanings.proofs.Machine.{network_world, own_got}
+
+abbrev pub OwnGot : Type 0
+OwnGot = Got Event ℕ (Bared Place Content)
+
+module _ (net : Network) (keeps : Keeps net) where
+  -- at the end of the ride the walk goes on with the hop limit that is left
+  pub record Ridden (r : Ride) (q : Packet) (pick : ℕ → ℕ) (g : OwnGot) : Type 0 where
+    pub free : Free r.lowered q.hop_limit
+    pub fuel : ℕ
+    pub chosen : ℕ
+    pub rest : OwnGot
+    pub gives : own_got net fuel (open_at r.place (with_hop_limit (q.hop_limit - r.lowered) q)) pick chosen ≡ Some rest
+    pub sids : rest.sids ≡ g.sids
+
+  hop-same : (q : Packet) → q ≡ with_hop_limit (q.hop_limit - 0) q
+  hop-same q = ap (λ n. with_hop_limit n q) (omega arith)
+
+  hop-lowered : (lower : Bool) (q : Packet) (k : ℕ)
+      → with_hop_limit ((lowered lower q).hop_limit - k) (lowered lower q) ≡ with_hop_limit (q.hop_limit - (one_if lower + k)) q
+  hop-lowered true q k = let e : q.hop_limit - 1 - k ≡ q.hop_limit - (1 + k) = omega arith in ap (λ n. with_hop_limit n q) e
+  hop-lowered false q k = let e : q.hop_limit - k ≡ q.hop_limit - (0 + k) = omega arith in ap (λ n. with_hop_limit n q) e
+
+  -- a lowering more, of a packet whose hop limit allows it
+  free-before : (lower : Bool) (k : ℕ) (q : Packet) → (lower ≡ true → 1 < q.hop_limit) → Free k (lowered lower q).hop_limit
+      → Free (one_if lower + k) q.hop_limit
+  free-before true k q high (inl none) = let h = high refl in inr (omega arith)
+  free-before true k q high (inr low) = let h = high refl in inr (omega arith)
+  free-before false k q high (inl none) = inl (omega arith)
+  free-before false k q high (inr low) = inr (omega arith)
+
+  here : (ts : List Step) (place : Place) (n : ℕ) (q : Packet) (fuel : ℕ) (pick : ℕ → ℕ) (taken : ℕ) (g : OwnGot)
+      → own_got net fuel (open_at place q) pick taken ≡ Some g
+      → Ridden (record { sid = n; place = place; left = ts; lowered = 0 }) q pick g
+  here ts place n q fuel pick taken g h =
+      record {
+        free = inl refl;
+        fuel = fuel;
+        chosen = taken;
+        rest = g;
+        gives = ap (λ (p : Packet). own_got net fuel (open_at place p) pick taken) (sym (hop-same q)) ∙ h;
+        sids = refl;
+      }
+
+  -- over a set of links
+  module _ (place : Place) (lower : Bool) (to : ℕ) (r : Ride) (q : Packet) (n : ℕ) (pick : ℕ → ℕ) (taken : ℕ) (g : OwnGot)
+      (rest : (m : ℕ) (chosen : ℕ) (g : OwnGot) → own_got net m (open_at (arrived to place) (lowered lower q)) pick chosen ≡ Some g
+      → Ridden r (lowered lower q) pick g) where
+    abbrev After : Type 0
+    After = Ridden (record { sid = r.sid; place = r.place; left = r.left; lowered = one_if lower + r.lowered }) q pick g
+
+    over-set : (link : ℕ) (links : List ℕ) → ((choice : ℕ) → leads net place (member_of (link ∷ links) choice) ≡ Some (arrived to place))
+        → (lower ≡ true → 1 < q.hop_limit)
+        → got_by step_events (own_got net n) (Fork link links (arrives (leads net place) (λ at. open_at at (lowered lower q)))) pick taken
+        ≡ Some g → After
+    over-set link links to_all high h =
+        let l = link_of link links (pick taken) in
+        let a = map_parts (got_after (Crossed l ∷ []) []) _ g h in
+        let b = arrives-parts (λ next. own_got net n next pick (suc taken)) (leads net place)
+        (λ at. open_at at (lowered lower q)) l a.0 a.1 in
+        let same : b.0 ≡ arrived to place
+        = same_Some _ _ (sym b.1 ∙ ap (leads net place) (sym (member-link link links (pick taken))) ∙ to_all (pick taken)) in
+        let on = rest n (suc taken) a.0
+        (subst (λ (at : Place). own_got net n (open_at at (lowered lower q)) pick (suc taken) ≡ Some a.0) same b.2) in
+        record {
+          free = free-before lower r.lowered q high on.free;
+          fuel = on.fuel;
+          chosen = on.chosen;
+          rest = on.rest;
+          gives = ap (λ (p : Packet). own_got net on.fuel (open_at r.place p) pick on.chosen) (sym (hop-lowered lower q r.lowered))
+              ∙ on.gives;
+          sids = on.sids ∙ ap (λ (g : OwnGot). g.sids) a.2;
+        }
+
+    over-links : (set : List ℕ) → ((choice : ℕ) → leads net place (member_of set choice) ≡ Some (arrived to place))
+        → (lower ≡ true → 1 < q.hop_limit)
+        → got_by step_events (own_got net n) (own_by (network_world net) (look_links net place set (lowered lower q))) pick taken ≡ Some g
+        → After
+    over-links [] to_all high h =
+        over-set 0 [] (λ choice. ap (leads net place) (member-link 0 [] choice ∙ one-link 0 (choice % 1)) ∙ to_all choice) high h
+    over-links (link ∷ links) to_all high h = over-set link links to_all high h
+
+    high-by : (b : Bool) → (b && nat_le q.hop_limit 1) ≡ false → b ≡ true → 1 < q.hop_limit
+    high-by true off is = leb-false q.hop_limit 1 off
+    high-by false off is = cc
+
+    over-way : (set : List ℕ) → ((choice : ℕ) → leads net place (member_of set choice) ≡ Some (arrived to place))
+        → got_by step_events (own_got net n) (own_by (network_world net) (look_by net place (Over set lower) q)) pick taken ≡ Some g
+        → After
+    over-way set to_all h = by_low (lower && nat_le q.hop_limit 1) refl h
+      where
+        by_low : (c : Bool) → (lower && nat_le q.hop_limit 1) ≡ c
+            → got_by step_events (own_got net n)
+            (own_by (network_world net) (if c then Loses else look_links net place set (lowered lower q))) pick taken ≡ Some g
+            → After
+        by_low true e h = cc
+        by_low false e h = over-links set to_all (high-by lower e) h
+
+  abbrev Through : ℕ → List Step → Place → Ride → Type 0
+  Through destination ts place r =
+      (q : Packet) → q.destination ≡ destination → (n : ℕ) (pick : ℕ → ℕ) (taken : ℕ) (g : OwnGot)
+      → own_got net n (open_at place q) pick taken ≡ Some g → Ridden r q pick g
+
+  later : (destination : ℕ) (step : List ℕ) (ts : List Step) (place : Place) (set : List ℕ) (lower : Bool) (to : ℕ) (r : Ride)
+      → IsSent net destination step place set lower to → Through destination ts (arrived to place) r
+      → (q : Packet) → q.destination ≡ destination → (n : ℕ) (pick : ℕ → ℕ) (taken : ℕ) (g : OwnGot)
+      → own_got net n (open_at place q) pick taken ≡ Some g
+      → Ridden (record { sid = r.sid; place = r.place; left = r.left; lowered = one_if lower + r.lowered }) q pick g
+  unfolding got_of
+  later destination step ts place set lower to r sent on q is zero pick taken g h = cc
+  later destination step ts place set lower to r sent on q is (suc n) pick taken g h =
+      over-way place lower to r q n pick taken g
+      (λ m chosen g e. on (lowered lower q) (same_destination net keeps q lower ∙ is) m pick chosen g e) set sent.leads
+      (subst (λ (way : Way). got_by step_events (own_got net n) (own_by (network_world net) (look_by net place way q)) pick taken ≡ Some g)
+      (ap (way_of net place) is ∙ sent.way) h)
+
+  pub ridden : (ts : List Step) (place : Place) (p : Packet) (r : Ride) → IsHow net place.node place.how
+      → is_some (stand_after net place.node ts) ≡ true → ride_of net p.destination ts place ≡ Some r
+      → (n : ℕ) (pick : ℕ → ℕ) (taken : ℕ) (g : OwnGot) → own_got net n (open_at place p) pick taken ≡ Some g → Ridden r p pick g
+  ridden ts place p r how stands ride n pick taken g h =
+      ride-each net keeps p.destination (Through p.destination)
+      (λ ts place n into q is fuel pick taken g h. here ts place n q fuel pick taken g h)
+      (λ step ts place set lower to r sent on q is n pick taken g h. later p.destination step ts place set lower to r sent on q is n pick taken g h)
+      ts place r how stands ride p refl n pick taken g h
