@@ -2,4 +2,5 @@ pub mod Quiet
 pub mod Simulating
 pub mod Bridge
 pub mod Making
+pub mod Numbering
 pub mod Nodes

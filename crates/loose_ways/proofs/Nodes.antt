@@ -1,5 +1,5 @@
 -- The graph of nodes and steps left stands over that of the nodes.
-use Rattle.std.proofs.Common.{◌≡◌, ℕ, zero, suc, ◌+◌, ◌-◌, ◌*◌, ◌/◌, ◌%◌, ◌<◌, ◌≤◌, ◌⊎◌, inl, inr, List, [], ◌∷◌, ◌++◌, map, take, drop, length, slice_get, slice_index, Option, Some, None, refl, sym, ◌∙◌, ap, subst, arith, mod-lt, length-drop}
+use Rattle.std.proofs.Common.{◌≡◌, ℕ, zero, suc, ◌+◌, ◌-◌, ◌*◌, ◌/◌, ◌%◌, ◌<◌, ◌≤◌, ◌⊎◌, inl, inr, List, [], ◌∷◌, map, take, drop, length, Option, Some, None, refl, sym, ◌∙◌, ap, subst, arith, mod-lt, length-drop}
 use Rattle.std.proofs.lemmas.Bool.{cases_lt}
 use Rattle.std.proofs.lemmas.List.{take-append-drop}
 use Rattle.std.proofs.lemmas.Nat.{div-add-mod', div_below, mod-mul-add}
@@ -18,7 +18,7 @@ use Rattle.loose_graph.specs.Finding.{HasLost, IsOver, StandsOver, found_at, fou
 use Rattle.loose_graph.proofs.Depths.{under-few}
 use Rattle.loose_graph.proofs.PublicLaws.{few-from}
 use Rattle.loose_ways.specs.Stops.{ends_in}
-use Rattle.loose_ways.specs.Graphs.{Numbers, arrived, spot_behind, next_spot, spot_by, IsLeft, IsGraph, numbers_of, graph_in, row_from, node_or, node_behind, node_spot_by, nodes_in}
+use Rattle.loose_ways.specs.Graphs.{arrived, spot_behind, next_spot, spot_by, numbers_of, graph_in, node_or, node_behind, node_spot_by, nodes_in}
 use Rattle.loose_ways.proofs.Quiet.{end-there}
 use Rattle.loose_ways.proofs.Making.{row-length, row-get, rows-length, graph-is}
 

@@ -90,6 +90,21 @@ numbers_of net count = record {
 abbrev pub graph_in : Network → ℕ → List Step → List Spot
 graph_in net destination steps = rows_of net (numbers_of net (length steps)) destination steps
 
+-- ---- while it is made
+
+-- the spot behind a link, by how many steps are left there
+abbrev pub number_behind : ℕ → ℕ → Option ℕ → Option ℕ → ℕ
+number_behind size lost None end = lost
+number_behind size lost (Some left) None = lost
+number_behind size lost (Some left) (Some node) = left * size + node
+
+-- a SID into which a way leads is there
+abbrev pub IsInto : Network → Way → Type 0
+IsInto net (Away reason) = Unit {0}
+IsInto net (Over set lower) = Unit {0}
+IsInto net Own = Unit {0}
+IsInto net (Into n) = n < length net.sids
+
 -- ---- the graph of the nodes alone
 
 -- the node behind a link; the number of nodes stands for out of the network

@@ -7,8 +7,10 @@
 //! those definitions.
 #![tactic(auto)]
 
+mod graphs;
 mod laws;
 
+pub use graphs::graph_of;
 pub use laws::{
     all_choices_come_where_the_graph_finds, lowerings_are_fewer_than_the_nodes,
     networks_have_graphs, walks_are_ways_over_the_graph,
