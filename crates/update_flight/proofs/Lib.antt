@@ -1,0 +1,9 @@
+pub mod OwnStages
+pub mod Firsts
+pub mod EditLemmas
+pub mod Kept
+pub mod Whole
+pub mod Passed
+pub mod Entering
+pub mod Named
+pub mod Planned

@@ -1,0 +1,4 @@
+pub mod Tables
+pub mod Transition
+pub mod Interleaving
+pub mod Planned

@@ -1,0 +1,24 @@
+-- Tables of a network that pass from an old description to a new one while packets are on their way (own rules).
+use Rattle.std.specs.Prelude.{◌≡◌, ◌≢◌, ℕ, Bool}
+use Rattle.srv6_rules.specs.declared.sid.Family.{Family}
+use Rattle.srv6_rules.specs.declared.sid.Reason.TheVariants as reasons
+use Rattle.net_model.specs.declared.net.Hit.TheVariants as hits
+use Rattle.net_model.specs.Network.{Network}
+use Rattle.net_model.specs.Best.{lookup_of}
+use Rattle.walk_rules.specs.declared.place.Outcome.TheVariants as outcomes
+use Rattle.walk_rules.specs.Walk.{Stage}
+
+-- the tables of a moment keep a description's own matches: an address that the description has an entry for is looked up to that
+-- entry, and all else than the tables is the description's
+pub record KeepsOwn (own now : Network) : Type 0 where
+  pub nodes : now.nodes ≡ own.nodes
+  pub links : now.links ≡ own.links
+  pub routes : now.routes ≡ own.routes
+  pub policies : now.policies ≡ own.policies
+  pub sids : now.sids ≡ own.sids
+  pub matches : (node table : ℕ) (family : Family) (a : ℕ) → lookup_of own node table family a ≢ hits.Nothing
+      → lookup_of now node table family a ≡ lookup_of own node table family a
+
+-- the stage is no drop for want of a route
+abbrev pub HasRoute : Stage → Type 0
+HasRoute s = (told : Bool) → s.gave.outcome ≢ outcomes.Drop reasons.NoRoute told
