@@ -9,7 +9,7 @@ use Rattle.srv6_rules.specs.declared.sid.Family.TheVariants as families
 use Rattle.srv6_rules.specs.declared.sid.SidEntry.{SidEntry}
 use Rattle.net_model.specs.declared.net.Hit.{Hit}
 use Rattle.net_model.specs.declared.net.Hit.TheVariants as hits
-use Rattle.net_model.specs.Network.{Network}
+use Rattle.net_model.specs.Network.{Network, is_shown}
 use Rattle.net_model.specs.Rules.{IsNetwork}
 use Rattle.net_model.specs.Best.{Entry, entries_of, IsBestEntry, IsBest, longer, longest, hit_of, lookup_of}
 use Rattle.net_model.specs.Entries.{IsEntryAs}
@@ -76,11 +76,11 @@ lookups_alike net n s node table a b flat at own_a own_b =
     (λ e there. entry_alike net node table n a b s e flat at own_a own_b there))
 
 -- at its own node the SID is the best match of each of its own addresses
-pub own_sid_is_best : (net : Network) (n : ℕ) (s : SidEntry) (a : ℕ) → IsNetwork net → IsFlat net → slice_get net.sids n ≡ Some s
-    → IsOwn net s a → lookup_of net s.node 0 families.V6 a ≡ hits.Sid n
-own_sid_is_best net n s a rules flat at own =
+shown_is_best : (net : Network) (n : ℕ) (s : SidEntry) (a : ℕ) → IsNetwork net → IsFlat net → slice_get net.sids n ≡ Some s
+    → IsOwn net s a → is_shown net.hidden (hits.Sid n) ≡ true → lookup_of net s.node 0 families.V6 a ≡ hits.Sid n
+shown_is_best net n s a rules flat at own shown =
     let best : IsBestEntry (entries_of net s.node 0 families.V6) a (record { hit = hits.Sid n; prefix = s.prefix }) = record {
-      is_there = entry_is_there net s.node 0 families.V6 s.prefix (hits.Sid n) (s, at, refl, refl, refl, refl);
+      is_there = entry_is_there net s.node 0 families.V6 s.prefix (hits.Sid n) (s, at, refl, refl, refl, refl) shown;
       holds = own.held;
       no_better = λ other there other_a. (no_longer net s.node 0 n a s other flat at own there other_a, λ same. omega arith);
     } in
@@ -90,23 +90,24 @@ own_sid_is_best net n s a rules flat at own =
 -- the SID that is hit by an own address of a SID is not shorter: else the two were a nest, and at the node of both the inner one is the
 -- better match
 no_shorter : (net : Network) (n m a node table : ℕ) (s t : SidEntry) → IsFlat net → slice_get net.sids n ≡ Some s
-    → slice_get net.sids m ≡ Some t → IsOwn net s a → Holds t.prefix a → t.node ≡ node → table ≡ 0
+    → slice_get net.sids m ≡ Some t → IsOwn net s a → is_shown net.hidden (hits.Sid n) ≡ true → Holds t.prefix a → t.node ≡ node
+    → table ≡ 0
     → IsBestEntry (entries_of net node table families.V6) a (record { hit = hits.Sid m; prefix = t.prefix }) → s.prefix.len ≤ t.prefix.len
-no_shorter net n m a node table s t flat at_n at_m own t_a of first best =
+no_shorter net n m a node table s t flat at_n at_m own shown t_a of first best =
     elim (cases_lt t.prefix.len s.prefix.len) [
       | inl shorter ↦
           let nest : IsNest net t s = flat.nested.sids t s (contains_from_get net.sids m t at_m) (contains_from_get net.sids n s at_n)
           (shorter, Holds_nested t.prefix s.prefix a (omega arith) t_a own.held) in
-          let there = entry_is_there net node table families.V6 s.prefix (hits.Sid n) (s, at_n, sym nest.node ∙ of, refl, first, refl) in
+          let there = entry_is_there net node table families.V6 s.prefix (hits.Sid n) (s, at_n, sym nest.node ∙ of, refl, first, refl) shown in
           (best.no_better (record { hit = hits.Sid n; prefix = s.prefix }) there own.held).0
       | inr longer ↦ longer
     ]
 
 -- a SID that is hit by an own address of a SID has its prefix
-pub one_sid_prefix : (net : Network) (n m : ℕ) (s t : SidEntry) (node table a : ℕ) → IsNetwork net → IsFlat net
-    → slice_get net.sids n ≡ Some s → IsOwn net s a
+shown_prefix : (net : Network) (n m : ℕ) (s t : SidEntry) (node table a : ℕ) → IsNetwork net → IsFlat net
+    → slice_get net.sids n ≡ Some s → IsOwn net s a → is_shown net.hidden (hits.Sid n) ≡ true
     → lookup_of net node table families.V6 a ≡ hits.Sid m → slice_get net.sids m ≡ Some t → s.prefix ≡ t.prefix
-one_sid_prefix net n m s t node table a rules flat at_n own hit at_m =
+shown_prefix net n m s t node table a rules flat at_n own shown hit at_m =
     let keeps = keeps_from_network net rules in
     let (p, best) = subst (IsBest net node table families.V6 a) hit (lookup_is_best net node table families.V6 a) in
     let (u, at_u, of, is, first, v6) = entry_means net node table families.V6 (record { hit = hits.Sid m; prefix = p }) best.is_there in
@@ -116,7 +117,21 @@ one_sid_prefix net n m s t node table a rules flat at_n own hit at_m =
     subst (λ (q : PrefixValue). IsBestEntry (entries_of net node table families.V6) a (record { hit = hits.Sid m; prefix = q })) prefix
     best in
     let short = no_longer net node table n a s (record { hit = hits.Sid m; prefix = t.prefix }) flat at_n own mine.is_there mine.holds in
-    let long = no_shorter net n m a node table s t flat at_n at_m own mine.holds (ap (λ (v : SidEntry). v.node) same ∙ of) first mine in
+    let long = no_shorter net n m a node table s t flat at_n at_m own shown mine.holds (ap (λ (v : SidEntry). v.node) same ∙ of) first mine in
     let len : s.prefix.len ≡ t.prefix.len = omega (arith, short, long) in
     same_prefix_value s.prefix t.prefix
     (same_value s.prefix t.prefix a (keeps.sid n s at_n).prefix (keeps.sid m t at_m).prefix len own.held mine.holds) len
+
+-- in a flat network nothing is hidden
+all_shown : (net : Network) → IsFlat net → (h : Hit) → is_shown net.hidden h ≡ true
+all_shown net flat h = ap (λ (hidden : List Hit). is_shown hidden h) flat.whole
+
+pub own_sid_is_best : (net : Network) (n : ℕ) (s : SidEntry) (a : ℕ) → IsNetwork net → IsFlat net → slice_get net.sids n ≡ Some s
+    → IsOwn net s a → lookup_of net s.node 0 families.V6 a ≡ hits.Sid n
+own_sid_is_best net n s a rules flat at own = shown_is_best net n s a rules flat at own (all_shown net flat (hits.Sid n))
+
+pub one_sid_prefix : (net : Network) (n m : ℕ) (s t : SidEntry) (node table a : ℕ) → IsNetwork net → IsFlat net
+    → slice_get net.sids n ≡ Some s → IsOwn net s a
+    → lookup_of net node table families.V6 a ≡ hits.Sid m → slice_get net.sids m ≡ Some t → s.prefix ≡ t.prefix
+one_sid_prefix net n m s t node table a rules flat at_n own hit at_m =
+    shown_prefix net n m s t node table a rules flat at_n own (all_shown net flat (hits.Sid n)) hit at_m

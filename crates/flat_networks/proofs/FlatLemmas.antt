@@ -10,7 +10,9 @@ use Rattle.srv6_rules.specs.declared.sid.Family.{Family}
 use Rattle.srv6_rules.specs.declared.sid.Family.TheVariants as families
 use Rattle.srv6_rules.specs.declared.sid.SidEntry.{SidEntry}
 use Rattle.net_model.specs.declared.parts.Route.{Route}
-use Rattle.net_model.specs.Network.{Network}
+use Rattle.net_model.specs.declared.net.Hit.{Hit}
+use Rattle.net_model.specs.declared.parts.NetParts.{NetParts}
+use Rattle.net_model.specs.Network.{Network, network_of}
 use Rattle.net_model.specs.Rules.{same_family}
 use Rattle.net_model.proofs.PublicLaws.{get_from_contains, contains_from_get, contains_none, contains_cases, contains_first, contains_later, same_family-from}
 use Rattle.flat_networks.specs.declared.not_flat.NotFlat.{NotFlat}
@@ -124,12 +126,12 @@ some_nested net s e first none =
 
 -- ---- one refusal after the other
 
-clash_judges : (net : Network) → NoneNested net → NoneZero net → NoneMixed net
+clash_judges : (net : Network) → net.hidden ≡ [] → NoneNested net → NoneZero net → NoneMixed net
     → AreJudged is_clash IsClash clash clash_is net.sids net.sids (no_clash net) → IsJudged net (no_clash net)
-clash_judges net nested zero mixed (inl (none, e)) =
+clash_judges net whole nested zero mixed (inl (none, e)) =
     subst (IsJudged net) (sym e)
-    (record { nested = nested; zero = zero; mixed = mixed; clash = none_among IsClash net.sids net.sids none })
-clash_judges net nested zero mixed (inr (s, t, first, e)) =
+    (record { whole = whole; nested = nested; zero = zero; mixed = mixed; clash = none_among IsClash net.sids net.sids none })
+clash_judges net whole nested zero mixed (inr (s, t, first, e)) =
     subst (IsJudged net) (sym e)
     (record {
       none_nested = nested;
@@ -144,14 +146,14 @@ clash_judges net nested zero mixed (inr (s, t, first, e)) =
       other_node = refl;
     })
 
-mixed_judges : (net : Network) → NoneNested net → NoneZero net
+mixed_judges : (net : Network) → net.hidden ≡ [] → NoneNested net → NoneZero net
     → AreJudged is_mixed IsMixed mixed_block mixed_is net.blocks net.sids (no_mixed net)
     → IsJudged net (or_later (no_mixed net) (no_clash net))
-mixed_judges net nested zero (inl (none, e)) =
+mixed_judges net whole nested zero (inl (none, e)) =
     subst (IsJudged net) (sym (ap (λ r. or_later r (no_clash net)) e))
-    (clash_judges net nested zero (none_among IsMixed net.blocks net.sids none)
+    (clash_judges net whole nested zero (none_among IsMixed net.blocks net.sids none)
     (are_judged is_clash IsClash clash clash_is net.sids net.sids))
-mixed_judges net nested zero (inr (b, s, first, e)) =
+mixed_judges net whole nested zero (inr (b, s, first, e)) =
     subst (IsJudged net) (sym (ap (λ r. or_later r (no_clash net)) e))
     (record {
       none_nested = nested;
@@ -163,28 +165,28 @@ mixed_judges net nested zero (inr (b, s, first, e)) =
       its_prefix = refl;
     })
 
-zero_judges : (net : Network) → NoneNested net → AreJudged is_zero_in IsZeroIn zero_csid zero_is net.sids net.blocks (no_zero net)
+zero_judges : (net : Network) → net.hidden ≡ [] → NoneNested net → AreJudged is_zero_in IsZeroIn zero_csid zero_is net.sids net.blocks (no_zero net)
     → IsJudged net (or_later (no_zero net) (or_later (no_mixed net) (no_clash net)))
-zero_judges net nested (inl (none, e)) =
+zero_judges net whole nested (inl (none, e)) =
     subst (IsJudged net) (sym (ap (λ r. or_later r (or_later (no_mixed net) (no_clash net))) e))
-    (mixed_judges net nested (none_among IsZeroIn net.sids net.blocks none)
+    (mixed_judges net whole nested (none_among IsZeroIn net.sids net.blocks none)
     (are_judged is_mixed IsMixed mixed_block mixed_is net.blocks net.sids))
-zero_judges net nested (inr (s, b, first, e)) =
+zero_judges net whole nested (inr (s, b, first, e)) =
     subst (IsJudged net) (sym (ap (λ r. or_later r (or_later (no_mixed net) (no_clash net))) e))
     (record { none_nested = nested; sid = s; block = b; first = first; its_prefix = refl })
 
-nested_judges : (net : Network)
+nested_judges : (net : Network) → net.hidden ≡ []
     → AreJudged (is_nested net) (IsNested net) nested (nested_is net) net.sids (inner_entries net) (no_nested net)
     → IsJudged net (flatness_of net)
-nested_judges net (inl (none, e)) =
+nested_judges net whole (inl (none, e)) =
     subst (IsJudged net) (sym (ap (λ r. or_later r (or_later (no_zero net) (or_later (no_mixed net) (no_clash net)))) e))
-    (zero_judges net (none_nested_from net none) (are_judged is_zero_in IsZeroIn zero_csid zero_is net.sids net.blocks))
-nested_judges net (inr (s, inner, first, e)) =
+    (zero_judges net whole (none_nested_from net none) (are_judged is_zero_in IsZeroIn zero_csid zero_is net.sids net.blocks))
+nested_judges net whole (inr (s, inner, first, e)) =
     subst (IsJudged net) (sym (ap (λ r. or_later r (or_later (no_zero net) (or_later (no_mixed net) (no_clash net)))) e))
     (record { sid = s; entry = inner; first = first; its_prefix = refl; inner_prefix = refl })
 
-pub flatness_judges : (net : Network) → IsJudged net (flatness_of net)
-flatness_judges net = nested_judges net (are_judged (is_nested net) (IsNested net) nested (nested_is net) net.sids (inner_entries net))
+pub flatness_judges : (net : Network) → net.hidden ≡ [] → IsJudged net (flatness_of net)
+flatness_judges net whole = nested_judges net whole (are_judged (is_nested net) (IsNested net) nested (nested_is net) net.sids (inner_entries net))
 
 -- what is refused is not flat
 ok_where_flat : (net : Network) (r : Result (Unit {0}) NotFlat) → IsJudged net r → IsOk r ↔ IsFlat net
@@ -201,5 +203,14 @@ ok_where_flat net (Err (Clash prefix first second)) is =
     let (in_sids, also, pair) = first_among IsClash net.sids net.sids is.earlier is.later is.first in
     (λ ok. absurd (let e = ok in cc), λ flat. absurd (flat.clash is.earlier is.later in_sids also pair))
 
-pub flatness_ok : (net : Network) → IsOk (flatness_of net) ↔ IsFlat net
-flatness_ok net = ok_where_flat net (flatness_of net) (flatness_judges net)
+pub flatness_ok : (net : Network) → net.hidden ≡ [] → IsOk (flatness_of net) ↔ IsFlat net
+flatness_ok net whole = ok_where_flat net (flatness_of net) (flatness_judges net whole)
+
+-- flatness doesn't look at what is hidden
+flatness_hidden : (net : Network) (hidden : List Hit) → flatness_of (record net { hidden = hidden }) ≡ flatness_of net
+unfolding is_nest
+flatness_hidden net hidden = refl
+
+pub flatness_of_parts : (p : NetParts) (net : Network) → record (network_of p) { hidden = net.hidden } ≡ net
+    → flatness_of (network_of p) ≡ flatness_of net
+flatness_of_parts p net same = sym (flatness_hidden (network_of p) net.hidden) ∙ ap flatness_of same

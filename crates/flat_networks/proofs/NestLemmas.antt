@@ -12,7 +12,9 @@ use Rattle.srv6_rules.specs.declared.sid.SidEntry.{SidEntry}
 use Rattle.net_model.specs.declared.parts.Block.{Block}
 use Rattle.net_model.specs.declared.parts.BlockKind.{BlockKind}
 use Rattle.net_model.specs.declared.parts.BlockKind.TheVariants as kinds
-use Rattle.net_model.specs.Network.{Network}
+use Rattle.net_model.specs.declared.net.Hit.{Hit}
+use Rattle.net_model.specs.declared.parts.NetParts.{NetParts}
+use Rattle.net_model.specs.Network.{Network, network_of}
 use Rattle.net_model.specs.Rules.{block_of}
 use Rattle.net_model.proofs.PublicLaws.{same_prefix_value}
 use Rattle.flat_networks.specs.Nests.{unit_at, IsAlone, IsNest}
@@ -213,3 +215,15 @@ nest_to net outer inner is =
 pub nest_is : (net : Network) (outer inner : SidEntry) → (is_nest net outer inner ≡ true) ↔ IsNest net outer inner
 unfolding is_nest
 nest_is net outer inner = (nest_in net outer inner _ _ refl refl, nest_to net outer inner)
+
+-- ---- what is hidden makes no difference
+
+nest_hidden : (net : Network) (hidden : List Hit) (outer inner : SidEntry)
+    → is_nest (record net { hidden = hidden }) outer inner ≡ is_nest net outer inner
+unfolding is_nest
+nest_hidden net hidden outer inner = refl
+
+pub nest_of_parts : (p : NetParts) (net : Network) (outer inner : SidEntry) → record (network_of p) { hidden = net.hidden } ≡ net
+    → is_nest (network_of p) outer inner ≡ is_nest net outer inner
+nest_of_parts p net outer inner same =
+    sym (nest_hidden (network_of p) net.hidden outer inner) ∙ ap (λ (n : Network). is_nest n outer inner) same

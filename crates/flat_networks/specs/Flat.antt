@@ -98,7 +98,9 @@ NoneMixed net = (b : Block) (s : SidEntry) → Contains net.blocks b → Contain
 abbrev pub NoneClash : Network → Type 0
 NoneClash net = (s t : SidEntry) → Contains net.sids s → Contains net.sids t → ¬ IsClash s t
 
+-- lists are compiled over networks of which nothing is hidden
 pub record IsFlat (net : Network) : Type 0 where
+  pub whole : net.hidden ≡ []
   pub nested : NoneNested net
   pub zero : NoneZero net
   pub mixed : NoneMixed net
@@ -163,7 +165,7 @@ pub record IsFirstClash (net : Network) (prefix : PrefixValue) (first_node secon
   pub its_node : earlier.node ≡ first_node
   pub other_node : later.node ≡ second_node
 
--- a flat network is accepted; another is refused with its first nested pair, else with its first CSID 0, else with its first block
+-- of a network of which nothing is hidden: a flat one is accepted; another is refused with its first nested pair, else with its first CSID 0, else with its first block
 -- that a SID does not fit, else with its first clash
 abbrev pub IsJudged : Network → Result (Unit {0}) NotFlat → Type 0
 IsJudged net (Ok accepted) = IsFlat net
@@ -242,6 +244,6 @@ no_mixed net = first_pair is_mixed mixed_block net.sids net.blocks
 abbrev pub no_clash : Network → Result (Unit {0}) NotFlat
 no_clash net = first_pair is_clash clash net.sids net.sids
 
--- whether a network is flat, or its first refusal
+-- whether a network of which nothing is hidden is flat, or its first refusal
 abbrev pub flatness_of : Network → Result (Unit {0}) NotFlat
 flatness_of net = or_later (no_nested net) (or_later (no_zero net) (or_later (no_mixed net) (no_clash net)))

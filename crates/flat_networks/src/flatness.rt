@@ -1,6 +1,6 @@
 //! Flat networks, over which lists are compiled.
 
-ghost use Rattle.std.specs.Prelude.{◌≡◌, ◌↔◌, IsOk};
+ghost use Rattle.std.specs.Prelude.{◌≡◌, ◌↔◌, [], IsOk};
 ghost use Rattle.net_model.specs.Network.{network_of};
 ghost use Rattle.flat_networks.specs.Flat.{flatness_of, IsFlat, IsJudged};
 
@@ -20,7 +20,8 @@ fn refuse(alloc: Global, parts: &NetParts) -> Result<(), NotFlat>
     refuse_clash(parts)
 }
 
-/// Whether lists may be compiled over the network (own rule). It is flat where
+/// Whether lists may be compiled over the network, of which nothing may be hidden (own rule). It is
+/// flat where
 ///
 /// - no entry lies strictly inside the prefix of a SID: the prefix of a SID, of an IPv6 route of
 ///   any table, or a node's address (`Nested`); but for a SID of the same node that has the 16 bits
@@ -43,8 +44,8 @@ fn refuse(alloc: Global, parts: &NetParts) -> Result<(), NotFlat>
 /// gets no memory the pairs are searched as where there is one, which takes longer.
 pub fn compilable(alloc: Global, net: &Net) -> Result<(), NotFlat>
     ensures answer { result ≡ flatness_of net.now }
-    ensures flat { IsOk result ↔ IsFlat net.now }
-    ensures judged { IsJudged net.now result }
+    ensures flat { net.now.hidden ≡ [] → (IsOk result ↔ IsFlat net.now) }
+    ensures judged { net.now.hidden ≡ [] → IsJudged net.now result }
 {
     refuse(alloc, net.parts())
 }

@@ -1,6 +1,6 @@
 //! Laws of the definitions: each is the contract of an empty function.
 
-ghost use Rattle.std.specs.Prelude.{◌≡◌, ◌≢◌, ◌⊎◌, ◌↔◌, ℕ, ◌+◌, true, Some, None, slice_get, IsOk};
+ghost use Rattle.std.specs.Prelude.{◌≡◌, ◌≢◌, ◌⊎◌, ◌↔◌, ℕ, ◌+◌, true, [], Some, None, slice_get, IsOk};
 ghost use Rattle.v6_addr.specs.Address.{PrefixValue, IsInside};
 ghost use Rattle.srv6_rules.specs.Behaviours.{goes_on};
 ghost use Rattle.srv6_rules.specs.Compressed.{csid_of};
@@ -46,9 +46,9 @@ pub fn nested_sids()
         → s.block_len ≡ nest.block.prefix.len }
 {}
 
-/// A network is flat exactly where it is refused for nothing (own rule).
+/// A network of which nothing is hidden is flat exactly where it is refused for nothing (own rule).
 pub fn flat_networks_are_refused_for_nothing()
-    ensures { (net : Network) → IsOk (flatness_of net) ↔ IsFlat net }
+    ensures { (net : Network) → net.hidden ≡ [] → IsOk (flatness_of net) ↔ IsFlat net }
 {}
 
 /// In a flat network each SID that lies strictly inside a block has some whole units of 16 bits

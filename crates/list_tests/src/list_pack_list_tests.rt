@@ -1,5 +1,7 @@
 //! Lists of two networks, by their paths and their segments.
 
+ghost use Rattle.std.specs.Prelude.{◌≡◌, [], IfOk};
+
 use flat_networks::compilable;
 use list_pack::{PathStep, SidList, flavour_of, header_bytes, is_legal, list_of, values};
 use net_model::{Block, BlockKind, Name, Net, NetParts, Node, TypeList, are_in_range};
@@ -61,7 +63,9 @@ fn network(
     alloc: Global,
     block: Block,
     sids: Vec<SidEntry>,
-) -> Result<Net, AllocError> {
+) -> Result<Net, AllocError>
+    ensures { IfOk result (λ net. net.hidden ≡ []) }
+{
     let mut blocks = Vec::new(alloc);
     blocks.push(block)?;
     let mut nodes = Vec::new(alloc);
@@ -84,16 +88,16 @@ fn network(
 }
 
 /// SIDs of NEXT-CSID, and one that is not compressed
-fn next_network(rt: &impl Abort, alloc: Global) -> Result<Net, AllocError> {
+fn next_network(rt: &impl Abort, alloc: Global) -> Result<Net, AllocError>
+    ensures { IfOk result (λ net. net.hidden ≡ []) }
+{
     network_beside(rt, alloc, Vec::new(alloc))
 }
 
 /// these SIDs beside further ones of NEXT-CSID and one that is not compressed
-fn network_beside(
-    rt: &impl Abort,
-    alloc: Global,
-    beside: Vec<SidEntry>,
-) -> Result<Net, AllocError> {
+fn network_beside(rt: &impl Abort, alloc: Global, beside: Vec<SidEntry>) -> Result<Net, AllocError>
+    ensures { IfOk result (λ net. net.hidden ≡ []) }
+{
     let mut sids = beside;
     for value in [B, BC1, MARK, D] {
         sids.push(sid(alloc, prefix(rt, value, 48), 32, Behaviour::End, Csid::Next))?;
@@ -114,7 +118,9 @@ fn network_beside(
 }
 
 /// SIDs of REPLACE-CSID
-fn replace_network(rt: &impl Abort, alloc: Global) -> Result<Net, AllocError> {
+fn replace_network(rt: &impl Abort, alloc: Global) -> Result<Net, AllocError>
+    ensures { IfOk result (λ net. net.hidden ≡ []) }
+{
     let mut sids = Vec::new(alloc);
     for value in [P, Q, R] {
         sids.push(sid(
@@ -158,7 +164,9 @@ fn path(
 }
 
 /// the segments of a list, where it is a legal one of a flat network
-fn segments(alloc: Global, net: &Net, list: &SidList) -> Option<Vec<Addr>> {
+fn segments(alloc: Global, net: &Net, list: &SidList) -> Option<Vec<Addr>>
+    requires { net.now.hidden ≡ [] }
+{
     net.keeps_rules();
     if !is_legal(net, list) {
         return None;
@@ -177,7 +185,9 @@ fn assert_list(
     path: &[PathStep],
     want: &[u128],
     header: u64,
-) {
+)
+    requires { net.now.hidden ≡ [] }
+{
     let list = list_of(alloc, net, path).ok().expect(rt, "memory");
     let segments = segments(alloc, net, &list).expect(rt, "a legal list");
     assert_eq!(rt; segments.len(), want.len());

@@ -1,6 +1,6 @@
 -- The entries of a table by what they are.
-use Rattle.std.proofs.Common.{◌≡◌, ℕ, zero, suc, ◌+◌, true, false, ◌==◌, ◌⊎◌, List, [], ◌∷◌, ◌++◌, Option, Some, None, refl, sym, ap, ◌∙◌, subst, arith, inl, inr}
-use Rattle.std.specs.List.{slice_get, Contains}
+use Rattle.std.proofs.Common.{◌≡◌, ℕ, zero, suc, ◌+◌, Bool, true, false, ◌==◌, ◌⊎◌, List, [], ◌∷◌, ◌++◌, Option, Some, None, refl, sym, ap, ◌∙◌, subst, arith, inl, inr}
+use Rattle.std.specs.List.{slice_get, Contains, filter}
 use Rattle.std.proofs.lemmas.Bool.{cases_Bool, and_parts, and_from, eqb-true, eq-eqb}
 use Rattle.std.proofs.lemmas.Option.{same_Some}
 use Rattle.std.proofs.lemmas.List.Elements.{Contains-append_left, Contains-append_right, Contains-append_cases}
@@ -12,10 +12,10 @@ use Rattle.net_model.specs.declared.parts.Node.{Node}
 use Rattle.net_model.specs.declared.parts.Route.{Route}
 use Rattle.net_model.specs.declared.net.Hit.{Hit}
 use Rattle.net_model.specs.declared.net.Hit.TheVariants as hits
-use Rattle.net_model.specs.Network.{Network}
+use Rattle.net_model.specs.Network.{Network, is_shown}
 use Rattle.net_model.specs.Rules.{same_family}
-use Rattle.net_model.specs.Best.{Entry, sid_entries, is_route_of, route_entries, address_entries, has_sids, entries_of}
-use Rattle.net_model.specs.Entries.{IsEntryAs, IsEntry}
+use Rattle.net_model.specs.Best.{Entry, sid_entries, is_route_of, route_entries, address_entries, has_sids, all_entries_of, entries_of}
+use Rattle.net_model.specs.Entries.{IsEntryAs}
 
 pub contains_none : {X : Type 0} (x : X) → Contains [] x → ⊥
 contains_none x c = omega (arith, c.1)
@@ -151,30 +151,33 @@ route_is_there node table family n (t ∷ routes) (suc i) k r at of in_table of_
     route_in_front node table family n t routes _
     (route_is_there node table family (n + 1) routes i k r at of in_table of_family (omega arith))
 
--- the entries of a table by what they are, both ways
+-- the entries of a table by what they are, both ways, hidden or not
+
+abbrev pub IsAnyEntry : Network → ℕ → ℕ → Family → Entry → Type 0
+IsAnyEntry net node table family e = IsEntryAs net node table family e.prefix e.hit
 
 by_sid : (net : Network) (node table : ℕ) (family : Family) (e : Entry) → (table ≡ 0) × (family ≡ families.V6)
-    → Contains (sid_entries node 0 net.sids) e → IsEntry net node table family e
+    → Contains (sid_entries node 0 net.sids) e → IsAnyEntry net node table family e
 by_sid net node table family e first c =
     let (i, s, at, of, is) = sid_means node 0 net.sids e c in
     let same : i ≡ 0 + i = omega arith in
-    subst (IsEntry net node table family) (sym is) (s, subst (λ k. slice_get net.sids k ≡ Some s) same at, of, refl, first.0, first.1)
+    subst (IsAnyEntry net node table family) (sym is) (s, subst (λ k. slice_get net.sids k ≡ Some s) same at, of, refl, first.0, first.1)
 
 by_address : (net : Network) (node table : ℕ) (family : Family) (e : Entry) (o : Option Node) → slice_get net.nodes node ≡ o
-    → (table ≡ 0) × (family ≡ families.V6) → Contains (address_entries o) e → IsEntry net node table family e
+    → (table ≡ 0) × (family ≡ families.V6) → Contains (address_entries o) e → IsAnyEntry net node table family e
 by_address net node table family e None at first c = absurd (contains_none e c)
 by_address net node table family e (Some n) at first c =
     elim (contains_cases (record { hit = hits.Address; prefix = record { value = n.address.value; len = 128 } }) [] e c) [
-      | inl is ↦ subst (IsEntry net node table family) is (n, at, refl, first.0, first.1)
+      | inl is ↦ subst (IsAnyEntry net node table family) is (n, at, refl, first.0, first.1)
       | inr none ↦ absurd (contains_none e none)
     ]
 
 by_route : (net : Network) (node table : ℕ) (family : Family) (e : Entry) → Contains (route_entries node table family 0 net.routes) e
-    → IsEntry net node table family e
+    → IsAnyEntry net node table family e
 by_route net node table family e c =
     let (i, r, at, of, in_table, of_family, is) = route_means node table family 0 net.routes e c in
     let same : i ≡ 0 + i = omega arith in
-    subst (IsEntry net node table family) (sym is) (r, subst (λ k. slice_get net.routes k ≡ Some r) same at, of, in_table, of_family, refl)
+    subst (IsAnyEntry net node table family) (sym is) (r, subst (λ k. slice_get net.routes k ≡ Some r) same at, of, in_table, of_family, refl)
 
 -- the table with the node's SIDs is table 0 of IPv6
 has_sids-is : (table : ℕ) (family : Family) → has_sids table family ≡ true → (table ≡ 0) × (family ≡ families.V6)
@@ -185,22 +188,22 @@ has_sids-from : (table : ℕ) (family : Family) → (table ≡ 0) × (family ≡
 has_sids-from table family first = rw (first.0, first.1) refl
 
 -- the entries of that table, and of another
-pub entries_of-first : (net : Network) (node table : ℕ) (family : Family) → has_sids table family ≡ true
-    → entries_of net node table family ≡ sid_entries node 0 net.sids
+pub all_entries_of-first : (net : Network) (node table : ℕ) (family : Family) → has_sids table family ≡ true
+    → all_entries_of net node table family ≡ sid_entries node 0 net.sids
     ++ (address_entries (slice_get net.nodes node) ++ route_entries node table family 0 net.routes)
-entries_of-first net node table family first = rw first refl
+all_entries_of-first net node table family first = rw first refl
 
-pub entries_of-other : (net : Network) (node table : ℕ) (family : Family) → has_sids table family ≡ false
-    → entries_of net node table family ≡ route_entries node table family 0 net.routes
-entries_of-other net node table family other = rw other refl
+pub all_entries_of-other : (net : Network) (node table : ℕ) (family : Family) → has_sids table family ≡ false
+    → all_entries_of net node table family ≡ route_entries node table family 0 net.routes
+all_entries_of-other net node table family other = rw other refl
 
-pub entry_means : (net : Network) (node table : ℕ) (family : Family) (e : Entry) → Contains (entries_of net node table family) e
-    → IsEntry net node table family e
-entry_means net node table family e c =
+pub any_entry_means : (net : Network) (node table : ℕ) (family : Family) (e : Entry) → Contains (all_entries_of net node table family) e
+    → IsAnyEntry net node table family e
+any_entry_means net node table family e c =
     elim (cases_Bool (has_sids table family)) [
       | inl is ↦ let first = has_sids-is table family is in
           elim (Contains-append_cases (sid_entries node 0 net.sids) _ e
-          (subst (λ es. Contains es e) (entries_of-first net node table family is) c)) [
+          (subst (λ es. Contains es e) (all_entries_of-first net node table family is) c)) [
             | inl sid ↦ by_sid net node table family e first sid
             | inr more ↦ elim (Contains-append_cases (address_entries (slice_get net.nodes node))
                 (route_entries node table family 0 net.routes) e more) [
@@ -208,37 +211,88 @@ entry_means net node table family e c =
                   | inr route ↦ by_route net node table family e route
                 ]
           ]
-      | inr other ↦ by_route net node table family e (subst (λ es. Contains es e) (entries_of-other net node table family other) c)
+      | inr other ↦ by_route net node table family e (subst (λ es. Contains es e) (all_entries_of-other net node table family other) c)
     ]
 
 route_among : (net : Network) (node table : ℕ) (family : Family) (e : Entry) → Contains (route_entries node table family 0 net.routes) e
-    → Contains (entries_of net node table family) e
+    → Contains (all_entries_of net node table family) e
 route_among net node table family e c =
     elim (cases_Bool (has_sids table family)) [
-      | inl is ↦ subst (λ es. Contains es e) (sym (entries_of-first net node table family is))
+      | inl is ↦ subst (λ es. Contains es e) (sym (all_entries_of-first net node table family is))
           (Contains-append_right (sid_entries node 0 net.sids) _ e
           (Contains-append_right (address_entries (slice_get net.nodes node)) (route_entries node table family 0 net.routes) e c))
-      | inr other ↦ subst (λ es. Contains es e) (sym (entries_of-other net node table family other)) c
+      | inr other ↦ subst (λ es. Contains es e) (sym (all_entries_of-other net node table family other)) c
     ]
 
-pub entry_is_there : (net : Network) (node table : ℕ) (family : Family) (p : PrefixValue) (h : Hit) → IsEntryAs net node table family p h
-    → Contains (entries_of net node table family) (record { hit = h; prefix = p })
-entry_is_there net node table family p (hits.Sid n) (s, at, of, is, first, v6) =
+any_entry_is_there : (net : Network) (node table : ℕ) (family : Family) (p : PrefixValue) (h : Hit) → IsEntryAs net node table family p h
+    → Contains (all_entries_of net node table family) (record { hit = h; prefix = p })
+any_entry_is_there net node table family p (hits.Sid n) (s, at, of, is, first, v6) =
     let e : Entry = record { hit = hits.Sid n; prefix = p } in
     let there = subst (λ q. Contains (sid_entries node 0 net.sids) (record { hit = hits.Sid n; prefix = q })) is
     (sid_is_there node 0 net.sids n n s at of (omega arith)) in
-    subst (λ es. Contains es e) (sym (entries_of-first net node table family (has_sids-from table family (first, v6))))
+    subst (λ es. Contains es e) (sym (all_entries_of-first net node table family (has_sids-from table family (first, v6))))
     (Contains-append_left (sid_entries node 0 net.sids) _ e there)
-entry_is_there net node table family p hits.Address (n, at, is, first, v6) =
+any_entry_is_there net node table family p hits.Address (n, at, is, first, v6) =
     let e : Entry = record { hit = hits.Address; prefix = p } in
     let own = subst (λ q. Contains (address_entries (Some n)) (record { hit = hits.Address; prefix = q })) (sym is)
     (contains_first (record { hit = hits.Address; prefix = record { value = n.address.value; len = 128 } }) []) in
     let there = subst (λ o. Contains (address_entries o) e) (sym at) own in
-    subst (λ es. Contains es e) (sym (entries_of-first net node table family (has_sids-from table family (first, v6))))
+    subst (λ es. Contains es e) (sym (all_entries_of-first net node table family (has_sids-from table family (first, v6))))
     (Contains-append_right (sid_entries node 0 net.sids) _ e
     (Contains-append_left (address_entries (slice_get net.nodes node)) (route_entries node table family 0 net.routes) e there))
-entry_is_there net node table family p (hits.Route n) (r, at, of, in_table, of_family, is) =
+any_entry_is_there net node table family p (hits.Route n) (r, at, of, in_table, of_family, is) =
     let there = subst (λ q. Contains (route_entries node table family 0 net.routes) (record { hit = hits.Route n; prefix = q })) is
     (route_is_there node table family 0 net.routes n n r at of in_table of_family (omega arith)) in
     route_among net node table family _ there
-entry_is_there net node table family p hits.Nothing none = absurd none
+any_entry_is_there net node table family p hits.Nothing none = absurd none
+
+-- ---- those that are shown
+
+among_passing : (test : Entry → Bool) (es : List Entry) (e : Entry) → Contains es e → test e ≡ true → Contains (filter test es) e
+among_passing test [] e c passes = c
+among_passing test (x ∷ es) e c passes =
+    elim (contains_cases x es e c) [
+      | inl is ↦ let x_passes : test x ≡ true = ap test is ∙ passes in
+          rw x_passes (subst (Contains (x ∷ filter test es)) is (contains_first x (filter test es)))
+      | inr later ↦ let rest = among_passing test es e later passes in
+          elim (cases_Bool (test x)) [ inl t ↦ rw t (contains_later x (filter test es) e rest) | inr f ↦ rw f rest ]
+    ]
+
+pub passing_among : (test : Entry → Bool) (es : List Entry) (e : Entry) → Contains (filter test es) e → Contains es e × (test e ≡ true)
+passing_among test [] e c = absurd (contains_none e c)
+passing_among test (x ∷ es) e c =
+    elim (cases_Bool (test x)) [
+      | inl t ↦ elim (contains_cases x (filter test es) e (rw t at c)) [
+        | inl is ↦ (subst (Contains (x ∷ es)) is (contains_first x es), ap test (sym is) ∙ t)
+        | inr more ↦ let rest = passing_among test es e more in (contains_later x es e rest.0, rest.1)
+      ]
+      | inr f ↦ let rest = passing_among test es e (rw f at c) in (contains_later x es e rest.0, rest.1)
+    ]
+
+pub entry_means : (net : Network) (node table : ℕ) (family : Family) (e : Entry) → Contains (entries_of net node table family) e
+    → IsEntryAs net node table family e.prefix e.hit
+entry_means net node table family e c =
+    any_entry_means net node table family e
+    (passing_among (λ f. is_shown net.hidden f.hit) (all_entries_of net node table family) e c).0
+
+pub entry_shown : (net : Network) (node table : ℕ) (family : Family) (e : Entry) → Contains (entries_of net node table family) e
+    → is_shown net.hidden e.hit ≡ true
+entry_shown net node table family e c =
+    (passing_among (λ f. is_shown net.hidden f.hit) (all_entries_of net node table family) e c).1
+
+pub entry_is_there : (net : Network) (node table : ℕ) (family : Family) (p : PrefixValue) (h : Hit) → IsEntryAs net node table family p h
+    → is_shown net.hidden h ≡ true → Contains (entries_of net node table family) (record { hit = h; prefix = p })
+entry_is_there net node table family p h is shown =
+    among_passing (λ f. is_shown net.hidden f.hit) (all_entries_of net node table family) (record { hit = h; prefix = p })
+    (any_entry_is_there net node table family p h is) shown
+
+-- where nothing is hidden they are all
+all_pass : (es : List Entry) → filter (λ e. is_shown [] e.hit) es ≡ es
+all_pass [] = refl
+all_pass (e ∷ es) = ap (λ fs. e ∷ fs) (all_pass es)
+
+pub whole_entries : (net : Network) (node table : ℕ) (family : Family) → net.hidden ≡ []
+    → entries_of net node table family ≡ all_entries_of net node table family
+whole_entries net node table family whole =
+    let es = all_entries_of net node table family in
+    subst (λ (hidden : List Hit). filter (λ e. is_shown hidden e.hit) es ≡ es) (sym whole) (all_pass es)

@@ -21,10 +21,10 @@ use Rattle.net_model.specs.declared.tables.TableEntry.{TableEntry}
 use Rattle.net_model.specs.Best.{Entry}
 use Rattle.net_model.specs.Rules.{same_family}
 use Rattle.net_model.specs.EntryKeys.{entry_key_cmp, entry_key}
-use Rattle.net_model.specs.Tables.{HitTable, table_key_cmp, table_key, table_at, is_entry_of, entries_at, entries_from, AnswersFor, AnswerFor, AreTaken, HasOneMore}
+use Rattle.net_model.specs.Tables.{HitTable, table_key_cmp, table_key, table_at, is_entry_of, entries_at, entries_from, IsExact, AnswerFor, AreTaken, HasOneMore}
 use Rattle.net_model.proofs.EntryLemmas.{same_family-is}
 use Rattle.net_model.proofs.RouteSetLemmas.{number_is_eq, family_is_eq, both_eq, entry_keys_tell}
-use Rattle.net_model.proofs.AnswerLemmas.{answers_new, answers_old, answers_none}
+use Rattle.net_model.proofs.AnswerLemmas.{exact_new, exact_old, exact_none}
 
 -- ---- the keys
 
@@ -34,7 +34,7 @@ and_last true true false d = refl
 and_last true false c d = refl
 and_last false b c d = refl
 
-table_key_is : (e : TableEntry) (node table : ℕ) (family : Family)
+pub table_key_is : (e : TableEntry) (node table : ℕ) (family : Family)
     → is_eq (table_key_cmp (table_key e.node e.table e.family) (table_key node table family)) ≡ is_entry_of node table family e
 table_key_is e node table family =
     both_eq _ _ _ _ (number_is_eq e.node node) (both_eq _ _ _ _ (number_is_eq e.table table) (family_is_eq e.family family))
@@ -46,7 +46,7 @@ entry_key_is e node table family p =
     entry_keys_tell e.node e.table e.family e.prefix node table family p
     ∙ and_last (e.node == node) (e.table == table) (same_family e.family family) _
 
-same_place : (P : ℕ → ℕ → Family → Type 0) (e : TableEntry) (node table : ℕ) (family : Family) → is_entry_of node table family e ≡ true
+pub same_place : (P : ℕ → ℕ → Family → Type 0) (e : TableEntry) (node table : ℕ) (family : Family) → is_entry_of node table family e ≡ true
     → P e.node e.table e.family → P node table family
 same_place P e node table family is p =
     let parts = and_parts _ _ is in
@@ -168,20 +168,22 @@ entries_apart : (es : List TableEntry) (e : TableEntry) (node table : ℕ) (fami
 entries_apart es e node table family apart =
     entries_at-append es (e ∷ []) node table family ∙ rw apart (nothing_more (entries_at es node table family))
 
-pub answer_more : (e : TableEntry) (before : List TableEntry) (old new : BTreeMap TableKey HitTable) → HasOneMore e old new
-    → AnswerFor before old → AnswerFor (before ++ e ∷ []) new
-answer_more e before old new more answers node table family =
+pub answer_more : (e : TableEntry) (before : List TableEntry) (old new : BTreeMap TableKey HitTable)
+    → ¬ HasPrefix (table_at old e.node e.table e.family) e.prefix → HasOneMore e old new → AnswerFor before old
+    → AnswerFor (before ++ e ∷ []) new
+answer_more e before old new is_new more answers node table family =
     elim (cases_Bool (is_entry_of node table family e)) [
       | inl here ↦ let longer : table_at new node table family ≡ table_at old node table family ++ (e.prefix, e.hit) ∷ [] =
           rw here at (more node table family) in
-          subst (λ (t : HitTable). AnswersFor (entries_at (before ++ e ∷ []) node table family) t) (sym longer)
-          (subst (λ (es : List Entry). AnswersFor es (table_at old node table family ++ (e.prefix, e.hit) ∷ []))
+          subst (λ (t : HitTable). IsExact (entries_at (before ++ e ∷ []) node table family) t) (sym longer)
+          (subst (λ (es : List Entry). IsExact es (table_at old node table family ++ (e.prefix, e.hit) ∷ []))
           (sym (entries_here before e node table family here))
-          (answers_new (entries_at before node table family) (table_at old node table family)
-          (record { hit = e.hit; prefix = e.prefix }) (answers node table family)))
+          (exact_new (entries_at before node table family) (table_at old node table family)
+          (record { hit = e.hit; prefix = e.prefix }) (answers node table family)
+          (same_place (λ n m f. ¬ HasPrefix (table_at old n m f) e.prefix) e node table family here is_new)))
       | inr apart ↦ let same : table_at new node table family ≡ table_at old node table family = rw apart at (more node table family) in
-          subst (λ (t : HitTable). AnswersFor (entries_at (before ++ e ∷ []) node table family) t) (sym same)
-          (subst (λ (es : List Entry). AnswersFor es (table_at old node table family))
+          subst (λ (t : HitTable). IsExact (entries_at (before ++ e ∷ []) node table family) t) (sym same)
+          (subst (λ (es : List Entry). IsExact es (table_at old node table family))
           (sym (entries_apart before e node table family apart)) (answers node table family))
     ]
 
@@ -189,12 +191,12 @@ pub answer_same : (e : TableEntry) (before : List TableEntry) (tables : BTreeMap
     → HasPrefix (table_at tables e.node e.table e.family) e.prefix → AnswerFor before tables → AnswerFor (before ++ e ∷ []) tables
 answer_same e before tables has answers node table family =
     elim (cases_Bool (is_entry_of node table family e)) [
-      | inl here ↦ subst (λ (es : List Entry). AnswersFor es (table_at tables node table family))
+      | inl here ↦ subst (λ (es : List Entry). IsExact es (table_at tables node table family))
           (sym (entries_here before e node table family here))
-          (answers_old (entries_at before node table family) (table_at tables node table family)
+          (exact_old (entries_at before node table family) (table_at tables node table family)
           (record { hit = e.hit; prefix = e.prefix }) (answers node table family)
           (same_place (λ n m f. HasPrefix (table_at tables n m f) e.prefix) e node table family here has))
-      | inr apart ↦ subst (λ (es : List Entry). AnswersFor es (table_at tables node table family))
+      | inr apart ↦ subst (λ (es : List Entry). IsExact es (table_at tables node table family))
           (sym (entries_apart before e node table family apart)) (answers node table family)
     ]
 
@@ -207,7 +209,7 @@ empty_table tables node table family none =
 
 pub answer_none : (tables : BTreeMap TableKey HitTable) → tables.entries ≡ [] → AnswerFor [] tables
 answer_none tables none node table family =
-    subst (λ (t : HitTable). AnswersFor [] t) (sym (empty_table tables node table family none)) answers_none
+    subst (λ (t : HitTable). IsExact [] t) (sym (empty_table tables node table family none)) exact_none
 
 entries_from-push : {X : Type 0} (entry : ℕ → X → TableEntry) (n : ℕ) (xs : List X) (x : X)
     → entries_from entry n (xs ++ x ∷ []) ≡ entries_from entry n xs ++ entry (n + length xs) x ∷ []

@@ -1,6 +1,6 @@
 -- Best match: the look-up meets the relation, and the relation has one answer.
-use Rattle.std.proofs.Common.{◌≡◌, ℕ, ◌≤◌, true, false, ltb, List, [], ◌∷◌, ◌++◌, Option, Some, None, refl, sym, ap, ◌∙◌, subst, arith, inl, inr}
-use Rattle.std.specs.List.{slice_get, Contains}
+use Rattle.std.proofs.Common.{◌≡◌, ℕ, ◌≤◌, Bool, true, false, ltb, List, [], ◌∷◌, ◌++◌, Option, Some, None, refl, sym, ap, ◌∙◌, subst, arith, inl, inr}
+use Rattle.std.specs.List.{slice_get, Contains, filter}
 use Rattle.std.proofs.lemmas.Bool.{cases_Bool, both_ways, ltb-true, ltb-false}
 use Rattle.std.proofs.lemmas.Option.{same_Some}
 use Rattle.std.proofs.lemmas.List.Elements.{Contains-append_cases}
@@ -12,12 +12,12 @@ use Rattle.srv6_rules.specs.declared.sid.SidEntry.{SidEntry}
 use Rattle.net_model.specs.declared.parts.Node.{Node}
 use Rattle.net_model.specs.declared.net.Hit.{Hit}
 use Rattle.net_model.specs.declared.net.Hit.TheVariants as hits
-use Rattle.net_model.specs.Network.{Network}
-use Rattle.net_model.specs.Best.{Entry, sid_entries, route_entries, address_entries, has_sids, entries_of, rank_of, FitsNoWorse, IsBestEntry, IsBest, longer, longest, hit_of, lookup_of}
+use Rattle.net_model.specs.Network.{Network, is_shown}
+use Rattle.net_model.specs.Best.{Entry, sid_entries, route_entries, address_entries, has_sids, all_entries_of, entries_of, rank_of, FitsNoWorse, IsBestEntry, IsBest, longer, longest, hit_of, lookup_of}
 use Rattle.net_model.specs.Rules.{IsNetwork}
 use Rattle.net_model.specs.Keeps.{Keeps}
 use Rattle.net_model.proofs.KeepsLemmas.{keeps_from_network}
-use Rattle.net_model.proofs.EntryLemmas.{contains_none, contains_cases, contains_first, contains_later, sid_means, route_means, entry_means, entries_of-first, entries_of-other}
+use Rattle.net_model.proofs.EntryLemmas.{contains_none, contains_cases, contains_first, contains_later, sid_means, route_means, passing_among, entry_means, all_entries_of-first, all_entries_of-other}
 
 -- each entry ranks no later than those after it
 abbrev pub IsRanked : List Entry → Type 0
@@ -141,13 +141,27 @@ first_ranked net node table family =
     (λ x y c d. omega (arith, address_rank (slice_get net.nodes node) x c, routes_rank node table family 0 net y d)))
     (λ x y c d. omega (arith, sids_rank node 0 net x c))
 
-entries_ranked : (net : Network) (node table : ℕ) (family : Family) → IsRanked (entries_of net node table family)
-entries_ranked net node table family =
+all_ranked : (net : Network) (node table : ℕ) (family : Family) → IsRanked (all_entries_of net node table family)
+all_ranked net node table family =
     elim (cases_Bool (has_sids table family)) [
-      | inl is ↦ subst IsRanked (sym (entries_of-first net node table family is)) (first_ranked net node table family)
-      | inr other ↦ subst IsRanked (sym (entries_of-other net node table family other))
+      | inl is ↦ subst IsRanked (sym (all_entries_of-first net node table family is)) (first_ranked net node table family)
+      | inr other ↦ subst IsRanked (sym (all_entries_of-other net node table family other))
           (ranked_from 2 (route_entries node table family 0 net.routes) (routes_rank node table family 0 net))
     ]
+
+-- of entries in the order of their ranks those that pass a test are in that order too
+passing_ranked : (test : Entry → Bool) (es : List Entry) → IsRanked es → IsRanked (filter test es)
+passing_ranked test [] ranked = tt
+passing_ranked test (e ∷ es) ranked =
+    elim (cases_Bool (test e)) [
+      | inl passes ↦ rw passes
+          (λ other c. ranked.0 other (passing_among test es other c).0, passing_ranked test es ranked.1)
+      | inr fails ↦ rw fails (passing_ranked test es ranked.1)
+    ]
+
+entries_ranked : (net : Network) (node table : ℕ) (family : Family) → IsRanked (entries_of net node table family)
+entries_ranked net node table family =
+    passing_ranked (λ e. is_shown net.hidden e.hit) (all_entries_of net node table family) (all_ranked net node table family)
 
 -- the look-up is a best match
 

@@ -9,8 +9,10 @@ pub mod FindLemmas
 pub mod BlockLemmas
 pub mod CompressionLaws
 pub mod AnswerLemmas
+pub mod HiddenLemmas
 pub mod FillLemmas
 pub mod ListedLemmas
+pub mod SettleLemmas
 pub mod JudgingLemmas
 pub mod PassesLemmas
 pub mod TableLaws

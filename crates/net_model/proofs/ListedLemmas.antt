@@ -13,9 +13,9 @@ use Rattle.net_model.specs.declared.tables.TableKey.{TableKey}
 use Rattle.net_model.specs.declared.tables.TableEntry.{TableEntry}
 use Rattle.net_model.specs.Network.{Network}
 use Rattle.net_model.specs.Rules.{same_family}
-use Rattle.net_model.specs.Best.{Entry, sid_entries, is_route_of, route_entries, address_entries, has_sids, entries_of}
-use Rattle.net_model.specs.Tables.{HitTable, table_at, is_entry_of, entries_at, entries_from, sid_entry, address_entry, route_entry, all_entries, AnswersFor, AnswerFor, AreTables}
-use Rattle.net_model.proofs.EntryLemmas.{entries_of-first, entries_of-other}
+use Rattle.net_model.specs.Best.{Entry, sid_entries, is_route_of, route_entries, address_entries, has_sids, all_entries_of}
+use Rattle.net_model.specs.Tables.{HitTable, table_at, is_entry_of, entries_at, entries_from, sid_entry, address_entry, route_entry, all_entries, IsExact, AnswerFor, AreTables}
+use Rattle.net_model.proofs.EntryLemmas.{all_entries_of-first, all_entries_of-other, whole_entries}
 use Rattle.net_model.proofs.FillLemmas.{entries_at-append}
 
 -- ---- of table 0 of IPv6, and of other tables
@@ -88,8 +88,8 @@ routes_at node table family n (r ∷ routes) =
 three : (xs ys zs us vs ws : List Entry) → xs ≡ us → ys ≡ vs → zs ≡ ws → xs ++ (ys ++ zs) ≡ us ++ (vs ++ ws)
 three xs ys zs us vs ws e f g = λ i. e i ++ (f i ++ g i)
 
-all_at : (net : Network) (node table : ℕ) (family : Family)
-    → entries_at (all_entries net) node table family ≡ entries_of net node table family
+pub all_at : (net : Network) (node table : ℕ) (family : Family)
+    → entries_at (all_entries net) node table family ≡ all_entries_of net node table family
 all_at net node table family =
     let sids = entries_from sid_entry 0 net.sids in
     let nodes = entries_from address_entry 0 net.nodes in
@@ -103,26 +103,26 @@ all_at net node table family =
           (at_first (λ t f. entries_at nodes node t f ≡ address_entries (slice_get net.nodes node)) table family first
           (addresses_at_first node 0 net.nodes node (omega arith)))
           (routes_at node table family 0 net.routes)
-          ∙ sym (entries_of-first net node table family first))
+          ∙ sym (all_entries_of-first net node table family first))
       | inr other ↦ parted
           ∙ (three _ _ _ _ _ _
           (none_at sid_entry node table family (λ n s. apart_from_first (s.node == node) table family other) 0 net.sids)
           (none_at address_entry node table family (λ n x. apart_from_first (n == node) table family other) 0 net.nodes)
           (routes_at node table family 0 net.routes)
-          ∙ sym (entries_of-other net node table family other))
+          ∙ sym (all_entries_of-other net node table family other))
     ]
 
 pub are_tables : (net : Network) (sids : List SidEntry) (nodes : List Node) (routes : List Route) (tables : BTreeMap TableKey HitTable)
-    → sids ≡ net.sids → nodes ≡ net.nodes → routes ≡ net.routes
+    → net.hidden ≡ [] → sids ≡ net.sids → nodes ≡ net.nodes → routes ≡ net.routes
     → AnswerFor ((entries_from sid_entry 0 sids ++ entries_from address_entry 0 nodes) ++ entries_from route_entry 0 routes) tables
     → AreTables net tables
-are_tables net sids nodes routes tables is_sids is_nodes is_routes answers node table family =
+are_tables net sids nodes routes tables whole_net is_sids is_nodes is_routes answers node table family =
     let Three : List SidEntry → List Node → List Route → List TableEntry =
     λ ss ns rs. (entries_from sid_entry 0 ss ++ entries_from address_entry 0 ns) ++ entries_from route_entry 0 rs in
     let same : Three sids nodes routes ≡ Three net.sids net.nodes net.routes =
     λ i. (entries_from sid_entry 0 (is_sids i) ++ entries_from address_entry 0 (is_nodes i)) ++ entries_from route_entry 0 (is_routes i) in
     let whole = same ∙ append_assoc (entries_from sid_entry 0 net.sids) (entries_from address_entry 0 net.nodes)
     (entries_from route_entry 0 net.routes) in
-    subst (λ (es : List Entry). AnswersFor es (table_at tables node table family)) (all_at net node table family)
-    (subst (λ (es : List TableEntry). AnswersFor (entries_at es node table family) (table_at tables node table family)) whole
+    subst (λ (es : List Entry). IsExact es (table_at tables node table family)) (all_at net node table family ∙ sym (whole_entries net node table family whole_net))
+    (subst (λ (es : List TableEntry). IsExact (entries_at es node table family) (table_at tables node table family)) whole
     (answers node table family))

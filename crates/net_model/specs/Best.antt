@@ -8,7 +8,8 @@ use Rattle.net_model.specs.declared.parts.Node.{Node}
 use Rattle.net_model.specs.declared.parts.Route.{Route}
 use Rattle.net_model.specs.declared.net.Hit.{Hit}
 use Rattle.net_model.specs.declared.net.Hit.TheVariants as hits
-use Rattle.net_model.specs.Network.{Network}
+use Rattle.std.specs.List.{filter}
+use Rattle.net_model.specs.Network.{Network, is_shown}
 use Rattle.net_model.specs.Rules.{same_family}
 
 -- an entry of a table: what it is, and its prefix
@@ -43,13 +44,17 @@ abbrev pub has_sids : ℕ → Family → Bool
 has_sids table families.V6 = table == 0
 has_sids table families.V4 = false
 
--- the entries of a node's table: table 0 of IPv6 has the node's SIDs, its address and its routes, other tables have routes
--- alone; the IPv4 routes of a table stand apart
-abbrev pub entries_of : Network → ℕ → ℕ → Family → List Entry
-entries_of net node table family =
+-- the entries of a node's table, hidden or not: table 0 of IPv6 has the node's SIDs, its address and its routes, other
+-- tables have routes alone; the IPv4 routes of a table stand apart
+abbrev pub all_entries_of : Network → ℕ → ℕ → Family → List Entry
+all_entries_of net node table family =
     if has_sids table family
     then sid_entries node 0 net.sids ++ (address_entries (slice_get net.nodes node) ++ route_entries node table family 0 net.routes)
     else route_entries node table family 0 net.routes
+
+-- the entries that are shown
+abbrev pub entries_of : Network → ℕ → ℕ → Family → List Entry
+entries_of net node table family = filter (λ e. is_shown net.hidden e.hit) (all_entries_of net node table family)
 
 -- at equal prefixes a SID comes before the address, and the address before a route
 abbrev pub rank_of : Hit → ℕ

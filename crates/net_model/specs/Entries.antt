@@ -1,5 +1,5 @@
 -- What the entries of a node's table are, by what they are.
-use Rattle.std.specs.Prelude.{◌≡◌, ℕ, slice_get, Some}
+use Rattle.std.specs.Prelude.{◌≡◌, ℕ, true, slice_get, Some}
 use Rattle.v6_addr.specs.Address.{PrefixValue}
 use Rattle.srv6_rules.specs.declared.sid.Family.{Family}
 use Rattle.srv6_rules.specs.declared.sid.Family.TheVariants as families
@@ -8,7 +8,7 @@ use Rattle.net_model.specs.declared.parts.Node.{Node}
 use Rattle.net_model.specs.declared.parts.Route.{Route}
 use Rattle.net_model.specs.declared.net.Hit.{Hit}
 use Rattle.net_model.specs.declared.net.Hit.TheVariants as hits
-use Rattle.net_model.specs.Network.{Network}
+use Rattle.net_model.specs.Network.{Network, is_shown}
 use Rattle.net_model.specs.Best.{Entry}
 
 -- the node's SIDs and its address are in its table 0 of IPv6, and its routes in their tables of their family
@@ -21,5 +21,6 @@ IsEntryAs net node table family p (hits.Route n) = (r : Route) × (slice_get net
     × (r.family ≡ family) × (r.prefix ≡ p)
 IsEntryAs net node table family p hits.Nothing = ⊥
 
+-- those that are hidden are none
 abbrev pub IsEntry : Network → ℕ → ℕ → Family → Entry → Type 0
-IsEntry net node table family e = IsEntryAs net node table family e.prefix e.hit
+IsEntry net node table family e = IsEntryAs net node table family e.prefix e.hit × (is_shown net.hidden e.hit ≡ true)

@@ -1,5 +1,6 @@
 -- The tables in which addresses are looked up: one for each node, table number and family that has entries.
-use Rattle.std.specs.Prelude.{◌≡◌, ◌↔◌, ℕ, ◌+◌, Bool, true, ◌==◌, ◌&&◌, if◌then◌else◌, List, [], ◌∷◌, ◌++◌, Option, Some, None}
+use Rattle.std.specs.List.{filter}
+use Rattle.std.specs.Prelude.{slice_get, ◌≡◌, ◌↔◌, ℕ, ◌+◌, Bool, true, ◌==◌, ◌&&◌, if◌then◌else◌, List, [], ◌∷◌, ◌++◌, Option, Some, None}
 use Rattle.std.specs.Option.{unwrap_or}
 use Rattle.std.specs.declared.cmp.Ordering.{Ordering}
 use Rattle.std.specs.Ordering.{nat_cmp, bool_cmp, ordering_then}
@@ -8,7 +9,7 @@ use Rattle.std.specs.BTreeMap as map
 use Rattle.std.specs.BTreeSet.{BTreeSet}
 use Rattle.std.specs.BTreeSet as tree
 use Rattle.v6_addr.specs.Address.{PrefixValue}
-use Rattle.prefix_table.specs.Table.{HasPrefix, IsBestMatch}
+use Rattle.prefix_table.specs.Table.{HasPrefix, is_one_prefix, value_at}
 use Rattle.srv6_rules.specs.declared.sid.Family.{Family}
 use Rattle.srv6_rules.specs.declared.sid.Family.TheVariants as families
 use Rattle.srv6_rules.specs.declared.sid.SidEntry.{SidEntry}
@@ -19,9 +20,14 @@ use Rattle.net_model.specs.declared.net.Hit.TheVariants as hits
 use Rattle.net_model.specs.declared.route_set.EntryKey.{EntryKey}
 use Rattle.net_model.specs.declared.tables.TableKey.{TableKey}
 use Rattle.net_model.specs.declared.tables.TableEntry.{TableEntry}
-use Rattle.net_model.specs.Network.{Network}
-use Rattle.net_model.specs.Rules.{same_family}
-use Rattle.net_model.specs.Best.{Entry, longest, entries_of}
+use Rattle.net_model.specs.declared.parts.NetParts.{NetParts}
+use Rattle.net_model.specs.declared.hidden.Hidden.{Hidden}
+use Rattle.net_model.specs.declared.net.EntryId.{EntryId}
+use Rattle.net_model.specs.declared.net.EntryId.TheVariants as ids
+use Rattle.net_model.specs.Network.{Network, is_shown, network_of, network_with, HasFlags}
+use Rattle.net_model.specs.Judging.{InRange}
+use Rattle.net_model.specs.Rules.{same_family, IsNetwork}
+use Rattle.net_model.specs.Best.{Entry, entries_of}
 use Rattle.net_model.specs.EntryKeys.{entry_key_cmp, entry_key}
 
 -- a table of a node of a network
@@ -35,13 +41,14 @@ pub record TableOf : Type 0 where
 abbrev pub HitTable : Type 0
 HitTable = List (PrefixValue × Hit)
 
-abbrev pub paired : Option Entry → Option (PrefixValue × Hit)
-paired None = None
-paired (Some e) = Some (e.prefix, e.hit)
+-- the hit of the first of the entries that have a prefix
+abbrev pub first_on : PrefixValue → List Entry → Option Hit
+first_on p [] = None
+first_on p (e ∷ es) = if is_one_prefix e.prefix p then Some e.hit else first_on p es
 
--- a table answers for entries: for each address its best match is the first of the longest entries that hold it
-abbrev pub AnswersFor : List Entry → HitTable → Type 0
-AnswersFor entries t = (a : ℕ) → IsBestMatch t a (paired (longest a entries))
+-- a table is exact for entries: it has each of their prefixes and no other, with the hit of the first of them
+abbrev pub IsExact : List Entry → HitTable → Type 0
+IsExact entries t = (p : PrefixValue) → value_at t p ≡ first_on p entries
 
 -- by node, table number and family
 abbrev pub table_key_cmp : TableKey → TableKey → Ordering
@@ -54,10 +61,18 @@ table_key node table family = record { node = node; table = table; is_ipv6 = sam
 abbrev pub table_at : BTreeMap TableKey HitTable → ℕ → ℕ → Family → HitTable
 table_at tables node table family = unwrap_or (map.get table_key_cmp tables (table_key node table family)) []
 
--- each table of a network answers for the entries of that table
+-- each table of a network is exact for the entries of that table
 abbrev pub AreTables : Network → BTreeMap TableKey HitTable → Type 0
 AreTables net tables = (node table : ℕ) (family : Family)
-    → AnswersFor (entries_of net node table family) (table_at tables node table family)
+    → IsExact (entries_of net node table family) (table_at tables node table family)
+
+-- what is true of every network that is built: its parts keep the rules and are in range, it has a flag for each route and
+-- each SID, and its tables are exact for the entries that are shown
+pub record IsNet (parts : NetParts) (hidden : Hidden) (kept : BTreeMap TableKey HitTable) : Type 0 where
+  pub rules : IsNetwork (network_of parts)
+  pub range : InRange (network_of parts)
+  pub flags : HasFlags parts hidden
+  pub tables : AreTables (network_with parts hidden) kept
 
 -- ---- while the tables are filled
 
@@ -72,10 +87,10 @@ entries_at (e ∷ es) node table family =
     if is_entry_of node table family e then record { hit = e.hit; prefix = e.prefix } ∷ entries_at es node table family
     else entries_at es node table family
 
--- each table answers for its entries
+-- each table is exact for its entries
 abbrev pub AnswerFor : List TableEntry → BTreeMap TableKey HitTable → Type 0
 AnswerFor entries tables = (node table : ℕ) (family : Family)
-    → AnswersFor (entries_at entries node table family) (table_at tables node table family)
+    → IsExact (entries_at entries node table family) (table_at tables node table family)
 
 -- the keys tell of each prefix whether it is in a table
 abbrev pub AreTaken : BTreeSet EntryKey → BTreeMap TableKey HitTable → Type 0
@@ -108,3 +123,28 @@ route_entry n r = record { node = r.node; table = r.table; family = r.family; hi
 abbrev pub all_entries : Network → List TableEntry
 all_entries net =
     entries_from sid_entry 0 net.sids ++ (entries_from address_entry 0 net.nodes ++ entries_from route_entry 0 net.routes)
+
+-- ---- an entry comes or goes
+
+-- the entry of a route or a SID
+abbrev pub IsListed : Network → EntryId → TableEntry → Type 0
+IsListed net (ids.Route n) e = (r : Route) × (slice_get net.routes n ≡ Some r) × (e ≡ route_entry n r)
+IsListed net (ids.Sid n) e = (s : SidEntry) × (slice_get net.sids n ≡ Some s) × (e ≡ sid_entry n s)
+IsListed net (ids.Address n) e = ⊥
+
+-- the first of entries that is shown and stands in an entry's table on its prefix
+abbrev pub first_at : List Hit → TableEntry → List TableEntry → Option Hit
+first_at hidden e es = first_on e.prefix (filter (λ f. is_shown hidden f.hit) (entries_at es e.node e.table e.family))
+
+-- it stands in another's table on its prefix, and is shown
+abbrev pub stands_on : List Hit → TableEntry → TableEntry → Bool
+stands_on hidden e f = (is_entry_of e.node e.table e.family f && is_one_prefix f.prefix e.prefix) && is_shown hidden f.hit
+
+-- a table with another hit on a prefix, or none; the rest is as it was
+abbrev pub SettlesIn : PrefixValue → Option Hit → HitTable → HitTable → Type 0
+SettlesIn p hit old new = (q : PrefixValue) → value_at new q ≡ (if is_one_prefix p q then hit else value_at old q)
+
+-- of all tables that of an entry has another hit on its prefix, or none; the rest is as it was
+abbrev pub Settles : TableEntry → Option Hit → BTreeMap TableKey HitTable → BTreeMap TableKey HitTable → Type 0
+Settles e hit old new = (node table : ℕ) (family : Family) (q : PrefixValue) → value_at (table_at new node table family) q
+    ≡ (if is_entry_of node table family e && is_one_prefix e.prefix q then hit else value_at (table_at old node table family) q)

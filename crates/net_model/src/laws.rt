@@ -31,7 +31,7 @@ pub fn best_match_is_one()
 {}
 
 /// The entries of a node's table are its SIDs and its address in table 0 of IPv6, and its routes in
-/// their tables of their family (own rule).
+/// their tables of their family, as far as they are shown (own rule).
 pub fn entries_are_its_own()
     ensures { (net : Network) (node table : ℕ) (family : Family) (e : Entry)
         → Contains (entries_of net node table family) e ↔ IsEntry net node table family e }

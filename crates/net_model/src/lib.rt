@@ -5,11 +5,15 @@
 //! `Net::keeps_rules` tells the rules to proofs. Beside its parts a network has a table of prefixes
 //! for each node, table number and family that has entries: `Net::lookup` gives the entry of a
 //! node's table that fits an address best, and `Net::table` one table for many look-ups.
-//! Only building takes memory.
+//! Building and showing take memory.
+//!
+//! Routes and SIDs can be hidden and shown again (`Net::hide`, `Net::show`): they stay in the lists
+//! at their numbers, and look-ups go over those that are shown. A network as built has none hidden.
 //! The laws about the definitions are the contracts of empty functions.
 #![tactic(auto)]
 
 pub mod figures;
+mod hidden;
 mod judge;
 mod judge_sids;
 mod laws;
@@ -36,7 +40,7 @@ pub use limits::{
     MAX_SIDS_OF_NODE, MAX_TEXT_BYTES, MIN_LINK_MTU, SHORT_CSID,
 };
 pub use named::{place_of_link, place_of_node};
-pub use net::{Hit, Net};
+pub use net::{EntryId, Hit, Net};
 pub use node_table::NodeTable;
 pub use parts::{Block, BlockKind, Link, Name, NamedPolicy, NetParts, Node, Route, TypeList};
 pub use range::are_in_range;

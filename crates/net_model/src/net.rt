@@ -1,5 +1,8 @@
 //! The network that keeps the rules, and the look-up of an address.
 
+use crate::hidden::{
+    Hidden, entry_of, first_shown, hides_nothing, is_shown, mark, none_hidden, place, settle,
+};
 use crate::judge_sids::judge_parts;
 use crate::named::{place_of_link, place_of_node};
 use crate::node_table::NodeTable;
@@ -9,7 +12,7 @@ use crate::standing::Standing;
 use crate::tables::{Tables, table_key, tables_of};
 use prefix_table::Table;
 use srv6_rules::{Family, Policy, SidEntry};
-use std::alloc::Global;
+use std::alloc::{AllocError, Global};
 use std::marker::Model;
 use text_faults::NetFault;
 use v6_addr::Addr;
@@ -27,37 +30,48 @@ pub enum Hit {
     Nothing,
 }
 
+/// A route, a SID or a node's own address, by its number, that of the address being its node's (own
+/// rule).
+#[derive(Clone, Copy, Debug, PartialEq, Eq)]
+pub enum EntryId {
+    /// A route.
+    Route(u32),
+    /// A SID.
+    Sid(u32),
+    /// The own address of a node.
+    Address(u32),
+}
+
 /// A network that keeps the rules of descriptions (own rules).
 #[derive(Debug, Drop)]
 pub struct Net {
     parts: NetParts,
+    hidden: Hidden,
     tables: Tables,
 }
 
 impl Model for Net {
-    ghost use Rattle.net_model.specs.Network.{Network, network_of};
-    ghost use Rattle.net_model.specs.Rules.{IsNetwork};
-    ghost use Rattle.net_model.specs.Tables.{AreTables};
+    ghost use Rattle.net_model.specs.Network.{Network, network_with};
+    ghost use Rattle.net_model.specs.Tables.{IsNet};
 
     ghost Value = { Network };
 
-    ghost view = { λ n. network_of n.parts };
+    ghost view = { λ n. network_with n.parts n.hidden };
 
-    ghost invariant = { λ n. IsNetwork (network_of n.parts)
-        × AreTables (network_of n.parts) n.tables };
+    ghost invariant = { λ n. IsNet n.parts n.hidden n.tables };
 }
 
 impl Net {
-    ghost use Rattle.std.specs.Prelude.{◌≡◌, ◌↔◌, ℕ, ◌<◌, [], false, length, slice_get, option_copied, IsTrue, IsSome, IfSome, IfNone, IfOk};
+    ghost use Rattle.std.specs.Prelude.{◌≡◌, ◌↔◌, ℕ, ◌<◌, [], true, false, length, slice_get, option_copied, IsTrue, IsSome, IfSome, IfNone, IfOk, OnOk, OnErr};
     ghost use Rattle.std.specs.Option.{unwrap_or};
     ghost use Rattle.net_model.specs.declared.parts.NamedPolicy.{NamedPolicy};
-    ghost use Rattle.net_model.specs.Network.{network_of};
+    ghost use Rattle.net_model.specs.Network.{network_of, CanHide, IsEdited, hit_of_entry, is_shown};
     ghost use Rattle.net_model.specs.Rules.{IsNetwork, is_network, is_link_set};
     ghost use Rattle.text_faults.specs.Reading.{Gives};
     ghost use Rattle.net_model.specs.Judging.{InRange, judging};
     ghost use Rattle.net_model.specs.Keeps.{Keeps};
     ghost use Rattle.net_model.specs.Best.{IsBest, entries_of, lookup_of};
-    ghost use Rattle.net_model.specs.Tables.{AnswersFor};
+    ghost use Rattle.net_model.specs.Tables.{IsExact};
     ghost use Rattle.net_model.specs.Named.{node_numbered, link_numbered, IsNodeNumbered, IsLinkNumbered};
 
     /// The network with these parts, or the first fault of them (own rules): the tables in the
@@ -90,20 +104,89 @@ impl Net {
     {
         judge_parts(alloc, &parts, standings)?;
         let tables = tables_of(alloc, &parts)?;
-        Ok(Net { parts, tables })
+        let hidden = none_hidden(alloc, &parts)?;
+        Ok(Net {
+            parts,
+            hidden,
+            tables,
+        })
     }
 
-    /// That the network keeps the rules: an empty function, for the callers' proofs (own rules).
+    /// Hides a route or a SID that is shown; all else stays as it was, the lists of the network
+    /// with it (own rule). It takes no memory.
+    pub fn hide(&mut self, entry: EntryId)
+        requires there { CanHide self.old entry }
+        requires shown { is_shown self.old.hidden (hit_of_entry entry) ≡ true }
+        ensures { IsEdited self.old self.new (hit_of_entry entry) false }
+    {
+        let e = entry_of(&self.parts, entry);
+        mark(&self.parts, &mut self.hidden, entry, true);
+        let first = first_shown(&self.parts, &self.hidden, &e);
+        settle(&mut self.tables, &e, first);
+    }
+
+    /// Shows a route or a SID that is hidden; all else stays as it was (own rule). After want of
+    /// memory the network is as it was.
+    pub fn show(&mut self, alloc: Global, entry: EntryId) -> Result<(), AllocError>
+        requires there { CanHide self.old entry }
+        requires hidden { is_shown self.old.hidden (hit_of_entry entry) ≡ false }
+        ensures ok { OnOk result (IsEdited self.old self.new (hit_of_entry entry) true) }
+        ensures err { OnErr result (self.new ≡ self.old) }
+    {
+        let e = entry_of(&self.parts, entry);
+        mark(&self.parts, &mut self.hidden, entry, false);
+        let first = first_shown(&self.parts, &self.hidden, &e).unwrap_or(e.hit);
+        match place(alloc, &mut self.tables, &e, first) {
+            Ok(()) => Ok(()),
+            Err(fault) => {
+                mark(&self.parts, &mut self.hidden, entry, true);
+                Err(fault)
+            }
+        }
+    }
+
+    /// Whether nothing is hidden, as in a network that was just built (own rule).
+    pub fn is_whole(&self) -> bool
+        ensures { IsTrue result ↔ (self.now.hidden ≡ []) }
+    {
+        hides_nothing(&self.hidden)
+    }
+
+    /// Whether an entry is a route or a SID of the network, which alone can be hidden (own rule).
+    pub fn can_hide(&self, entry: EntryId) -> bool
+        ensures { IsTrue result ↔ CanHide self.now entry }
+    {
+        match entry {
+            EntryId::Route(n) => n < self.routes(),
+            EntryId::Sid(n) => n < self.sids(),
+            EntryId::Address(_) => false,
+        }
+    }
+
+    /// Whether a route or a SID is shown; a node's address always is (own rule).
+    pub fn is_shown(&self, entry: EntryId) -> bool
+        ensures { result ≡ is_shown self.now.hidden (hit_of_entry entry) }
+    {
+        match entry {
+            EntryId::Route(n) => is_shown(&self.hidden, Hit::Route(n)),
+            EntryId::Sid(n) => is_shown(&self.hidden, Hit::Sid(n)),
+            EntryId::Address(_) => true,
+        }
+    }
+
+    /// That the network keeps the rules and is in range, as it was built: an empty function, for the
+    /// callers' proofs (own rules).
     pub fn keeps_rules(&self)
         ensures network { IsNetwork self.now }
+        ensures range { InRange self.now }
         ensures facts { Keeps self.now }
     {
         let _ = &self.parts;
     }
 
-    /// The parts, as the network was made of them (own rule).
+    /// The parts, as the network was made of them, hidden or not (own rule).
     pub fn parts(&self) -> &NetParts
-        ensures { network_of result.now ≡ self.now }
+        ensures { record (network_of result.now) { hidden = self.now.hidden } ≡ self.now }
     {
         &self.parts
     }
@@ -235,7 +318,7 @@ impl Net {
     /// The entries of a node's table with a number, for packets of a family; none are kept for a
     /// table that has none.
     pub(crate) fn entries(&self, node: u32, table: u32, family: Family) -> Option<&Table<Hit>>
-        ensures { AnswersFor (entries_of self.now node table family)
+        ensures { IsExact (entries_of self.now node table family)
             (unwrap_or (option_copied result) []) }
     {
         self.tables.get(&table_key(node, table, family))

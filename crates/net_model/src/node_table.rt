@@ -3,7 +3,7 @@
 ghost use Rattle.std.specs.Prelude.{◌≡◌, ◌<◌, [], List, length, option_copied};
 ghost use Rattle.std.specs.Option.{unwrap_or};
 ghost use Rattle.net_model.specs.Best.{Entry, longest, hit_of, lookup_of};
-ghost use Rattle.net_model.specs.Tables.{AnswersFor};
+ghost use Rattle.net_model.specs.Tables.{IsExact};
 
 use crate::net::{Hit, Net};
 use prefix_table::Table;
@@ -25,7 +25,7 @@ impl<'a> Model for NodeTable<'a> {
     ghost use Rattle.std.specs.Prelude.{[], option_copied};
     ghost use Rattle.std.specs.Option.{unwrap_or};
     ghost use Rattle.net_model.specs.Best.{entries_of};
-    ghost use Rattle.net_model.specs.Tables.{TableOf, AnswersFor};
+    ghost use Rattle.net_model.specs.Tables.{TableOf, IsExact};
 
     ghost Value = { TableOf };
 
@@ -36,7 +36,7 @@ impl<'a> Model for NodeTable<'a> {
       family = t.family;
     } };
 
-    ghost invariant = { λ t. AnswersFor (entries_of t.net.now t.node t.table t.family)
+    ghost invariant = { λ t. IsExact (entries_of t.net.now t.node t.table t.family)
         (unwrap_or (option_copied t.entries) []) };
 }
 
@@ -80,7 +80,7 @@ impl<'a> NodeTable<'a> {
 
 /// What in a table fits an address best; a table that is not there has no entries.
 fn hit_in(table: Option<&Table<Hit>>, a: Addr) -> Hit
-    ensures { (entries : List Entry) → AnswersFor entries (unwrap_or (option_copied table.entry) [])
+    ensures { (entries : List Entry) → IsExact entries (unwrap_or (option_copied table.entry) [])
         → result ≡ hit_of (longest a.value entries) }
 {
     match table {

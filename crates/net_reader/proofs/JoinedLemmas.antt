@@ -1,5 +1,5 @@
 -- The parts of a network from their lists.
-use Rattle.std.proofs.Common.{◌≡◌, ℕ, List, map, refl}
+use Rattle.std.proofs.Common.{◌≡◌, ℕ, List, [], map, refl}
 use Rattle.std.specs.List.{filter_map}
 use Rattle.srv6_rules.specs.declared.sid.SidEntry.{SidEntry}
 use Rattle.net_model.specs.declared.parts.Block.{Block}
@@ -20,6 +20,7 @@ parts_of blocks nodes links routes policies titles sids = record {
   policies = policies;
   titles = titles;
   sids = sids;
+  hidden = [];
 }
 
 pub joined_from : (said : Description) (ns ls ps : List (List ℕ)) (blocks : List Block) (nodes : List Node) (links : List Link)

@@ -70,6 +70,12 @@ read-judged text said (Err why) is first same = λ fault other.
 pub read-refused : (text : List ℕ) (fault : TextFault) → description_in text ≡ Err fault → net_in text ≡ Err fault
 read-refused text fault is = ap (λ d. ◌>>=◌ d judged_network) is
 
+-- nothing is hidden in a network as it is built
+pub built-whole : (built : Network) (r : Result Network (OrNoMemory TextFault)) → built.hidden ≡ [] → IfOk r (λ net. net ≡ built)
+    → IfOk r (λ net. net.hidden ≡ [])
+built-whole built (Ok net) whole same = ap (λ (n : Network). n.hidden) same ∙ whole
+built-whole built (Err why) whole same = tt
+
 pub ruleset reading = (read-judged, read-refused)
 
 -- ---- laws

@@ -152,4 +152,5 @@ joined said = record {
   policies = map joined_policy said.policies;
   titles = filter_map title_in said.sids;
   sids = joined_sids (node_names said) (link_names said) (policy_names said) (map joined_block said.blocks) 0 said.sids;
+  hidden = [];
 }

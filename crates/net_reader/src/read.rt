@@ -1,5 +1,6 @@
 //! From the text of a description to its network.
 
+ghost use Rattle.std.specs.Prelude.{◌≡◌, [], IfOk};
 ghost use Rattle.text_faults.specs.Reading.{Gives};
 ghost use Rattle.net_reader.specs.Reading.{net_in};
 
@@ -19,7 +20,8 @@ use text_faults::NetFault;
 /// them. `NoMemory` may come at any time, and says nothing about the text.
 #[tactic(auto, using(crate::proofs::ReadLemmas::reading))]
 pub fn read_net(alloc: Global, text: &[u8]) -> Result<Net, NetFault>
-    ensures { Gives (λ net. net) result (net_in text.now) }
+    ensures judged { Gives (λ net. net) result (net_in text.now) }
+    ensures whole { IfOk result (λ net. net.hidden ≡ []) }
 {
     let said = read_description(alloc, text)?;
     let standings = standings(alloc, said.sids.as_slice())?;

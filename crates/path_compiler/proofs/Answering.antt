@@ -135,8 +135,8 @@ module _ (v : LegsValue) (net : Network) (Realizes Executes Hands : List Contain
       let none = none-path s is empty path.moves in
       absurd (cc)
 
-  pub no-list : (s : Solution) (path : List PathStep) → flatness_of net ≡ Ok tt → IsSolution v s → path ≡ s.path
+  pub no-list : (s : Solution) (path : List PathStep) → net.hidden ≡ [] → flatness_of net ≡ Ok tt → IsSolution v s → path ≡ s.path
       → (length path == 0) ≡ true → IsNoList v net Realizes s
-  no-list s path is_flat is e h =
+  no-list s path whole is_flat is e h =
       let empty : s.path ≡ [] = sym e ∙ nil-by path h in
-      record { flat = is_flat; none = none-realizes s is empty; solution = is; no_path = empty }
+      record { whole = whole; flat = is_flat; none = none-realizes s is empty; solution = is; no_path = empty }

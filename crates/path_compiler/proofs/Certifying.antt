@@ -96,18 +96,18 @@ pub certifies-none : (net : Network) (intent : Intent) (s : Solution) → IsNetw
 certifies-none net intent s network flat is solution empty =
     λ head. verdict-none (legs_value net intent) s head (strict net intent network flat is) solution empty
 
-flat-by : (net : Network) → flatness_of net ≡ Ok tt → IsFlat net
-flat-by net is = (flatness_ok net).0 (subst (λ (r : Result (Unit {0}) NotFlat). IsOk r) (sym is) refl)
+flat-by : (net : Network) → net.hidden ≡ [] → flatness_of net ≡ Ok tt → IsFlat net
+flat-by net whole is = (flatness_ok net whole).0 (subst (λ (r : Result (Unit {0}) NotFlat). IsOk r) (sym is) refl)
 
 pub certifies-answer : (net : Network) (intent : Intent) (answer : Result Compiled CompileFault) → IsNetwork net → IsIntent net intent
     → CompileAnswers net intent answer → CertifiesAnswer net intent answer
 certifies-answer net intent (Ok c) network is answers =
-    certifies-found net intent intent.reduced c network (flat-by net answers.flat) is answers.found
+    certifies-found net intent intent.reduced c network (flat-by net answers.whole answers.flat) is answers.found
 certifies-answer net intent (Err (faults.NotFlat why)) network is answers = tt
 certifies-answer net intent (Err (faults.NoList s)) network is answers =
-    certifies-none net intent s network (flat-by net answers.flat) is answers.solution answers.no_path
+    certifies-none net intent s network (flat-by net answers.whole answers.flat) is answers.solution answers.no_path
 certifies-answer net intent (Err (faults.TooLong c)) network is answers =
-    certifies-found net intent intent.reduced c network (flat-by net answers.flat) is answers.found
+    certifies-found net intent intent.reduced c network (flat-by net answers.whole answers.flat) is answers.found
 certifies-answer net intent (Err (faults.HopLimit c)) network is answers =
-    certifies-found net intent intent.reduced c network (flat-by net answers.flat) is answers.found
+    certifies-found net intent intent.reduced c network (flat-by net answers.whole answers.flat) is answers.found
 certifies-answer net intent (Err faults.NoMemory) network is answers = tt

@@ -65,6 +65,7 @@ pub record IsFound (v : LegsValue) (net : Network) (Realizes Executes : List Con
 -- the chosen list is found, and the intent's bounds are kept
 pub record IsKept (v : LegsValue) (net : Network) (Realizes Executes : List Container → ℕ → Type 0) (intent : Intent) (c : Compiled)
     : Type 0 where
+  pub whole : net.hidden ≡ []
   pub flat : flatness_of net ≡ Ok tt
   pub found : IsFound v net Realizes Executes intent.reduced c
   pub short : c.containers ≤ intent.max_containers
@@ -72,12 +73,14 @@ pub record IsKept (v : LegsValue) (net : Network) (Realizes Executes : List Cont
 
 pub record IsTooLong (v : LegsValue) (net : Network) (Realizes Executes : List Container → ℕ → Type 0) (intent : Intent) (c : Compiled)
     : Type 0 where
+  pub whole : net.hidden ≡ []
   pub flat : flatness_of net ≡ Ok tt
   pub found : IsFound v net Realizes Executes intent.reduced c
   pub long : intent.max_containers < c.containers
 
 pub record IsOverHopLimit (v : LegsValue) (net : Network) (Realizes Executes : List Container → ℕ → Type 0) (intent : Intent) (c : Compiled)
     : Type 0 where
+  pub whole : net.hidden ≡ []
   pub flat : flatness_of net ≡ Ok tt
   pub found : IsFound v net Realizes Executes intent.reduced c
   pub short : c.containers ≤ intent.max_containers
@@ -85,6 +88,7 @@ pub record IsOverHopLimit (v : LegsValue) (net : Network) (Realizes Executes : L
 
 -- no legal list realizes
 pub record IsNoList (v : LegsValue) (net : Network) (Realizes : List Container → ℕ → Type 0) (s : Solution) : Type 0 where
+  pub whole : net.hidden ≡ []
   pub flat : flatness_of net ≡ Ok tt
   pub none : (list : List Container) (need : ℕ) → IsLegalList net list → ¬ Realizes list need
   pub solution : IsSolution v s

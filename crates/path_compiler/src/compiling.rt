@@ -1,6 +1,6 @@
 //! Path intents compiled to least lists of segments.
 
-ghost use Rattle.std.specs.Prelude.{◌≡◌, ◌<◌, length, slice_get, Some, IfOk, Ok};
+ghost use Rattle.std.specs.Prelude.{◌≡◌, ◌<◌, [], length, slice_get, Some, IfOk, Ok};
 ghost use Rattle.std.specs.Option.{option_map};
 ghost use Rattle.flat_networks.specs.Flat.{flatness_of};
 ghost use Rattle.intent_reader.specs.Rules.{IsIntent};
@@ -72,6 +72,7 @@ fn answer_over<L: ListLegs>(
     legs: &L,
 ) -> Result<Compiled, CompileFault>
     requires network { L.network legs.now ≡ net.now }
+    requires whole { net.now.hidden ≡ [] }
     requires flat { flatness_of net.now ≡ Ok tt }
     ensures { AnswersOver (L.seen legs.now) net.now (L.realizes legs.now) (L.executes legs.now)
         intent.now result }
@@ -114,6 +115,7 @@ pub fn compile_over<L: ListLegs>(
     legs: &L,
 ) -> Result<Compiled, CompileFault>
     requires network { L.network legs.now ≡ net.now }
+    requires whole { net.now.hidden ≡ [] }
     requires flat { flatness_of net.now ≡ Ok tt }
     ensures answer { AnswersOver (L.seen legs.now) net.now (L.realizes legs.now)
         (L.executes legs.now) intent.now result }
@@ -123,15 +125,16 @@ pub fn compile_over<L: ListLegs>(
     answer_over(alloc, net, intent, legs)
 }
 
-/// Compiles an intent that keeps the rules in a network to the least legal list of SIDs that takes
-/// each packet of the intent along exactly its steps, whichever equal next hop is chosen, by
-/// `compile_over` over the legs of its strict steps. `NotFlat` comes exactly where the network is
-/// not flat, before all other answers. Of the legal lists that hand over even one inner packet at one
-/// hop limit so, none needs fewer header bytes than the list that is found, nor has fewer containers,
-/// or as many at a hop limit that is not above its need; where none is found there are none of them.
-/// (own rule)
+/// Compiles an intent that keeps the rules in a network, of which nothing is hidden, to the least
+/// legal list of SIDs that takes each packet of the intent along exactly its steps, whichever equal
+/// next hop is chosen, by `compile_over` over the legs of its strict steps. `NotFlat` comes exactly
+/// where the network is not flat, before all other answers. Of the legal lists that hand over even
+/// one inner packet at one hop limit so, none needs fewer header bytes than the list that is found,
+/// nor has fewer containers, or as many at a hop limit that is not above its need; where none is
+/// found there are none of them. (own rule)
 pub fn compile(alloc: Global, net: &Net, intent: &Intent) -> Result<Compiled, CompileFault>
-    requires { IsIntent net.now intent.now }
+    requires whole { net.now.hidden ≡ [] }
+    requires intent { IsIntent net.now intent.now }
     ensures answer { CompileAnswers net.now intent.now result }
     ensures handing { NoLessHandsOver net.now intent.now result }
 {

@@ -229,6 +229,7 @@ fn nested_sids_tell_their_units(rt: HostRuntime) -> Result<(), Fail> {
         (1, (INNER, 64, NEXT)),
     ];
     let net = network_of(&rt, alloc, &rows, (0, 0))?;
+    assert!(rt; net.is_whole());
     let answer = compilable(alloc, &net);
     assert!(rt; answer.is_ok());
     let units: [&[u16]; 4] = [&[0xe002, 0xe001], &[], &[], &[]];

@@ -1,5 +1,5 @@
 -- What a look-up gives is there: its SID or route has that number, and is the node's.
-use Rattle.std.proofs.Common.{◌≡◌, ℕ, suc, ◌+◌, Bool, true, false, ◌==◌, ◌&&◌, nat_lt, if◌then◌else◌, List, [], ◌∷◌, ◌++◌, Option, Some, None, slice_get, refl, arith, add-zero, eqb-true, subst, sym}
+use Rattle.std.proofs.Common.{◌≡◌, ℕ, suc, ◌+◌, Bool, true, false, ◌==◌, ◌&&◌, nat_lt, cond, if◌then◌else◌, List, [], ◌∷◌, ◌++◌, Option, Some, None, slice_get, refl, arith, add-zero, eqb-true, subst, sym}
 use Rattle.std.proofs.lemmas.Option.{slice_get_within}
 use Rattle.v6_addr.specs.Address.{holds_address}
 use Rattle.srv6_rules.specs.declared.sid.Family.{Family}
@@ -8,9 +8,10 @@ use Rattle.net_model.specs.declared.parts.Node.{Node}
 use Rattle.net_model.specs.declared.parts.Route.{Route}
 use Rattle.net_model.specs.declared.net.Hit.{Hit}
 use Rattle.net_model.specs.declared.net.Hit.TheVariants as hits
-use Rattle.net_model.specs.Network.{Network}
+use Rattle.std.specs.List.{filter}
+use Rattle.net_model.specs.Network.{Network, is_shown}
 use Rattle.net_model.specs.Rules.{same_family}
-use Rattle.net_model.specs.Best.{Entry, sid_entries, route_entries, address_entries, has_sids, entries_of, longer, longest, hit_of, lookup_of}
+use Rattle.net_model.specs.Best.{Entry, sid_entries, route_entries, address_entries, has_sids, all_entries_of, entries_of, longer, longest, hit_of, lookup_of}
 use Rattle.walk_rules.specs.Way.{StandsAt, IsRouteOf, IsNumbered, IsThere}
 
 abbrev Each : (Entry → Type 0) → List Entry → Type 0
@@ -95,8 +96,8 @@ address-there : (net : Network) (node : ℕ) (at : Option Node) → Each (EntryI
 address-there net node None = tt
 address-there net node (Some n) = (tt, tt)
 
-entries-there : (net : Network) (node table : ℕ) (family : Family) → Each (EntryIsThere net node) (entries_of net node table family)
-entries-there net node table family = by_test (has_sids table family)
+all-there : (net : Network) (node table : ℕ) (family : Family) → Each (EntryIsThere net node) (all_entries_of net node table family)
+all-there net node table family = by_test (has_sids table family)
   where
     by_test : (t : Bool) → Each (EntryIsThere net node)
         (if t then sid_entries node 0 net.sids ++
@@ -107,6 +108,19 @@ entries-there net node table family = by_test (has_sids table family)
         (Each-append (EntryIsThere net node) _ _ (address-there net node (slice_get net.nodes node))
         (routes-there net node table family 0 net.routes (IsFrom-whole net.routes)))
     by_test false = routes-there net node table family 0 net.routes (IsFrom-whole net.routes)
+
+Each-filter : (P : Entry → Type 0) (test : Entry → Bool) (es : List Entry) → Each P es → Each P (filter test es)
+Each-filter P test [] each = tt
+Each-filter P test (e ∷ es) each = by_test (test e) (Each-filter P test es each.1)
+  where
+    by_test : (t : Bool) → Each P (filter test es) → Each P (cond t (e ∷ filter test es) (filter test es))
+    by_test true rest = (each.0, rest)
+    by_test false rest = rest
+
+entries-there : (net : Network) (node table : ℕ) (family : Family) → Each (EntryIsThere net node) (entries_of net node table family)
+entries-there net node table family =
+    Each-filter (EntryIsThere net node) (λ e. is_shown net.hidden e.hit) (all_entries_of net node table family)
+    (all-there net node table family)
 
 hit-there : (net : Network) (node : ℕ) (found : Option Entry) → IfEntry (EntryIsThere net node) found → IsThere net node (hit_of found)
 hit-there net node None there = tt

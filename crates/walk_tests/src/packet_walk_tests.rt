@@ -234,6 +234,56 @@ fn a_drop_leaves_its_error(rt: HostRuntime) -> Result<(), Fail> {
     Ok(())
 }
 
+/// How many bytes are spare in front of a packet, after room was made or not.
+fn room_of(
+    rt: &impl Abort,
+    flight: &mut Flight<'_>,
+    number: u32,
+    reserved: bool,
+) -> Result<usize, NoMemory> {
+    assert!(rt; 1 <= number);
+    assert!(rt; number <= flight.count());
+    if reserved {
+        flight.reserve(number)?;
+    }
+    Ok(flight.room(number))
+}
+
+/// What comes of the turn of a packet with room in front of it.
+fn outcome_in_room(rt: &impl Abort, flight: &mut Flight<'_>, number: u32) -> Option<Outcome> {
+    assert!(rt; 1 <= number);
+    assert!(rt; number <= flight.count());
+    let room = flight.room(number);
+    assert!(rt; room >= 2_080);
+    flight.turn_ready(number).map(|event| event.outcome)
+}
+
+/// What comes of the turn of a packet that has ended.
+fn outcome_after_end(rt: &impl Abort, flight: &mut Flight<'_>, number: u32) -> Option<Outcome> {
+    assert!(rt; 1 <= number);
+    assert!(rt; number <= flight.count());
+    let ended = flight.ended(number);
+    assert!(rt; ended.is_some());
+    flight.turn_ready(number).map(|event| event.outcome)
+}
+
+/// Room is made in front of one packet, and then its turn is as ever; there is none of one that has
+/// ended, for which none is made.
+#[test]
+fn room_is_made_for_a_packet_in_flight(rt: HostRuntime) -> Result<(), Fail> {
+    let net = net_of(&rt, rt.alloc())?;
+    assert_eq!(rt; net.nodes(), 2);
+    let mut flight = two_packets(&rt, rt.alloc(), &net, 64, &[0], &[1])?;
+    assert_eq!(rt; room_of(&rt, &mut flight, 1, false)?, 0);
+    assert_eq!(rt; room_of(&rt, &mut flight, 1, true)?, 2_080);
+    assert_eq!(rt; room_of(&rt, &mut flight, 2, false)?, 0);
+    assert_eq!(rt; outcome_in_room(&rt, &mut flight, 1), sent(0));
+    assert_eq!(rt; outcome_in_room(&rt, &mut flight, 1), sent(2));
+    assert_eq!(rt; room_of(&rt, &mut flight, 1, true)?, 0);
+    assert_eq!(rt; outcome_after_end(&rt, &mut flight, 1), None);
+    Ok(())
+}
+
 /// The packets that take a turn, by a schedule and the numbers of their frames, each by its number in
 /// the flight; all end.
 fn turns_of(

@@ -8,5 +8,5 @@ use Rattle.list_tests.proofs.list_pack_list_tests.segments.Goals as goal
 pub values-requires-clause-flat : goal.values-requires-clause-flat
 values-requires-clause-flat c =
     let legal : IsLegalList c.args.net.now c.args.list.now = c.is_legal.ensures.0 c.if-not-is_legal.false in
-    let flat : IsFlat c.args.net.now = c.in-Ok.ensures.flat.0 refl in
+    let flat : IsFlat c.args.net.now = (c.in-Ok.ensures.flat c.requires).0 refl in
     legal-flat c.args.net.now c.args.list.now (flat-lists c.args.net.now c.keeps_rules.ensures.network flat) legal

@@ -21,7 +21,11 @@ returns-in_ok-append-clause-taken c =
 
 pub returns-in_ok-append-clause-answers : goal.returns-in_ok-append-clause-answers
 returns-in_ok-append-clause-answers c = λ before answers.
-    answer_more c.args.e.now before c.args.tables.now c.append.new.tables c.in_ok-append.ensures answers
+    let e = c.args.e.now in
+    let told = c.in_ok-is_new.ensures.added
+    ∙ ap (λ (k : EntryKey). not (tree.contains entry_key_cmp c.args.taken.now k)) c.entry_key.ensures in
+    answer_more e before c.args.tables.now c.append.new.tables
+    (λ has. not_there _ _ c.if-is_new.true told ((c.requires e.node e.table e.family e.prefix).1 has)) c.in_ok-append.ensures answers
 
 pub returns-else-is_new-clause-answers : goal.returns-else-is_new-clause-answers
 returns-else-is_new-clause-answers c = λ before answers.

@@ -1,4 +1,4 @@
-use Rattle.std.proofs.Common.{[], ◌++◌}
+use Rattle.std.proofs.Common.{[], ◌++◌, refl}
 use Rattle.net_model.specs.Network.{network_of}
 use Rattle.net_model.specs.Tables.{entries_from, sid_entry, address_entry}
 use Rattle.net_model.proofs.FillLemmas.{answer_none}
@@ -12,5 +12,5 @@ returns c =
     let first = c.in_ok-put_all.ensures.answers [] (answer_none c.new-tables.result c.new-tables.ensures.empty) in
     let second = c.in_ok-put_all-2.ensures.answers (entries_from sid_entry 0 sids) first in
     let third = c.in_ok-put_all-3.ensures.answers (entries_from sid_entry 0 sids ++ entries_from address_entry 0 nodes) second in
-    are_tables (network_of c.args.parts.now) sids nodes c.as_slice-3.result.now c.put_all-3.new.tables c.as_slice.ensures.value
+    are_tables (network_of c.args.parts.now) sids nodes c.as_slice-3.result.now c.put_all-3.new.tables refl c.as_slice.ensures.value
     c.as_slice-2.ensures.value c.as_slice-3.ensures.value third

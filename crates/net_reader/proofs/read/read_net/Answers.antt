@@ -1,4 +1,6 @@
-use Rattle.net_reader.proofs.ReadLemmas.{said_few, said_in_range}
+use Rattle.std.proofs.Common.{refl}
+use Rattle.net_model.specs.Network.{network_of}
+use Rattle.net_reader.proofs.ReadLemmas.{said_few, said_in_range, built-whole}
 use Rattle.net_reader.proofs.read.read_net.Goals as goal
 
 pub join-requires-clause-few_nodes : goal.join-requires-clause-few_nodes
@@ -15,3 +17,6 @@ join-requires-clause-few_sids c = (said_few c.args.text.now c.in_ok-said.said c.
 
 pub build-requires : goal.build-requires
 build-requires c = rw c.in_ok-parts.ensures (said_in_range c.args.text.now c.in_ok-said.said c.in_ok-said.ensures)
+
+pub returns-clause-whole : goal.returns-clause-whole
+returns-clause-whole c = built-whole (network_of c.in_ok-parts.parts) c.build.result refl c.build.ensures.value
