@@ -89,7 +89,7 @@ impl<O: Opens> Files for HostFiles<O> {
                 self.stopped = true;
             }
             Err(FileFault::NoMemory) => {}
-            _ => self.stopped = false,
+            Ok(_) | Err(FileFault::TooBig { .. }) => self.stopped = false,
         }
         answer
     }

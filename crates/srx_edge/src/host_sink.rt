@@ -53,7 +53,7 @@ impl<W: Write> Sink for HostSink<W> {
                 self.stopped = false;
                 Ok(count)
             }
-            _ => {
+            Ok(_) | Err(_) => {
                 self.faults = self.faults.saturating_add(1);
                 self.stopped = true;
                 Err(SinkFault::Failed)

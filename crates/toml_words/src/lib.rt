@@ -10,7 +10,7 @@
 mod items;
 mod keys;
 mod kinds;
-mod texts;
+mod parse;
 mod tree;
 
 pub use items::{Describes, items_at};
@@ -19,5 +19,5 @@ pub use keys::{
     optional_number,
 };
 pub use kinds::{Kind, meant};
-pub use texts::document;
+pub use parse::document;
 pub use tree::{integer_in, number_in, only, text_in, value_at};

@@ -1,7 +1,7 @@
 use Rattle.std.proofs.Common.{◌≡◌, refl, sym, ap, ◌∙◌}
 use Rattle.std.specs.Prelude.{Err}
 use Rattle.toml_words.proofs.Documents.{document_of-no_text, document_of-text}
-use Rattle.toml_words.proofs.texts.document.Goals as goal
+use Rattle.toml_words.proofs.parse.document.Goals as goal
 
 pub returns-in_default : goal.returns-in_default
 returns-in_default c = λ fault same.
