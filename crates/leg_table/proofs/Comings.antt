@@ -27,7 +27,7 @@ use Rattle.leg_table.proofs.AllWays.{yes, hands-every}
 use Rattle.leg_table.proofs.Rides.{every-ride}
 use Rattle.leg_table.proofs.RideFacts.{ride-facts, StartFacts, start-facts}
 use Rattle.leg_table.proofs.ListPlaces.{own-here, address-at}
-use Rattle.leg_table.proofs.StrictLaws.{into-stands}
+use Rattle.leg_table.proofs.Arrivals.{into-stands}
 use Rattle.leg_table.proofs.Handing.{RideWalk, ride-walk}
 use Rattle.leg_table.proofs.Segments.{into-prefix}
 use Rattle.leg_table.proofs.AllHands.{Hands, hands-ways, hands-along}

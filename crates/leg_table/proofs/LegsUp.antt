@@ -43,7 +43,7 @@ use Rattle.leg_table.proofs.RideFacts.{RideFacts, ride-facts, StartFacts, start-
 use Rattle.leg_table.proofs.NextRides.{NextRide, leg-ride, finish-ride, middle-sid, last-sid}
 use Rattle.leg_table.proofs.ListPlaces.{address-at}
 use Rattle.leg_table.proofs.PathNames.{shape-prefix}
-use Rattle.leg_table.proofs.StrictLaws.{drop-drop}
+use Rattle.leg_table.proofs.Arrivals.{drop-drop}
 use Rattle.leg_table.proofs.Handing.{handed-stage, handed-behind, ride-walk}
 use Rattle.leg_table.proofs.Executions.{step-parts}
 use Rattle.leg_table.proofs.Segments.{behind-again, mid-onward, last-exposes, left-behind, behind-alone}

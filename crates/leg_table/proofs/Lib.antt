@@ -17,6 +17,7 @@ pub mod Courses
 pub mod Placing
 pub mod Positions
 pub mod Shapes
+pub mod Arrivals
 pub mod StrictLaws
 pub mod Stays
 pub mod Ways

@@ -63,17 +63,17 @@ left_after-le net n ts left h = by_title (is_titled net n) ts h
     by_title false ts h = let e : length ts ≡ left = some-same (length ts) left h in omega arith
 
 -- the tests, taken apart
-behind-parts : (net : Network) (next : ℕ) (r : Ride) (left : ℕ) → left_behind net next r ≡ Some left
+pub behind-parts : (net : Network) (next : ℕ) (r : Ride) (left : ℕ) → left_behind net next r ≡ Some left
     → (r.sid ≡ next) × (left_after net next r.left ≡ Some left)
 behind-parts net next r left h =
     let got = if-some (r.sid == next) (left_after net next r.left) left h in
     (eqb-true r.sid next got.0, got.1)
 
-behind-from : (net : Network) (next : ℕ) (r : Ride) (left : ℕ) → r.sid ≡ next → left_after net next r.left ≡ Some left
+pub behind-from : (net : Network) (next : ℕ) (r : Ride) (left : ℕ) → r.sid ≡ next → left_after net next r.left ≡ Some left
     → left_behind net next r ≡ Some left
 behind-from net next r left e h = rw (eq-eqb r.sid next e) h
 
-leg_behind-parts : (net : Network) (count next : ℕ) (o : Option Ride) (leg : Leg) → leg_behind net count next o ≡ Some leg
+pub leg_behind-parts : (net : Network) (count next : ℕ) (o : Option Ride) (leg : Leg) → leg_behind net count next o ≡ Some leg
     → (r : Ride) × (o ≡ Some r) × (left : ℕ) × (left_behind net next r ≡ Some left) × (leg_with count r.lowered left ≡ leg)
 leg_behind-parts net count next None leg h = absurd (cc)
 leg_behind-parts net count next (Some r) leg h =
@@ -84,7 +84,7 @@ if_none-parts : (lowered left : ℕ) (n : ℕ) → if_none_left lowered left ≡
 if_none-parts lowered zero n h = (refl, some-same lowered n h)
 if_none-parts lowered (suc more) n h = absurd (cc)
 
-finish_behind-parts : (net : Network) (next : ℕ) (o : Option Ride) (n : ℕ) → finish_behind net next o ≡ Some n
+pub finish_behind-parts : (net : Network) (next : ℕ) (o : Option Ride) (n : ℕ) → finish_behind net next o ≡ Some n
     → (r : Ride) × (o ≡ Some r) × (left_behind net next r ≡ Some 0) × (r.lowered ≡ n)
 finish_behind-parts net next None n h = absurd (cc)
 finish_behind-parts net next (Some r) n h =

@@ -1,9 +1,12 @@
 -- The lemmas that crates above may cite: those that prove the laws of public functions, and what further kinds of legs need, which is the same
--- for all kinds: paths by the laws of one leg, places of lists, shapes, the SIDs of a position, executions, hop limits and inner packets.
+-- for all kinds: paths by the laws of one leg, where rides from a place arrive, places of lists, shapes, the SIDs of a position, executions, hop limits and inner packets.
 pub use Rattle.leg_table.proofs.Choices.{choices-every}
 pub use Rattle.leg_table.proofs.Rides.{every-ride}
 pub use Rattle.leg_table.proofs.LegLemmas.{leg-meaning, finish-meaning, leg-each, finish-each}
 pub use Rattle.leg_table.proofs.Positions.{are-sids}
+pub use Rattle.leg_table.proofs.RideFacts.{StartFacts, start_from, sid-at, intent-stands}
+pub use Rattle.leg_table.proofs.NextRides.{behind-parts, behind-from, leg_behind-parts, finish_behind-parts}
+pub use Rattle.leg_table.proofs.Arrivals.{Arrives, AtEnd, ride-arrives, ride-few, at-end}
 pub use Rattle.leg_table.proofs.StrictLaws.{strict-laws}
 pub use Rattle.leg_table.proofs.Meanings.{realized, hands-realizes, kind-means}
 pub use Rattle.leg_table.proofs.StrictMeanings.{strict-leg_laws, strict-kind_laws, legs-mean, path-realizes, list-path}

@@ -177,7 +177,7 @@ intent-stands net intent h =
     (k.0, leb-true (length intent.steps) 48 g.0, leb-true 1 (length intent.steps) f.0, ltb-true intent.headend (length net.nodes) a.0)
 
 module _ (net : Network) (keeps : Keeps net) (intent : Intent) (is_intent : IsIntent net intent) where
-  start_from : (position : ℕ) (place : Place) → position ≤ length intent.steps → node_at net intent position ≡ Some place.node
+  pub start_from : (position : ℕ) (place : Place) → position ≤ length intent.steps → node_at net intent position ≡ Some place.node
       → IsHow net place.node place.how → place.family ≡ families.V6 → StartFacts net intent position place
   start_from position place within stands how family =
       record {

@@ -12,7 +12,6 @@ use Rattle.intent_reader.specs.Rules.{IsIntent, stand_after, node_after}
 use Rattle.intent_reader.specs.declared.intent.Step.{Step}
 use Rattle.intent_reader.specs.declared.intent.Intent.{Intent}
 use Rattle.leg_table.specs.declared.step_links.Behind.{Behind}
-use Rattle.leg_table.specs.Course.{way_behind}
 use Rattle.leg_table.specs.Leg.{is_start, place_from, start_of}
 use Rattle.leg_table.specs.declared.reach.Reach.{Reach}
 use Rattle.leg_table.specs.Sids.{node_at}
@@ -61,21 +60,16 @@ module _ (net : Network) (keeps : Keeps net) (intent : Intent) (is_intent : IsIn
   rest-stands position node stands =
       ap is_some (sym (stand_after-split net intent.headend node intent.steps position stands)) ∙ (intent-stands net intent is_intent).0
 
-  pub few-behind : (position : ℕ) (via : Option ℕ) (next : ℕ) (way : Option Behind) → way ≡ way_behind net intent position via next
+  -- a way from a start leaves some of the steps, and lowers the hop limit at most once for each
+  pub few-on : (position : ℕ) (place : Place) → IsStart net intent position place → (next : ℕ) (way : Option Behind)
+      → way ≡ way_along net (drop position intent.steps) place next
       → IfSome way (λ b. (b.left ≤ length intent.steps) × (b.lowered ≤ 48))
-  few-behind position via next None e = tt
-  few-behind position via next (Some b) e = by_start (start_of net intent position via) refl e
-    where
-      by_start : (o : Option Place) → start_of net intent position via ≡ o
-          → Some b ≡ option_and_then (λ p. way_along net (drop position intent.steps) p next) o
-          → (b.left ≤ length intent.steps) × (b.lowered ≤ 48)
-      by_start None s h = absurd (cc)
-      by_start (Some place) s h =
-          let start = start-is position via place (sym s) in
-          let few = way-few net keeps (drop position intent.steps) place next b start.is_place.1 start.rest (sym h) in
-          let len = length-drop position intent.steps in
-          let all = (intent-stands net intent is_intent).1 in
-          (omega (arith, few.0, len), omega (arith, few.1, len, all))
+  few-on position place start next None e = tt
+  few-on position place start next (Some b) e =
+      let few = way-few net keeps (drop position intent.steps) place next b start.is_place.1 start.rest (sym e) in
+      let len = length-drop position intent.steps in
+      let all = (intent-stands net intent is_intent).1 in
+      (omega (arith, few.0, len), omega (arith, few.1, len, all))
 
   -- the ways from where the step that starts at a position ends
   pub later-from : (position at : ℕ) (reach : Reach) (ways : List (Option Behind)) → position < length intent.steps

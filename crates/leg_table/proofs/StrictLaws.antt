@@ -31,9 +31,9 @@ use Rattle.leg_table.proofs.FlatNets.{FlatFacts}
 use Rattle.net_model.specs.declared.parts.Block.{Block}
 use Rattle.leg_table.proofs.Shapes.{shape-is, shapes-share}
 use Rattle.leg_table.proofs.Options.{drop-first, some-same, if-some}
-use Rattle.leg_table.proofs.RideFacts.{ride-facts, start-facts, intent-stands, stand_after-append}
+use Rattle.leg_table.proofs.RideFacts.{start-facts, intent-stands}
 use Rattle.leg_table.proofs.NextRides.{NextRide, leg-ride, finish-ride}
-use Rattle.leg_table.proofs.Placing.{step-lands}
+use Rattle.leg_table.proofs.Arrivals.{Arrives, ride-arrives, ride-few, at-end}
 use Rattle.leg_table.proofs.Positions.{are-sids, sids-few}
 
 pub shape-middle : (blocks : List Block) (o : Option SidEntry) → (shape_by blocks o).middle ≡ sid_goes_on o
@@ -74,117 +74,12 @@ ascends-from net intent (n ∷ m ∷ ms) h =
     (before-shapes net.blocks (slice_get net.sids n) (slice_get net.sids m) (node_of net n) (node_of net m) parts.0)
     (ascends-from net intent (m ∷ ms) parts.1)
 
-pub drop-drop : {X : Type 0} (n m : ℕ) (xs : List X) → drop m (drop n xs) ≡ drop (n + m) xs
-drop-drop zero m xs = let e : 0 + m ≡ m = omega arith in rw e refl
-drop-drop (suc n) zero [] = let e : suc n + 0 ≡ suc n = omega arith in rw e refl
-drop-drop {X} (suc n) (suc m) [] = let e : suc n + suc m ≡ suc (n + suc m) = omega arith in rw e refl
-drop-drop {X} (suc n) m (x ∷ xs) = let e : suc n + m ≡ suc (n + m) = omega arith in rw e (drop-drop n m xs)
-
 module _ (net : Network) (keeps : Keeps net) (intent : Intent) (is_intent : IsIntent net intent) where
-  -- where a ride ends: the SID stands there, and so many steps are done
-  pub record Arrives (position next : ℕ) (left : ℕ) : Type 0 where
-    pub sid : SidEntry
-    pub there : slice_get net.sids next ≡ Some sid
-    pub done : ℕ
-    pub from : position ≤ done
-    pub until : done ≤ length intent.steps
-    pub stands : node_at net intent done ≡ Some sid.node
-    pub rest : List Step
-    pub rest_is : drop done intent.steps ≡ rest
-    pub left_is : left_after net next rest ≡ Some left
-
-  pub into-stands : (place : Place) (d n : ℕ) → way_of net place d ≡ Into n
-      → (s : SidEntry) × (slice_get net.sids n ≡ Some s) × (s.node ≡ place.node)
-  into-stands place d n e = let at = way-into net place d n e in (at.sid, at.is_there, at.stands)
-
-  pub arrives : (position : ℕ) (via : Option ℕ) (next : ℕ) (n : NextRide net intent position via next) → Arrives position next n.left
+  arrives : (position : ℕ) (via : Option ℕ) (next : ℕ) (n : NextRide net intent position via next)
+      → Arrives net keeps intent is_intent position next n.left
   arrives position via next n =
       let s = start-facts net keeps intent is_intent position via n.place n.start n.from in
-      let f = ride-facts net keeps (sid_address net next) (drop position intent.steps) n.place n.ride s.how s.rest n.is_ride in
-      let sid = into-stands n.ride.place (sid_address net next) next (f.into ∙ ap Into n.sid) in
-      let len = length-drop position intent.steps in
-      record {
-        sid = sid.0;
-        there = sid.1;
-        done = position + f.count;
-        from = omega arith;
-        until = omega (arith, f.within, s.within);
-        stands =
-            ap (stand_after net intent.headend) (take-add position f.count intent.steps)
-            ∙ stand_after-append net intent.headend (take position intent.steps) (take f.count (drop position intent.steps))
-            ∙ ap (option_and_then (λ k. stand_after net k (take f.count (drop position intent.steps)))) s.stands
-            ∙ f.stands ∙ ap Some (sym sid.2);
-        rest = n.ride.left;
-        rest_is = sym (drop-drop position f.count intent.steps) ∙ sym f.left;
-        left_is = n.left_is;
-      }
-
-  abbrev pub AtEnd : ℕ → ℕ → ℕ → Type 0
-  AtEnd position next left =
-      (to : ℕ) × (length intent.steps - left ≡ to) × (position ≤ to) × (to ≤ length intent.steps) × (is_sid_at net intent to next ≡ true)
-
-  left-by : (position next left : ℕ) (a : Arrives position next left) (t : Bool) → is_some a.sid.title ≡ t
-      → (if t then left_after_function next a.rest else Some (length a.rest)) ≡ Some left
-  left-by position next left a t e =
-      ap (λ (b : Bool). if b then left_after_function next a.rest else Some (length a.rest)) (sym e)
-      ∙ ap (λ (o : Option SidEntry). if has_title o then left_after_function next a.rest else Some (length a.rest)) (sym a.there)
-      ∙ a.left_is
-
-  sid-at-from : (to next : ℕ) (s : SidEntry) → slice_get net.sids next ≡ Some s → node_at net intent to ≡ Some s.node
-      → title_suits next (step_before intent.steps to) s.title ≡ true → is_sid_at net intent to next ≡ true
-  sid-at-from to next s there stands suits =
-      ap (sid_suits next (node_at net intent to) (step_before intent.steps to)) there
-      ∙ and_from (is_at s.node (node_at net intent to)) (title_suits next (step_before intent.steps to) s.title)
-      (ap (is_at s.node) stands ∙ eq-eqb s.node s.node refl) suits
-
-  at-untitled : (position next left : ℕ) (a : Arrives position next left) → a.sid.title ≡ None → AtEnd position next left
-  at-untitled position next left a none =
-      let e : length a.rest ≡ left = some-same (length a.rest) left (left-by position next left a false (ap is_some none)) in
-      let l = ap length a.rest_is in
-      let k = length-drop a.done intent.steps in (
-        a.done,
-        omega (arith, a.until),
-        a.from,
-        a.until,
-        sid-at-from a.done next a.sid a.there a.stands (ap (title_suits next (step_before intent.steps a.done)) none),
-      )
-
-  at-titled : (position next left : ℕ) (a : Arrives position next left) (title : ℕ) → a.sid.title ≡ Some title → AtEnd position next left
-  at-titled position next left a title some = by_rest a.rest a.rest_is (left-by position next left a true (ap is_some some))
-    where
-      by_rest : (rest : List Step) → drop a.done intent.steps ≡ rest → left_after_function next rest ≡ Some left → AtEnd position next left
-      by_rest [] e h = absurd (cc)
-      by_rest (Links set ∷ ts) e h = absurd (cc)
-      by_rest (Function m ∷ ts) e h =
-          let got = if-some (m == next) (Some (length ts)) left h in
-          let same : m ≡ next = eqb-true m next got.0 in
-          let count : length ts ≡ left = some-same (length ts) left got.1 in
-          let l = ap length e in
-          let k = length-drop a.done intent.steps in
-          let at = (drop-first intent.steps a.done (Function m) ts e).0 in
-          let below : a.done < length intent.steps = slice_get_within intent.steps a.done (Function m) at in
-          let after : node_after net a.sid.node (Function m) ≡ Some a.sid.node
-          = ap (λ (j : ℕ). function_node a.sid.node (slice_get net.sids j)) same
-          ∙ ap (function_node a.sid.node) a.there
-          ∙ ap (λ (b : Bool). if b then Some a.sid.node else None)
-          (and_from (a.sid.node == a.sid.node) (is_some a.sid.title) (eq-eqb a.sid.node a.sid.node refl) (ap is_some some)) in
-          let lands = step-lands net intent a.done a.sid.node a.sid.node (Function m) a.stands below
-          (get_or_from_slice_get intent.steps a.done (Function m) (Function m) at) after in
-          let stands : node_at net intent (suc a.done) ≡ Some a.sid.node = rw add-one at lands in (
-            suc a.done,
-            omega arith,
-            omega (arith, a.from),
-            omega arith,
-            sid-at-from (suc a.done) next a.sid a.there stands
-                (ap (title_suits next (slice_get intent.steps a.done)) some ∙ ap (is_function_of next) at ∙ got.0),
-          )
-
-  pub at-end : (position next left : ℕ) → Arrives position next left → AtEnd position next left
-  at-end position next left a = by_title a.sid.title refl
-    where
-      by_title : (o : Option ℕ) → a.sid.title ≡ o → AtEnd position next left
-      by_title None e = at-untitled position next left a e
-      by_title (Some title) e = at-titled position next left a title e
+      ride-arrives net keeps intent is_intent position n.place s next n.ride n.is_ride n.sid n.left n.left_is
 
   via-is : (position : ℕ) (via : Option ℕ) → is_start net intent position via ≡ true
       → (position ≤ length intent.steps) × IsVia (legs_value net intent) position via
@@ -201,17 +96,14 @@ module _ (net : Network) (keeps : Keeps net) (intent : Intent) (is_intent : IsIn
   few-lowered : (position : ℕ) (via : Option ℕ) (next : ℕ) → (n : NextRide net intent position via next) → n.ride.lowered ≤ 48
   few-lowered position via next n =
       let s = start-facts net keeps intent is_intent position via n.place n.start n.from in
-      let f = ride-facts net keeps (sid_address net next) (drop position intent.steps) n.place n.ride s.how s.rest n.is_ride in
-      let len = length-drop position intent.steps in
-      let few = (intent-stands net intent is_intent).1 in
-      omega (arith, f.within, f.lowered)
+      ride-few net keeps intent is_intent position n.place s (sid_address net next) n.ride n.is_ride
 
   law-leg : (position : ℕ) (via : Option ℕ) (next : ℕ) (leg : Leg) → leg_of net intent position via next ≡ Some leg
       → IsLegOf (legs_value net intent) position via next leg
   law-leg position via next leg h =
       let got = leg-ride net intent position via next leg h in
       let n = got.0 in
-      let at = at-end position next n.left (arrives position via next n) in
+      let at = at-end net keeps intent is_intent position next n.left (arrives position via next n) in
       let via_is = via-is position via n.start in
       let low = few-lowered position via next n in
       subst (IsLegOf (legs_value net intent) position via next) got.2
@@ -231,7 +123,7 @@ module _ (net : Network) (keeps : Keeps net) (intent : Intent) (is_intent : IsIn
   law-finish position via next lowered h =
       let got = finish-ride net intent position via next lowered h in
       let n = got.0 in
-      let at = at-end position next n.left (arrives position via next n) in
+      let at = at-end net keeps intent is_intent position next n.left (arrives position via next n) in
       let via_is = via-is position via n.start in
       let low = few-lowered position via next n in
       let last : length intent.steps ≡ at.0 = omega (arith, at.1, got.3) in

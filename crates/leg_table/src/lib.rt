@@ -4,7 +4,7 @@
 //! `StrictLegs` has for each position of an intent the SIDs that may be executed there, and the
 //! ways from its node along the steps that are left to all SIDs. Its legs, finishes and shapes are
 //! those that a search asks for (`Legs` of `list_pack`), and mean the lists that realize the intent
-//! (`ListLegs`).
+//! (`ListLegs`). Further kinds of legs ask it for the way from a place of theirs to a next SID.
 //!
 //! `specs/Tasks.antt` has the traces that keep to an intent's steps, `specs/Trace.antt` the traces
 //! of walks, `specs/Realizes.antt` when a list realizes an intent, `specs/Choices.antt` the ways
@@ -30,4 +30,5 @@ pub use laws::{
     sids_of_a_position_are_in_order, strict_legs_keep_the_laws_of_one_leg,
     what_is_handed_over_has_its_trace,
 };
-pub use strict_legs::StrictLegs;
+pub use step_links::{Behind, all_in_step, first_end};
+pub use strict_legs::{StrictLegs, is_last, lowered_at_the_end};

@@ -6,7 +6,7 @@ ghost use Rattle.net_model.specs.Keeps.{Keeps};
 ghost use Rattle.net_model.specs.Rules.{IsNetwork};
 ghost use Rattle.intent_reader.specs.Rules.{IsIntent};
 ghost use Rattle.leg_table.specs.Course.{finish_from_behind, way_behind};
-ghost use Rattle.leg_table.specs.Reach.{IsReach, IsStart, AreLater, way_at};
+ghost use Rattle.leg_table.specs.Reach.{IsReach, IsStart, AreLater, way_along, way_at};
 ghost use Rattle.leg_table.specs.Leg as legs;
 ghost use Rattle.leg_table.specs.Sids as sids;
 ghost use Rattle.list_pack.specs.SidLists.{block_at};
@@ -102,8 +102,8 @@ impl<'a> StrictLegs<'a> {
         self.rows[position as usize].as_slice()
     }
 
-    /// a SID is one of a position, whose SIDs all stand at one node
-    fn has_sid(&self, position: u32, n: u32) -> bool
+    /// Whether a SID may be executed at a position, all of whose SIDs stand at one node. (own rule)
+    pub fn has_sid(&self, position: u32, n: u32) -> bool
         requires { position ≤ length self.now.intent.steps }
         ensures { result ≡ sids.is_sid_at self.now.net self.now.intent position n }
     {
@@ -196,32 +196,50 @@ impl<'a> StrictLegs<'a> {
         }
     }
 
-    /// the way from the start to a next SID
-    fn way_found(&self, position: u32, via: Option<u32>, next: u32) -> Option<Behind>
-        requires { next < length self.now.net.sids }
-        ensures { result ≡ way_behind self.now.net self.now.intent position via next }
+    /// The way of a packet to a next SID and its execution, along the steps from a position on, from a
+    /// place at the node where the walk stands at that position: how many steps are left then, and how
+    /// often the hop limit was lowered. None where the packet doesn't come to the SID first, or leaves
+    /// the steps before. (own rule)
+    pub fn way_on(&self, position: u32, place: &Place, next: u32) -> Option<Behind>
+        requires next { next < length self.now.net.sids }
+        requires start { IsStart self.now.net self.now.intent position place.now }
+        ensures value { result
+            ≡ way_along self.now.net (drop position self.now.intent.steps) place.now next }
+        ensures few { IfSome result (λ b.
+            (b.left ≤ length self.now.intent.steps) × (b.lowered ≤ 48)) }
     {
-        let place = self.place(position, via)?;
+        self.keeps_rules();
+        self.way_found(position, place, next)
+    }
+
+    /// the same, without its bounds
+    fn way_found(&self, position: u32, place: &Place, next: u32) -> Option<Behind>
+        requires next { next < length self.now.net.sids }
+        requires start { IsStart self.now.net self.now.intent position place.now }
+        ensures { result
+            ≡ way_along self.now.net (drop position self.now.intent.steps) place.now next }
+    {
         match place.how {
             How::Submitted { table: 0 } => {
                 way_at(self.reach(position).submitted.as_slice(), next)
             }
+            How::Arrived { table: 0 } => way_at(self.reach(position).arrived.as_slice(), next),
             How::Arrived { .. } | How::Submitted { .. } | How::Through { .. } => {
                 let steps = self.rest(position);
-                way_from(self.net, steps, self.later(position), &place, next)
+                way_from(self.net, steps, self.later(position), place, next)
             }
         }
     }
 
-    /// the same, with its bounds
+    /// the way from the start to a next SID
     fn way_behind(&self, position: u32, via: Option<u32>, next: u32) -> Option<Behind>
         requires { next < length self.now.net.sids }
         ensures value { result ≡ way_behind self.now.net self.now.intent position via next }
         ensures few { IfSome result (λ b.
             (b.left ≤ length self.now.intent.steps) × (b.lowered ≤ 48)) }
     {
-        self.keeps_rules();
-        self.way_found(position, via, next)
+        let place = self.place(position, via)?;
+        self.way_on(position, &place, next)
     }
 }
 
@@ -296,8 +314,8 @@ impl<'a> ListLegs for StrictLegs<'a> {
     }
 }
 
-/// how often the hop limit was lowered, where no step is left
-fn lowered_at_the_end(behind: &Behind) -> Option<u32>
+/// How often the hop limit was lowered, where no step is left. (own rule)
+pub fn lowered_at_the_end(behind: &Behind) -> Option<u32>
     ensures { result ≡ finish_from_behind behind.now }
 {
     if behind.left == 0 {
@@ -344,8 +362,8 @@ fn is_middle(net: &Net, n: u32) -> bool
     n < net.sids() && takes_step(net.sid(n))
 }
 
-/// a SID exposes a packet of a family inside
-fn is_last(net: &Net, family: Family, n: u32) -> bool
+/// Whether a SID exposes a packet of a family inside. (own rule)
+pub fn is_last(net: &Net, family: Family, n: u32) -> bool
     ensures { result ≡ sids.is_last net.now family n }
 {
     n < net.sids() && hands_over(net.sid(n), family)

@@ -1,7 +1,0 @@
-use Rattle.leg_table.proofs.Starts.{few-behind}
-use Rattle.leg_table.proofs.strict_legs.StrictLegs.way_behind.Goals as goal
-
-pub returns-clause-few : goal.returns-clause-few
-returns-clause-few c =
-    few-behind c.args.self.now.net c.keeps_rules.ensures.facts c.args.self.now.intent c.keeps_rules.ensures.intent c.args.position
-    c.args.via c.args.next c.way_found.result c.way_found.ensures
