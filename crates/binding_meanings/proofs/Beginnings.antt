@@ -25,7 +25,7 @@ use Rattle.leg_table.specs.Realizes.{headend_place}
 use Rattle.leg_table.specs.Sids.{is_sid_at, node_at}
 use Rattle.leg_table.specs.Trace.{Event}
 use Rattle.leg_table.proofs.RideFacts.{StartFacts, sid-at, intent-stands, stand_after-split, stand_after-append}
-use Rattle.leg_table.proofs.StrictLaws.{drop-drop}
+use Rattle.leg_table.proofs.Arrivals.{drop-drop}
 use Rattle.own_hands.specs.OwnHands.{most_stages}
 use Rattle.deep_walks.specs.Moves.{End, Got, left_by, got_after, end_with}
 use Rattle.deep_walks.specs.Choices.{EndsWith}

@@ -30,7 +30,7 @@ use Rattle.leg_table.proofs.ListPlaces.{own-here, address-at}
 use Rattle.leg_table.proofs.Alike.{address-alike}
 use Rattle.leg_table.proofs.RideFacts.{ride-facts}
 use Rattle.leg_table.proofs.Segments.{into-prefix}
-use Rattle.leg_table.proofs.StrictLaws.{into-stands}
+use Rattle.leg_table.proofs.Arrivals.{into-stands}
 use Rattle.leg_table.specs.Leg.{leg_with}
 use Rattle.leg_table.specs.Nests.{PlaceKeeps}
 use Rattle.leg_table.specs.OneLeg.{LegKind, AlwaysHands, HandsOver, BecomesOf, Ended, Moved, prefix_in}
@@ -269,11 +269,13 @@ module _ (net : Network) (network : IsNetwork net) (flat : IsFlat net) (facts : 
       let stands = into-stands net keeps intent is_intent f.rides.ride.place p.destination f.rides.ride.sid facts'.into in
       let own = own-here net keeps facts t x hop p named.0 named.1 along nests named.2 (to ∙ ap (list_sid net) (sym named.3)) in
       let prefix : stands.0.prefix ≡ q
-      = sym (into-prefix net network flat f.rides.ride.place named.0 f.rides.ride.sid p.destination named.1 stands.0 named.2 stands.1 own facts'.into)
+      = sym (into-prefix net network flat f.rides.ride.place named.0 f.rides.ride.sid p.destination named.1 stands.0 named.2 stands.1 own
+      facts'.into)
       ∙ named.3 in
       let same : active x ≡ list_sid net stands.0.prefix = to ∙ ap (list_sid net) (sym prefix) in
       let address = address-at net keeps facts t x hop p f.rides.ride.sid stands.0 along nests stands.1 same in
-      let c = comes-by net keeps facts intent is_intent t s.start x hop p f.rides.ride.sid stands.0 f.rides.ride b.facts along stands.1 same f.rides.is_ride refl in
+      let c = comes-by net keeps facts intent is_intent t s.start x hop p f.rides.ride.sid stands.0 f.rides.ride b.facts along stands.1 same
+      f.rides.is_ride refl in
       let sid : c.sid ≡ stands.0 = same_Some _ _ (sym c.is_there ∙ stands.1) in
       becomes position via x q hop p one.end one.none s f c (ap (λ (s : SidEntry). s.prefix) sid ∙ prefix)
       (sym (address-alike net facts f.rides.ride.sid stands.0 stands.1 p.destination address ts s.start.place b.facts.family)

@@ -28,8 +28,7 @@ use Rattle.deep_walks.specs.Deep.{Deep, Bared, Look, Executes, Pushes, Met, Onwa
 use Rattle.deep_walks.specs.Rests.{rest_of, RestEnds}
 use Rattle.deep_choices.specs.Look.{at_how, look_bound, look_onward, look_at_sid, look_in, look_by, look_at, step_events}
 use Rattle.deep_choices.specs.Meets.{met_below, met_content}
-use Rattle.binding_meanings.specs.Sentences.{own_limit}
-use Rattle.binding_meanings.specs.Kind.{under_policy, onward_by, onward_at, onward_of}
+use Rattle.binding_meanings.specs.Kind.{under_policy, onward_by, onward_at, onward_of, own_limit}
 use Rattle.binding_meanings.proofs.Machine.{network_world, own_got, GoesOnAs, Alone, Below}
 
 -- what the machine does at a place from where a packet comes into a SID

@@ -9,7 +9,3 @@ pub mod Up
 pub mod Over
 pub mod Down
 pub mod Means
-pub mod Tests
-pub mod Sentences
-pub mod Finishes
-pub mod Witnesses

@@ -1,5 +1,5 @@
 -- The paths of legs through binding SIDs are the legal lists that realize the intent.
-use Rattle.std.proofs.Common.{◌≡◌, ℕ, ◌+◌, ◌<◌, true, List, [], length, Option, Some, None, sym, ap, ◌∙◌, zero-add}
+use Rattle.std.proofs.Common.{◌≡◌, ℕ, ◌+◌, ◌<◌, true, List, [], length, map, Option, Some, None, sym, ap, ◌∙◌, zero-add}
 use Rattle.srv6_rules.specs.declared.sid.SidEntry.{SidEntry}
 use Rattle.srv6_rules.specs.Packet.{Packet, Content}
 use Rattle.net_model.specs.Network.{Network}
@@ -11,10 +11,16 @@ use Rattle.intent_reader.specs.Rules.{IsIntent}
 use Rattle.intent_reader.specs.declared.intent.Intent.{Intent}
 use Rattle.list_places.specs.Places.{Tunnel}
 use Rattle.list_pack.specs.declared.types.Container.{Container}
+use Rattle.list_pack.specs.declared.types.Cost.{Cost}
+use Rattle.list_pack.specs.Costs.{Move, cost_of, start}
+use Rattle.list_pack.specs.Least.{step_of}
+use Rattle.list_pack.specs.PathLists.{list_of}
+use Rattle.list_pack.specs.SidLists.{list_values}
 use Rattle.list_pack.specs.Meaning.{AreSidsOf, Means}
 use Rattle.list_pack.specs.Value.{KeepsLaws}
 use Rattle.leg_table.specs.Meant.{HandsInner, IsRealizing, IsExecuting, IsHanding}
 use Rattle.leg_table.specs.OneLeg.{LegKind, LegLaws, KindLaws, HandsOver}
+use Rattle.leg_table.specs.Realizes.{IsInner}
 use Rattle.leg_table.specs.Table.{shape_by, node_by}
 use Rattle.leg_table.specs.Tasks.{matches}
 use Rattle.leg_table.specs.Trace.{Handed}
@@ -23,6 +29,8 @@ use Rattle.leg_table.proofs.FlatNets.{FlatFacts, flat-facts}
 use Rattle.leg_table.proofs.ListShapes.{suits-by, there}
 use Rattle.leg_table.proofs.Stays.{stays-follow}
 use Rattle.leg_table.proofs.Meanings as means
+use Rattle.own_hands.specs.Small.{IsSmall, KeepsTo}
+use Rattle.own_hands.proofs.PublicLaws.{small-keeps}
 use Rattle.own_hands.specs.Realizes.{OwnHandsOver, OwnListRealizes, OwnListExecutes}
 use Rattle.deep_walks.specs.Moves.{left_by}
 use Rattle.deep_walks.specs.Deep.{own_move}
@@ -182,3 +190,14 @@ module _ (net : Network) (intent : Intent) (network : IsNetwork net) (flat : IsF
             };
         handing = λ list hop legal hands. kind.handing list hop legal (to-handing list hop hands);
       }
+
+  -- what is small on such a path keeps to the intent
+  pub path-keeps : KeepsLaws (binding_legs_value net intent) → (moves : List Move) (c : Cost)
+      → cost_of (binding_legs_value net intent) start moves ≡ Some c → (inner : Content) → IsInner intent.inner inner → (hop : ℕ)
+      → c.hops < hop
+      → IsSmall net intent (list_values net (list_of net (map (step_of (binding_legs_value net intent)) moves))) inner hop
+      → (choices : List ℕ) → 0 < length choices
+      → KeepsTo net intent (list_values net (list_of net (map (step_of (binding_legs_value net intent)) moves))) inner hop choices
+  path-keeps laws moves c cost inner is hop more small choices some =
+      small-keeps net intent (list_values net (list_of net (map (step_of (binding_legs_value net intent)) moves))) inner c.hops hop choices
+      keeps ((binding-means laws).lists moves c cost).realizes is more small some

@@ -144,5 +144,6 @@ module _ (net : Network) (keeps : Keeps net) where
   ridden ts place p r how stands ride n pick taken g h =
       ride-each net keeps p.destination (Through p.destination)
       (λ ts place n into q is fuel pick taken g h. here ts place n q fuel pick taken g h)
-      (λ step ts place set lower to r sent on q is n pick taken g h. later p.destination step ts place set lower to r sent on q is n pick taken g h)
+      (λ step ts place set lower to r sent on q is n pick taken g h.
+      later p.destination step ts place set lower to r sent on q is n pick taken g h)
       ts place r how stands ride p refl n pick taken g h

@@ -83,7 +83,8 @@ module _ (net : Network) (keeps : Keeps net) (facts : FlatFacts net) (intent : I
       let us : List Step = behind.0 in
       let us_rest = behind-is net keeps intent is_intent st r.left us next c.ridden.count l.left c.ridden.left behind.1 behind.2
       c.ridden.within b.facts.within in
-      let w = led net keeps intent is_intent position via p st b next r c.ride c.is_sid low _ from.met look from.looks us behind.1.left pick taken in
+      let w = led net keeps intent is_intent position via p st b next r c.ride c.is_sid low _ from.met look from.looks us behind.1.left
+      pick taken in
       let less : hop - r.lowered - 1 ≡ hop - leg.hops = omega (arith, hops) in
       record {
         lowered = leg.hops;

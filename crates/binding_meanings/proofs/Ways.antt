@@ -23,7 +23,7 @@ use Rattle.leg_table.proofs.FlatNets.{FlatFacts}
 use Rattle.leg_table.proofs.Alike.{address-alike}
 use Rattle.leg_table.proofs.ListPlaces.{address-at}
 use Rattle.leg_table.proofs.RideFacts.{RideFacts, ride-facts, StartFacts}
-use Rattle.leg_table.proofs.StrictLaws.{into-stands}
+use Rattle.leg_table.proofs.Arrivals.{into-stands}
 use Rattle.leg_table.specs.Leg.{leg_with, left_behind, leg_behind, finish_behind, if_none_left}
 use Rattle.leg_table.specs.Nests.{PlaceKeeps}
 use Rattle.leg_table.specs.Ride.{Ride, ride_of, with_hop_limit}

@@ -1,9 +1,9 @@
 -- What is handed over of a packet on its way along a list whose SIDs may bind policies (RFC 8986 sections 4.13, 4.14 and 4.16.3).
-use Rattle.std.specs.Prelude.{ℕ, false, [], slice_get, Option, Some, None}
+use Rattle.std.specs.Prelude.{ℕ, false, List, [], ◌∷◌, slice_get, Option, Some, None}
 use Rattle.srv6_rules.specs.declared.sid.Family.TheVariants as families
 use Rattle.srv6_rules.specs.declared.sid.SidEntry.{SidEntry}
 use Rattle.srv6_rules.specs.Behaviours.{behaviour_policy, behaviour_reduces}
-use Rattle.srv6_rules.specs.Packet.{Packet, V6}
+use Rattle.srv6_rules.specs.Packet.{Packet, Content, V6, V4, Unreadable}
 use Rattle.srv6_rules.specs.Policies.{outer_by}
 use Rattle.net_model.specs.declared.parts.NamedPolicy.{NamedPolicy}
 use Rattle.net_model.specs.Network.{Network}
@@ -55,3 +55,10 @@ binding_kind net intent =
       barred = λ n. false;
       hand = binding_hand net intent;
     }
+
+-- the hop limit of the packet itself, below the header that may be in front of it
+abbrev pub own_limit : Content → List Packet → Option ℕ
+own_limit (V6 p) [] = Some p.hop_limit
+own_limit (V4 p) [] = None
+own_limit (Unreadable bytes reason) [] = None
+own_limit content (q ∷ below) = Some q.hop_limit

@@ -4,8 +4,8 @@ use Rattle.net_model.proofs.PublicLaws.{keeps_from_network}
 use Rattle.leg_table.specs.Leg.{shifts_by}
 use Rattle.leg_table.proofs.Alike.{address-alike}
 use Rattle.leg_table.proofs.FlatNets.{flat-facts}
-use Rattle.binding_meanings.proofs.Finishes.{finish-exactly}
-use Rattle.binding_meanings.proofs.laws.a_finish_through_binding_sids_is_for_all_choices.Goals as goal
+use Rattle.binding_sentences.proofs.Finishes.{finish-exactly}
+use Rattle.binding_sentences.proofs.laws.a_finish_through_binding_sids_is_for_all_choices.Goals as goal
 
 pub returns : goal.returns
 returns c net intent position via next address lowered network flat is_intent is =

@@ -1,9 +1,9 @@
 use Rattle.net_model.proofs.PublicLaws.{keeps_from_network}
 use Rattle.leg_table.proofs.Alike.{address-alike}
 use Rattle.leg_table.proofs.FlatNets.{flat-facts}
-use Rattle.binding_meanings.proofs.Sentences.{leg-exactly}
-use Rattle.binding_meanings.proofs.Witnesses.{some-further}
-use Rattle.binding_meanings.proofs.laws.a_leg_through_binding_sids_is_for_all_choices.Goals as goal
+use Rattle.binding_sentences.proofs.Sentences.{leg-exactly}
+use Rattle.binding_sentences.proofs.Witnesses.{some-further}
+use Rattle.binding_sentences.proofs.laws.a_leg_through_binding_sids_is_for_all_choices.Goals as goal
 
 pub returns : goal.returns
 returns c net intent position via next address leg network flat is_intent is =

@@ -27,7 +27,7 @@ use Rattle.deep_choices.specs.Rides.{ended_at}
 use Rattle.binding_starts.specs.declared.starts.Start.{Start}
 use Rattle.binding_starts.specs.Starts.{leads_on, sid_leads_on, start_behind, binding_start}
 use Rattle.binding_starts.specs.Value.{binding_legs_value}
-use Rattle.binding_meanings.specs.Sentences.{may_go_on}
+use Rattle.binding_sentences.specs.Sentences.{may_go_on}
 use Rattle.binding_meanings.proofs.Machine.{network_world}
 
 module _ (net : Network) (place : Place) (n : ℕ) (left : List Step) (e : End Step ℕ (Met Place Packet Content)) where

@@ -2,7 +2,7 @@
 use Rattle.std.specs.Prelude.{◌≡◌, ℕ, ◌-◌, ◌<◌, ◌≤◌, Bool, false, ◌==◌, ◌&&◌, nat_le, List, [], ◌∷◌, drop, length, slice_get, Option, Some, None, IsTrue, ◌↔◌}
 use Rattle.srv6_rules.specs.declared.sid.SidEntry.{SidEntry}
 use Rattle.srv6_rules.specs.Behaviours.{goes_on}
-use Rattle.srv6_rules.specs.Packet.{Packet, Content, V6, V4, Unreadable}
+use Rattle.srv6_rules.specs.Packet.{Packet}
 use Rattle.srv6_rules.specs.Endpoint.{at_sid}
 use Rattle.net_model.specs.Network.{Network}
 use Rattle.walk_rules.specs.declared.place.Place.{Place}
@@ -18,7 +18,7 @@ use Rattle.leg_table.specs.Trace.{Handed}
 use Rattle.deep_walks.specs.Deep.{Deep}
 use Rattle.deep_choices.specs.Meets.{MeetsFrom}
 use Rattle.binding_starts.specs.Starts.{leads_on}
-use Rattle.binding_meanings.specs.Kind.{onward_of, hand_on}
+use Rattle.binding_meanings.specs.Kind.{onward_of, own_limit, hand_on}
 
 -- a packet may go on at a position from the headend, with no step done, or from one of the position's SIDs that leads on
 abbrev pub may_go_on : Network → Intent → ℕ → Option ℕ → Bool
@@ -29,13 +29,6 @@ may_go_on net intent position (Some v) = nat_le position (length intent.steps) &
 abbrev pub takes_further : Option SidEntry → Packet → Bool
 takes_further None p = false
 takes_further (Some s) p = goes_on s && is_onward (at_sid s [] (with_hop_limit 2 p))
-
--- the hop limit of the packet itself, below the header that may be in front of it
-abbrev pub own_limit : Content → List Packet → Option ℕ
-own_limit (V6 p) [] = Some p.hop_limit
-own_limit (V4 p) [] = None
-own_limit (Unreadable bytes reason) [] = None
-own_limit content (q ∷ below) = Some q.hop_limit
 
 -- under a list of choices its first execution without a header in front is at SID n, along steps of which so many are left behind it,
 -- and it

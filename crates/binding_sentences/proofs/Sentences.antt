@@ -27,7 +27,7 @@ use Rattle.leg_table.specs.Tasks.{left_after}
 use Rattle.leg_table.specs.Trace.{Event, executed}
 use Rattle.leg_table.proofs.HopLimits.{steps-on}
 use Rattle.leg_table.proofs.RideFacts.{ride-facts}
-use Rattle.leg_table.proofs.StrictLaws.{into-stands}
+use Rattle.leg_table.proofs.Arrivals.{into-stands}
 use Rattle.deep_walks.specs.Moves.{Got, End, left_by, end_with}
 use Rattle.deep_walks.specs.Choices.{EndsWith, Reaches}
 use Rattle.deep_walks.specs.Deep.{Deep, Met, met_bottom, met_by, met_move, open_at}
@@ -39,13 +39,13 @@ use Rattle.deep_choices.proofs.Handing.{left-same}
 use Rattle.binding_starts.specs.declared.starts.Start.{Start}
 use Rattle.binding_starts.specs.Starts.{leads_on, binding_start}
 use Rattle.binding_starts.specs.Value.{binding_leg}
-use Rattle.binding_meanings.specs.Kind.{onward_of}
-use Rattle.binding_meanings.specs.Sentences.{may_go_on, takes_further, own_limit, ComesTo, AlwaysComes, IsBindingLeg}
+use Rattle.binding_meanings.specs.Kind.{onward_of, own_limit}
+use Rattle.binding_sentences.specs.Sentences.{may_go_on, takes_further, ComesTo, AlwaysComes, IsBindingLeg}
 use Rattle.binding_meanings.proofs.Machine.{network_world, GoesOnAs, met-machine, onward-goes}
 use Rattle.binding_meanings.proofs.Beginnings.{Begins, begins}
 use Rattle.binding_meanings.proofs.Executed.{goes-on-from, left-executed, executed-left}
 use Rattle.binding_meanings.proofs.Leading.{joined-at, ride-ends, ends-with, first-ride}
-use Rattle.binding_meanings.proofs.Tests.{looked, start-tests, tests-via, head-same}
+use Rattle.binding_sentences.proofs.Tests.{looked, start-tests, tests-via, head-same}
 use Rattle.binding_meanings.proofs.Starting.{starts-one}
 use Rattle.binding_meanings.proofs.Ways.{there, leg-parts, leg-from, leads-on-sid}
 

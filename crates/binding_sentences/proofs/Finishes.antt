@@ -34,13 +34,13 @@ use Rattle.binding_starts.specs.declared.starts.Start.{Start}
 use Rattle.binding_starts.specs.Starts.{binding_start}
 use Rattle.binding_starts.specs.Value.{binding_finish}
 use Rattle.binding_meanings.specs.Kind.{onward_of, hand_on}
-use Rattle.binding_meanings.specs.Sentences.{may_go_on, IsHandedAt, IsBindingFinish}
+use Rattle.binding_sentences.specs.Sentences.{may_go_on, IsHandedAt, IsBindingFinish}
 use Rattle.binding_meanings.proofs.Machine.{network_world, own_got, hand-on, hand-parts, hand-from, onward-goes}
 use Rattle.binding_meanings.proofs.Beginnings.{Begins, begins}
 use Rattle.binding_meanings.proofs.Executed.{left-executed, executed-left}
 use Rattle.binding_meanings.proofs.Leading.{joined-at, led, FirstRide, first-ride}
-use Rattle.binding_meanings.proofs.Sentences.{Same}
-use Rattle.binding_meanings.proofs.Tests.{looked, start-tests, tests-via, head-same}
+use Rattle.binding_sentences.proofs.Sentences.{Same}
+use Rattle.binding_sentences.proofs.Tests.{looked, start-tests, tests-via, head-same}
 use Rattle.binding_meanings.proofs.Starting.{starts-one}
 use Rattle.binding_meanings.proofs.Ways.{there, finish-parts, finish-from, last-sid}
 

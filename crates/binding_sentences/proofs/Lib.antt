@@ -1,0 +1,4 @@
+pub mod Tests
+pub mod Sentences
+pub mod Finishes
+pub mod Witnesses

@@ -1,0 +1,4 @@
+pub mod StartFacts
+pub mod Arrivals
+pub mod LegLaws
+pub mod Strict
