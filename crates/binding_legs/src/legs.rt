@@ -1,0 +1,208 @@
+//! The table of an intent's legs through binding SIDs.
+
+ghost use Rattle.std.specs.Prelude.{◌≡◌, ◌<◌, ◌≤◌, length, IfOk, IfSome};
+ghost use Rattle.net_model.specs.Keeps.{Keeps};
+ghost use Rattle.net_model.specs.Rules.{IsNetwork};
+ghost use Rattle.flat_networks.specs.Flat.{IsFlat};
+ghost use Rattle.intent_reader.specs.Rules.{IsIntent};
+ghost use Rattle.binding_starts.specs.Starts.{binding_start, leads_on};
+ghost use Rattle.start_laws.specs.Facts.{StartsFrom};
+ghost use Rattle.binding_legs.specs.Table.{binding_way};
+
+use crate::rows::{Row, starts_of};
+use base::NoMemory;
+use binding_starts::Start;
+use intent_reader::Intent;
+use leg_table::{Behind, StrictLegs, is_last, lowered_at_the_end};
+use list_pack::{Leg, Legs, ListLegs, Shape};
+use net_model::Net;
+use srv6_rules::Family;
+use std::alloc::Global;
+use std::marker::Model;
+use walk_rules::{How, Place};
+
+/// The legs of an intent through binding SIDs in a network: those of strict steps, and a start for
+/// each position and SID, so that each question is a look-up or two. (own rule)
+#[derive(Debug, Drop)]
+pub struct BindingLegs<'a> {
+    net: &'a Net,
+    intent: &'a Intent,
+    strict: StrictLegs<'a>,
+    // by the positions
+    starts: Vec<Row>,
+}
+
+impl<'a> Model for BindingLegs<'a> {
+    ghost use Rattle.leg_table.specs.Table.{LegTable};
+    ghost use Rattle.binding_legs.specs.Table.{IsBindingTable};
+
+    ghost Value = { LegTable };
+
+    ghost view = { λ b. record { net = b.net.now; intent = b.intent.now } };
+
+    ghost invariant = { λ b. IsBindingTable b.net.now b.intent.now b.strict b.starts.items };
+}
+
+impl<'a> BindingLegs<'a> {
+    /// The legs of an intent that keeps the rules in a flat network. The header of each binding SID of
+    /// each position is run once, for at most 1,000 stages. (own rule)
+    pub fn build(
+        alloc: Global,
+        net: &'a Net,
+        intent: &'a Intent,
+    ) -> Result<BindingLegs<'a>, NoMemory>
+        requires intent { IsIntent net.now intent.now }
+        requires flat { IsFlat net.now }
+        ensures { IfOk result (λ t. t ≡ record { net = net.now; intent = intent.now }) }
+    {
+        let strict = StrictLegs::build(alloc, net, intent)?;
+        let starts = starts_of(alloc, net, intent, &strict)?;
+        Ok(BindingLegs {
+            net,
+            intent,
+            strict,
+            starts,
+        })
+    }
+
+    /// the legs of strict steps
+    fn strict(&self) -> &StrictLegs<'a>
+        ensures { result.now ≡ self.now }
+    {
+        &self.strict
+    }
+
+    /// That the network and the intent keep their rules, and that the network is flat: a call for
+    /// the callers' proofs alone. (own rule)
+    pub fn keeps_rules(&self)
+        ensures network { IsNetwork self.now.net }
+        ensures facts { Keeps self.now.net }
+        ensures flat { IsFlat self.now.net }
+        ensures intent { IsIntent self.now.net self.now.intent }
+    {
+        self.strict().keeps_rules();
+    }
+
+    /// from where a packet goes on behind a SID of a position
+    fn start_behind(&self, position: u32, sid: u32) -> Option<Start>
+        ensures { result ≡ binding_start self.now.net self.now.intent position (Some sid) }
+    {
+        let row = self.starts.get(position as usize)?;
+        match row.as_slice().get(sid as usize) {
+            Some(start) => *start,
+            None => None,
+        }
+    }
+
+    /// from where a packet goes on to the next SID
+    fn start_from(&self, position: u32, via: Option<u32>) -> Option<Start>
+        ensures { result ≡ binding_start self.now.net self.now.intent position via }
+    {
+        match via {
+            None if position == 0 => Some(Start {
+                place: Place {
+                    node: self.intent.headend,
+                    how: How::Submitted { table: 0 },
+                    family: Family::V6,
+                },
+                done: 0,
+            }),
+            None => None,
+            Some(sid) => self.start_behind(position, sid),
+        }
+    }
+
+    /// the same, with what is known of the start
+    fn start(&self, position: u32, via: Option<u32>) -> Option<Start>
+        ensures value { result ≡ binding_start self.now.net self.now.intent position via }
+        ensures starts { IfSome result (StartsFrom self.now.net self.now.intent position) }
+    {
+        self.keeps_rules();
+        self.start_from(position, via)
+    }
+
+    /// the way from the start to a next SID
+    fn way(&self, position: u32, via: Option<u32>, next: u32) -> Option<Behind>
+        requires { next < length self.now.net.sids }
+        ensures value { result ≡ binding_way self.now.net self.now.intent position via next }
+        ensures few { IfSome result (λ b.
+            (b.left ≤ length self.now.intent.steps) × (b.lowered ≤ 48)) }
+    {
+        let start = self.start(position, via)?;
+        self.strict().way_on(start.done, &start.place, next)
+    }
+}
+
+impl<'a> Legs for BindingLegs<'a> {
+    ghost use Rattle.binding_starts.specs.Value.{binding_legs_value};
+
+    ghost seen = { λ t. binding_legs_value t.net t.intent };
+
+    fn steps(&self) -> u32 {
+        self.keeps_rules();
+        self.strict().steps()
+    }
+
+    fn sids_at(&self, position: u32) -> &[u32] {
+        self.strict().sids_at(position)
+    }
+
+    fn shape(&self, sid: u32) -> Shape {
+        let shape = self.strict().shape(sid);
+        Shape {
+            middle: leads_on(self.net, sid),
+            ..shape
+        }
+    }
+
+    fn leg(&self, position: u32, via: Option<u32>, next: u32) -> Option<Leg> {
+        if !leads_on(self.net, next) {
+            return None;
+        }
+        match self.way(position, via, next) {
+            Some(behind) => Some(Leg {
+                to: self.steps() - behind.left,
+                hops: behind.lowered + 1,
+            }),
+            None => None,
+        }
+    }
+
+    fn finish(&self, position: u32, via: Option<u32>, next: u32) -> Option<u32> {
+        if !is_last(self.net, self.intent.inner, next) {
+            return None;
+        }
+        match self.way(position, via, next) {
+            Some(behind) => lowered_at_the_end(&behind),
+            None => None,
+        }
+    }
+
+    fn stays(&self, sid: u32, next: u32) -> bool {
+        self.strict().stays(sid, next)
+    }
+}
+
+impl<'a> ListLegs for BindingLegs<'a> {
+    ghost use Rattle.own_hands.specs.Realizes.{OwnListRealizes, OwnListExecutes};
+    ghost use Rattle.binding_meanings.specs.Hands.{OwnListHands};
+
+    ghost network = { λ t. t.net };
+
+    ghost realizes = { λ t. OwnListRealizes t.net t.intent };
+
+    ghost executes = { λ t. OwnListExecutes t.net t.intent };
+
+    ghost hands = { λ t. OwnListHands t.net t.intent };
+
+    fn keeps_meaning(&self) {
+        self.keeps_rules();
+    }
+}
+
+/// from a SID a packet goes on to a next segment, with or without a further header in front
+fn leads_on(net: &Net, sid: u32) -> bool
+    ensures { result ≡ leads_on net.now sid }
+{
+    sid < net.sids() && net.sid(sid).goes_on()
+}

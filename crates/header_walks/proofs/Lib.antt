@@ -1,0 +1,4 @@
+pub mod Heads
+pub mod Stages
+pub mod Places
+pub mod Runs

@@ -1,0 +1,187 @@
+-- Walks of pushed headers stage by stage, and the steps that are done.
+use Rattle.std.proofs.Common.{◌≡◌, ℕ, suc, ◌+◌, ◌-◌, ◌<◌, ◌≤◌, Bool, true, false, if◌then◌else◌, List, [], ◌∷◌, length, drop, slice_get, get_or, Option, Some, None, inl, inr, ◌⊎◌, refl, sym, ap, subst, ◌∙◌, arith, add-one}
+use Rattle.std.specs.Prelude.{Result, Ok, Err, IfOk, IfSome}
+use Rattle.std.specs.Option.{option_map, option_and_then}
+use Rattle.std.proofs.lemmas.List.{length-drop, drop_all}
+use Rattle.std.proofs.lemmas.Option.{slice_get_within, slice_get_cases, get_or_from_slice_get}
+use Rattle.std.proofs.Math.Seq.{drop-cons}
+use Rattle.srv6_rules.specs.declared.sid.Behaviour.{Behaviour}
+use Rattle.srv6_rules.specs.declared.sid.Family.TheVariants as families
+use Rattle.srv6_rules.specs.declared.sid.SidEntry.{SidEntry}
+use Rattle.srv6_rules.specs.Behaviours.{behaviour_policy, behaviour_reduces, goes_on}
+use Rattle.srv6_rules.specs.Packet.{Packet}
+use Rattle.srv6_rules.specs.Policies.{outer_by}
+use Rattle.net_model.specs.declared.parts.NamedPolicy.{NamedPolicy}
+use Rattle.net_model.specs.Network.{Network}
+use Rattle.walk_rules.specs.declared.place.Place.{Place}
+use Rattle.intent_reader.specs.declared.intent.Intent.{Intent}
+use Rattle.intent_reader.specs.declared.intent.Step.{Step}
+use Rattle.leg_table.specs.Leg.{place_behind}
+use Rattle.leg_table.specs.Tasks.{meets}
+use Rattle.leg_table.specs.Trace.{Executed, executed, is_titled}
+use Rattle.deep_walks.specs.Moves.{End, left_by, end_by, end_of}
+use Rattle.deep_walks.specs.Deep.{Inside, inside_at, inside_move, tunnel_of}
+use Rattle.deep_choices.specs.Look.{step_events}
+use Rattle.binding_starts.specs.declared.starts.Start.{Start}
+use Rattle.binding_starts.specs.Starts.{start_after, start_behind, start_onward, start_pushed}
+use Rattle.walk_rules.specs.Relation.{IsPlace}
+use Rattle.header_walks.specs.declared.stage.Headers.{Headers}
+use Rattle.header_walks.specs.declared.stage.Stage.{Stage}
+use Rattle.header_walks.specs.declared.stage.Stage.TheVariants as stages
+use Rattle.header_walks.specs.Walks.{StandsThere, Walking, end_at, end_stage, inside_end, inside_of, world_of}
+
+-- ---- steps
+
+pub steps-first : (steps : List Step) (i : ℕ) (t : Step) → slice_get steps i ≡ Some t → drop i steps ≡ t ∷ drop (i + 1) steps
+steps-first steps i t there =
+    let within = slice_get_within steps i t there in
+    drop-cons steps i t within ∙ ap (λ (x : Step). x ∷ drop (suc i) steps) (get_or_from_slice_get steps i t t there)
+    ∙ ap (λ (n : ℕ). t ∷ drop n steps) (sym (add-one i))
+
+module _ (net : Network) (n : ℕ) where
+  pub left-untitled : is_titled net n ≡ false → (ts : List Step) → left_by step_events ts (executed net n) ≡ Some ts
+  left-untitled e ts = ap (λ (b : Bool). left_by step_events ts (if b then Executed n ∷ [] else [])) e
+
+  left-titled : is_titled net n ≡ true → (ts : List Step)
+      → left_by step_events ts (executed net n) ≡ left_by step_events ts (Executed n ∷ [])
+  left-titled e ts = ap (λ (b : Bool). left_by step_events ts (if b then Executed n ∷ [] else [])) e
+
+  -- the next step is the function, or another, or there is none
+  pub left-done : (steps : List Step) (i : ℕ) (t : Step) → is_titled net n ≡ true → slice_get steps i ≡ Some t
+      → meets t (Executed n) ≡ true → left_by step_events (drop i steps) (executed net n) ≡ Some (drop (i + 1) steps)
+  left-done steps i t title there meet =
+      left-titled title (drop i steps) ∙ ap (λ ts. left_by step_events ts (Executed n ∷ [])) (steps-first steps i t there)
+      ∙ ap (λ (b : Bool). option_and_then (λ us. left_by step_events us []) (if b then Some (drop (i + 1) steps) else None)) meet
+
+  pub left-other : (steps : List Step) (i : ℕ) (t : Step) → is_titled net n ≡ true → slice_get steps i ≡ Some t
+      → meets t (Executed n) ≡ false → left_by step_events (drop i steps) (executed net n) ≡ None
+  left-other steps i t title there meet =
+      left-titled title (drop i steps) ∙ ap (λ ts. left_by step_events ts (Executed n ∷ [])) (steps-first steps i t there)
+      ∙ ap (λ (b : Bool). option_and_then (λ us. left_by step_events us []) (if b then Some (drop (i + 1) steps) else None)) meet
+
+  pub left-past : (steps : List Step) (i : ℕ) → is_titled net n ≡ true → length steps ≤ i
+      → left_by step_events (drop i steps) (executed net n) ≡ None
+  left-past steps i title past =
+      left-titled title (drop i steps) ∙ ap (λ ts. left_by step_events ts (Executed n ∷ [])) (drop_all i steps past)
+
+-- ---- whole walks
+
+module _ (net : Network) where
+  pub end-suc : (k : ℕ) (ts : List Step) (i : Inside Place Packet)
+      → inside_end net (suc k) ts i ≡ end_by step_events (inside_end net k) (inside_move (world_of net) i) ts
+  unfolding end_of
+  end-suc k ts i = refl
+
+  pub end-zero : (ts : List Step) (i : Inside Place Packet) → inside_end net 0 ts i ≡ None
+  unfolding end_of
+  end-zero ts i = refl
+
+-- the start that a walk came to, by its end
+pub start-end : (steps : List Step) (start : Option Start) (e : Option (End Step ℕ Place))
+    → ((s : Start) → start ≡ Some s → s.done ≤ length steps)
+    → option_map (end_at steps) start ≡ e → start ≡ option_map (start_after (length steps)) e
+start-end steps None e few is = ap (option_map (start_after (length steps))) is
+start-end steps (Some s) e few is =
+    let len = length-drop s.done steps in
+    let within = few s refl in
+    let same : length steps - length (drop s.done steps) ≡ s.done = omega (arith, len, within) in
+    ap (λ (n : ℕ). Some (record { place = s.place; done = n })) (sym same) ∙ ap (option_map (start_after (length steps))) is
+
+-- headers that stand there after so many stages behind the push, and walk on to the same end
+pub record IsWalking (net : Network) (steps : List Step) (done : ℕ) (headers : Headers) (used first : ℕ) (from : Headers) : Type 0 where
+  pub place : IsPlace net headers.place
+  pub within : done ≤ length steps
+  pub ends : inside_end net (999 - used) (drop done steps) (inside_of headers) ≡ inside_end net 999 (drop first steps) (inside_of from)
+
+module _ (net : Network) (steps : List Step) (done : ℕ) (headers : Headers) (used first : ℕ) (from : Headers)
+    (w : IsWalking net steps done headers used first from) where
+  pub walking-out : 999 ≤ used → None ≡ inside_end net 999 (drop first steps) (inside_of from)
+  walking-out all =
+      let e : 999 - used ≡ 0 = omega (arith, all) in
+      sym (end-zero net (drop done steps) (inside_of headers))
+      ∙ ap (λ (k : ℕ). inside_end net k (drop done steps) (inside_of headers)) (sym e) ∙ w.ends
+
+  module _ (more : used < 999) (stage : Stage)
+      (comes : (go : Walking) → end_by step_events go (inside_move (world_of net) (inside_of headers)) (drop done steps)
+      ≡ end_stage go steps stage) where
+    pub stage-ends : end_stage (inside_end net (999 - (used + 1))) steps stage ≡ inside_end net 999 (drop first steps) (inside_of from)
+    stage-ends =
+        let e : 999 - used ≡ suc (999 - (used + 1)) = omega (arith, more) in
+        sym (comes (inside_end net (999 - (used + 1)))) ∙ sym (end-suc net (999 - (used + 1)) (drop done steps) (inside_of headers))
+        ∙ ap (λ (n : ℕ). inside_end net n (drop done steps) (inside_of headers)) (sym e) ∙ w.ends
+
+    -- the last header is taken off, or the one on top is lost
+    pub walked-off : (place : Place) (d : ℕ) → stage ≡ stages.Off place d
+        → Some (end_at steps (record { place = place; done = d })) ≡ inside_end net 999 (drop first steps) (inside_of from)
+    walked-off place d is = sym (ap (end_stage (inside_end net (999 - (used + 1))) steps) is) ∙ stage-ends
+
+    pub walked-lost : stage ≡ stages.Lost → None ≡ inside_end net 999 (drop first steps) (inside_of from)
+    walked-lost is = sym (ap (end_stage (inside_end net (999 - (used + 1))) steps) is) ∙ stage-ends
+
+    -- headers go on
+    pub walked-on : (next : Headers) (d count : ℕ) → stage ≡ stages.On next d → StandsThere net steps stage → count ≡ used + 1
+        → IsWalking net steps d next count first from
+    walked-on next d count is there more_is =
+        let stands : StandsThere net steps (stages.On next d) = subst (StandsThere net steps) is there in
+        let ends : inside_end net (999 - (used + 1)) (drop d steps) (inside_of next) ≡ inside_end net 999 (drop first steps) (inside_of from) =
+        sym (ap (end_stage (inside_end net (999 - (used + 1))) steps) is) ∙ stage-ends in
+        record {
+          place = stands.0;
+          within = stands.1;
+          ends = ap (λ (n : ℕ). inside_end net (999 - n) (drop d steps) (inside_of next)) more_is ∙ ends;
+        }
+
+-- ---- starts
+
+-- a policy that a behaviour binds is there
+pub bound-there : (net : Network) (b : Behaviour) (number : ℕ) → IfSome (behaviour_policy b) (λ (n : ℕ). n < length net.policies)
+    → behaviour_policy b ≡ Some number → number < length net.policies
+bound-there net b number there binds =
+    let P : Option ℕ → Type 0 = λ o. IfSome o (λ (n : ℕ). n < length net.policies) in
+    subst P binds there
+
+pub named-there : (net : Network) (number : ℕ) → number < length net.policies
+    → (named : NamedPolicy) × (slice_get net.policies number ≡ Some named)
+named-there net number within = by_cases (slice_get_cases net.policies number).1
+  where
+    by_cases : ((x : _) × (number < length net.policies) × (slice_get net.policies number ≡ Some x) × (get_or net.policies number x ≡ x))
+        ⊎ ((length net.policies ≤ number) × (slice_get net.policies number ≡ None))
+        → (named : _) × (slice_get net.policies number ≡ Some named)
+    by_cases (inl found) = (found.0, found.2)
+    by_cases (inr none) = let few = none.0 in absurd (omega arith)
+
+module _ (net : Network) (intent : Intent) (position v : ℕ) (s : SidEntry) (there : slice_get net.sids v ≡ Some s) where
+  start-of : Option Start
+  start-of = start_behind net intent position v (slice_get net.sids v)
+
+  started : start_behind net intent position v (slice_get net.sids v) ≡ start_behind net intent position v (Some s)
+  started = ap (start_behind net intent position v) there
+
+  -- behind the walk of the header that the SID pushes
+  module _ (goes : goes_on s ≡ true) (number : ℕ) (named : NamedPolicy) (binds : behaviour_policy s.behaviour ≡ Some number)
+      (found : slice_get net.policies number ≡ Some named) (place : Place) (top : Packet) (behind : place ≡ place_behind v s)
+      (is : top ≡ outer_by named.policy (behaviour_reduces s.behaviour) families.V6 []) (above : List Packet) (none : above ≡ [])
+      (steps : List Step) (same : steps ≡ intent.steps) where
+    tunnel-end : option_map (start_after (length steps)) (inside_end net 999 (drop position steps) (inside_at top [] place))
+        ≡ start_behind net intent position v (slice_get net.sids v)
+    unfolding tunnel_of
+    tunnel-end =
+        ap (λ (ts : List Step). option_map (start_after (length ts)) (inside_end net 999 (drop position ts) (inside_at top [] place))) same
+        ∙ ap (λ (p : Place). option_map (start_after (length intent.steps)) (inside_end net 999 (drop position intent.steps) (inside_at top [] p))) behind
+        ∙ ap (λ (h : Packet). option_map (start_after (length intent.steps))
+        (inside_end net 999 (drop position intent.steps) (inside_at h [] (place_behind v s)))) is
+        ∙ ap (start_pushed net intent position v s) (sym found)
+        ∙ ap (start_onward net intent position v s) (sym binds)
+        ∙ ap (λ (b : Bool). if b then start_onward net intent position v s (behaviour_policy s.behaviour) else None) (sym goes)
+        ∙ sym started
+
+    pub start-walked : {E : Type 0} (answer : Result (Option Start) E)
+        → IfOk answer (λ start. option_map (end_at steps) start ≡ inside_end net 999 (drop position steps) (inside_at top above place))
+        → IfOk answer (λ start. IfSome start (λ (s : Start). s.done ≤ length steps))
+        → IfOk answer (λ start. start ≡ start_behind net intent position v (slice_get net.sids v))
+    start-walked (Ok start) value within =
+        start-end steps start _ few (value ∙ ap (λ l. inside_end net 999 (drop position steps) (inside_at top l place)) none) ∙ tunnel-end
+      where
+        few : (f : Start) → start ≡ Some f → f.done ≤ length steps
+        few f is = let P : Option Start → Type 0 = λ o. IfSome o (λ (x : Start). x.done ≤ length steps) in subst P is within
+    start-walked (Err e) value within = tt

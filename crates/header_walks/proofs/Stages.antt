@@ -1,0 +1,227 @@
+-- What the machine does in a stage of a pushed header's walk, by what the code finds.
+use Rattle.std.proofs.Common.{◌≡◌, ℕ, ◌<◌, Bool, true, false, ◌&&◌, nat_le, if◌then◌else◌, List, [], ◌∷◌, ◌++◌, length, drop, reverse, slice_get, Option, Some, None, refl, sym, ap, ◌∙◌, arith}
+use Rattle.std.specs.Option.{option_map, option_and_then}
+use Rattle.srv6_rules.specs.declared.sid.Behaviour.{Behaviour}
+use Rattle.srv6_rules.specs.declared.sid.Family.{Family}
+use Rattle.srv6_rules.specs.declared.sid.SidEntry.{SidEntry}
+use Rattle.srv6_rules.specs.Behaviours.{behaviour_policy, behaviour_reduces}
+use Rattle.srv6_rules.specs.Policies.{outer_by}
+use Rattle.srv6_rules.specs.declared.sid.Family.TheVariants as families
+use Rattle.std.proofs.lemmas.List.{reverse-append}
+use Rattle.srv6_rules.specs.Packet.{Packet}
+use Rattle.srv6_rules.specs.Endpoint.{Endpoint, Onward, Exposed, Delivered, Refused, at_sid}
+use Rattle.net_model.specs.declared.parts.NamedPolicy.{NamedPolicy}
+use Rattle.net_model.specs.Network.{Network}
+use Rattle.walk_rules.specs.declared.place.Place.{Place}
+use Rattle.walk_rules.specs.Treatment.{allow_of, lowered, onward_from, exposed_from}
+use Rattle.walk_rules.specs.Walk.{arrival}
+use Rattle.walk_rules.specs.Way.{Over, Into}
+use Rattle.intent_reader.specs.Rules.{end_of_link, first_end}
+use Rattle.intent_reader.specs.declared.intent.Step.{Step}
+use Rattle.intent_reader.specs.declared.intent.Step.TheVariants.{Links, Function}
+use Rattle.leg_table.specs.Ride.{all_in_step}
+use Rattle.leg_table.specs.Trace.{executed}
+use Rattle.leg_table.proofs.Links.{far_end-is}
+use Rattle.deep_walks.specs.Moves.{Go, Done, End, all_in, left_by, end_after, end_with, end_over, end_by}
+use Rattle.deep_walks.specs.Deep.{Inside, Look, inside_at, inside_by, inside_off, arrives}
+use Rattle.deep_choices.specs.Look.{at_how, leads, look_links, look_bound, look_onward, look_at_sid, look_in, step_events}
+use Rattle.header_walks.specs.declared.stage.Headers.{Headers}
+use Rattle.header_walks.specs.declared.stage.Stage.{Stage}
+use Rattle.header_walks.specs.declared.stage.Stage.TheVariants as stages
+use Rattle.header_walks.specs.Walks.{IsLost, IsTakenOff, Walking, end_stage, inside_of, place_over, way_move, world_of}
+
+-- no SID is noted
+end-none : (o : Option (End Step ℕ Place)) → option_map (end_after []) o ≡ o
+end-none None = refl
+end-none (Some e) = refl
+
+all-same : (t : Step) (first : ℕ) (rest : List ℕ) → all_in step_events t (first ∷ rest) ≡ all_in_step t (first ∷ rest)
+all-same (Links set) first rest = refl
+all-same (Function sid) first rest = refl
+
+module _ (net : Network) (go : Walking) where
+  -- ---- over links
+
+  links-end : (place : Place) (above : List Packet) (q : Packet) (first : ℕ) (rest : List ℕ) (ts : List Step)
+      → end_over step_events go first rest (arrives (leads net place) (inside_at q above)) ts
+      ≡ option_and_then (λ p. go (drop 1 ts) (inside_at q above p)) (place_over net place (first ∷ rest) ts)
+  links-end place above q first rest [] = refl
+  links-end place above q first rest (t ∷ ts) =
+      ap (λ (b : Bool). if b then option_and_then (go ts) (arrives (leads net place) (inside_at q above) first) else None) (all-same t first rest)
+      ∙ by_test (all_in_step t (first ∷ rest))
+    where
+      by_end : (o : Option ℕ)
+          → option_and_then (go ts) (option_map (inside_at q above) (arrival o place))
+          ≡ option_and_then (λ p. go ts (inside_at q above p)) (arrival o place)
+      by_end None = refl
+      by_end (Some to) = refl
+
+      by_test : (b : Bool)
+          → (if b then option_and_then (go ts) (arrives (leads net place) (inside_at q above) first) else None)
+          ≡ option_and_then (λ p. go ts (inside_at q above p)) (if b then arrival (first_end net (first ∷ rest)) place else None)
+      by_test false = refl
+      by_test true =
+          ap (λ o. option_and_then (go ts) (option_map (inside_at q above) (arrival o place))) (far_end-is (slice_get net.links first))
+          ∙ by_end (end_of_link (slice_get net.links first))
+
+  over-end : (h : Headers) (set : List ℕ) (lower : Bool) (ts : List Step) → 0 < length set
+      → end_by step_events go (way_move net h (Over set lower)) ts
+      ≡ (if lower && nat_le h.top.hop_limit 1 then None
+      else option_and_then (λ p. go (drop 1 ts) (inside_at (lowered lower h.top) (reverse h.below.items) p)) (place_over net h.place set ts))
+  over-end h [] lower ts some = absurd (omega arith)
+  over-end h (first ∷ rest) lower ts some = by_low (lower && nat_le h.top.hop_limit 1)
+    where
+      by_low : (b : Bool)
+          → end_by step_events go (inside_by (world_of net) (reverse h.below.items)
+          (if b then Rattle.deep_walks.specs.Deep.Loses else look_links net h.place (first ∷ rest) (lowered lower h.top))) ts
+          ≡ (if b then None
+          else option_and_then (λ p. go (drop 1 ts) (inside_at (lowered lower h.top) (reverse h.below.items) p))
+          (place_over net h.place (first ∷ rest) ts))
+      by_low true = refl
+      by_low false = links-end h.place (reverse h.below.items) (lowered lower h.top) first rest ts
+
+  pub over-low : (h : Headers) (set : List ℕ) (lower : Bool) (ts : List Step) → 0 < length set
+      → (lower && nat_le h.top.hop_limit 1) ≡ true → end_by step_events go (way_move net h (Over set lower)) ts ≡ None
+  over-low h set lower ts some low =
+      over-end h set lower ts some
+      ∙ ap (λ (b : Bool). if b then None
+      else option_and_then (λ p. go (drop 1 ts) (inside_at (lowered lower h.top) (reverse h.below.items) p)) (place_over net h.place set ts)) low
+
+  pub over-none : (h : Headers) (set : List ℕ) (lower : Bool) (ts : List Step) → 0 < length set → place_over net h.place set ts ≡ None
+      → end_by step_events go (way_move net h (Over set lower)) ts ≡ None
+  over-none h set lower ts some none = over-end h set lower ts some ∙ by_low (lower && nat_le h.top.hop_limit 1)
+    where
+      on : Place → Option (End Step ℕ Place)
+      on p = go (drop 1 ts) (inside_at (lowered lower h.top) (reverse h.below.items) p)
+
+      by_low : (b : Bool) → (if b then None else option_and_then on (place_over net h.place set ts)) ≡ None
+      by_low true = refl
+      by_low false = ap (option_and_then on) none
+
+  pub over-some : (h : Headers) (set : List ℕ) (lower : Bool) (ts : List Step) (place : Place) → 0 < length set
+      → (lower && nat_le h.top.hop_limit 1) ≡ false → place_over net h.place set ts ≡ Some place
+      → end_by step_events go (way_move net h (Over set lower)) ts
+      ≡ go (drop 1 ts) (inside_at (lowered lower h.top) (reverse h.below.items) place)
+  over-some h set lower ts place some high found =
+      over-end h set lower ts some
+      ∙ ap (λ (b : Bool). if b then None
+      else option_and_then (λ p. go (drop 1 ts) (inside_at (lowered lower h.top) (reverse h.below.items) p)) (place_over net h.place set ts)) high
+      ∙ ap (option_and_then (λ p. go (drop 1 ts) (inside_at (lowered lower h.top) (reverse h.below.items) p))) found
+
+  -- ---- into a SID
+
+  -- the machine goes on with the events of the SID's execution
+  pub go-end : (sid : ℕ) (i : Inside Place Packet) (ts us : List Step) → left_by step_events ts (executed net sid) ≡ Some us
+      → end_by step_events go (Go (executed net sid) [] i) ts ≡ go us i
+  go-end sid i ts us left =
+      end-none (option_and_then (λ vs. go vs i) (left_by step_events ts (executed net sid))) ∙ ap (option_and_then (λ vs. go vs i)) left
+
+  pub done-end : (sid : ℕ) (place : Place) (ts us : List Step) → left_by step_events ts (executed net sid) ≡ Some us
+      → end_by step_events go (Done (executed net sid) [] place) ts ≡ Some (end_with [] place us)
+  done-end sid place ts us left = ap (option_map (end_with [] place)) left
+
+  -- where the SID's function is not the step
+  missed-by : (sid : ℕ) (ts : List Step) → left_by step_events ts (executed net sid) ≡ None → (i : Inside Place Packet)
+      → end_by step_events go (Go (executed net sid) [] i) ts ≡ None
+  missed-by sid ts left i = ap (λ o. option_map (end_after []) (option_and_then (λ us. go us i) o)) left
+
+  module _ (place : Place) (above : List Packet) (n : ℕ) (b : Behaviour) (ts : List Step)
+      (left : left_by step_events ts (executed net n) ≡ None) where
+    missed-bound : (q : Packet) (o : Option NamedPolicy)
+        → end_by step_events go (inside_by (world_of net) above (look_bound net place n b q o)) ts ≡ None
+    missed-bound q None = refl
+    missed-bound q (Some named) = missed-by n ts left _
+
+    missed-onward : (q : Packet) (o : Option ℕ)
+        → end_by step_events go (inside_by (world_of net) above (look_onward net place n b q o)) ts ≡ None
+    missed-onward q None = missed-by n ts left _
+    missed-onward q (Some number) = missed-bound q (slice_get net.policies number)
+
+    missed-off : (there : Place) (more : List Packet)
+        → end_by step_events go (inside_off ℕ (executed net n) there more) ts ≡ None
+    missed-off there [] = ap (option_map (end_with [] there)) left
+    missed-off there (a ∷ more) = missed-by n ts left _
+
+    missed-at : (e : Endpoint) → end_by step_events go (inside_by (world_of net) above (look_at_sid net place n b e)) ts ≡ None
+    missed-at (Onward q) = missed-onward q (behaviour_policy b)
+    missed-at (Exposed family bytes) = missed-off (record { node = place.node; how = exposed_from n b; family = family }) above
+    missed-at (Delivered q) = refl
+    missed-at (Refused reason at) = refl
+
+  missed-in : (h : Headers) (n : ℕ) (ts : List Step) → left_by step_events ts (executed net n) ≡ None → (o : Option SidEntry)
+      → end_by step_events go (inside_by (world_of net) (reverse h.below.items) (look_in net h.place n o h.top)) ts ≡ None
+  missed-in h n ts left None = refl
+  missed-in h n ts left (Some s) =
+      missed-at h.place (reverse h.below.items) n s.behaviour ts left (at_sid s (allow_of (slice_get net.nodes h.place.node)) h.top)
+
+  pub into-missed : (h : Headers) (n : ℕ) (ts : List Step) → left_by step_events ts (executed net n) ≡ None
+      → end_by step_events go (way_move net h (Into n)) ts ≡ None
+  into-missed h n ts left = missed-in h n ts left (slice_get net.sids n)
+
+  -- what the SID does with the header on top
+  module _ (h : Headers) (n : ℕ) (s : SidEntry) (there : slice_get net.sids n ≡ Some s) (allow : List ℕ)
+      (is : allow ≡ allow_of (slice_get net.nodes h.place.node)) (ts : List Step) where
+    abbrev above : List Packet
+    above = reverse h.below.items
+
+    into-is : (e : Endpoint) → at_sid s allow h.top ≡ e
+        → end_by step_events go (way_move net h (Into n)) ts
+        ≡ end_by step_events go (inside_by (world_of net) above (look_at_sid net h.place n s.behaviour e)) ts
+    into-is e came =
+        ap (λ o. end_by step_events go (inside_by (world_of net) above (look_in net h.place n o h.top)) ts) there
+        ∙ ap (λ (a : List ℕ). end_by step_events go (inside_by (world_of net) above (look_at_sid net h.place n s.behaviour (at_sid s a h.top))) ts) (sym is)
+        ∙ ap (λ x. end_by step_events go (inside_by (world_of net) above (look_at_sid net h.place n s.behaviour x)) ts) came
+
+    pub into-onward : (q : Packet) (next : Headers) (us : List Step) → at_sid s allow h.top ≡ Onward q
+        → left_by step_events ts (executed net n) ≡ Some us
+        → inside_by (world_of net) above (look_onward net h.place n s.behaviour q (behaviour_policy s.behaviour))
+        ≡ Go (executed net n) [] (inside_of next)
+        → end_by step_events go (way_move net h (Into n)) ts ≡ go us (inside_of next)
+    into-onward q next us came left goes =
+        into-is (Onward q) came ∙ ap (λ m. end_by step_events go m ts) goes ∙ go-end n (inside_of next) ts us left
+
+    off-by : (place : Place) (heads : List Packet) (steps : List Step) (done : ℕ) (stage : Stage)
+        → left_by step_events ts (executed net n) ≡ Some (drop done steps) → IsTakenOff place heads done stage
+        → end_by step_events go (inside_off ℕ (executed net n) place heads) ts ≡ end_stage go steps stage
+    off-by place heads steps done (stages.On headers more) left taken =
+        ap (λ l. end_by step_events go (inside_off ℕ (executed net n) place l) ts) taken.1
+        ∙ go-end n (inside_at headers.top (reverse headers.below.items) place) ts (drop done steps) left
+        ∙ ap (λ p. go (drop done steps) (inside_at headers.top (reverse headers.below.items) p)) (sym taken.0)
+        ∙ ap (λ (d : ℕ). go (drop d steps) (inside_of headers)) (sym taken.2)
+    off-by place heads steps done (stages.Off to more) left taken =
+        ap (λ l. end_by step_events go (inside_off ℕ (executed net n) place l) ts) taken.1
+        ∙ done-end n place ts (drop done steps) left
+        ∙ ap (λ (p : Place). Some (end_with [] p (drop done steps))) (sym taken.0)
+        ∙ ap (λ (d : ℕ). Some (end_with [] to (drop d steps))) (sym taken.2)
+    off-by place heads steps done stages.Lost left taken = absurd taken
+
+    pub into-off : (family : Family) (bytes : List ℕ) (steps : List Step) (done : ℕ) (stage : Stage)
+        → at_sid s allow h.top ≡ Exposed family bytes → left_by step_events ts (executed net n) ≡ Some (drop done steps)
+        → IsTakenOff (record { node = h.place.node; how = exposed_from n s.behaviour; family = family }) above done stage
+        → end_by step_events go (way_move net h (Into n)) ts ≡ end_stage go steps stage
+    into-off family bytes steps done stage came left taken =
+        into-is (Exposed family bytes) came
+        ∙ off-by (record { node = h.place.node; how = exposed_from n s.behaviour; family = family }) above steps done stage left taken
+
+    pub into-lost : IsLost (at_sid s allow h.top) → end_by step_events go (way_move net h (Into n)) ts ≡ None
+    into-lost lost = by_end (at_sid s allow h.top) refl lost
+      where
+        by_end : (e : Endpoint) → at_sid s allow h.top ≡ e → IsLost e → end_by step_events go (way_move net h (Into n)) ts ≡ None
+        by_end (Onward q) came lost = absurd lost
+        by_end (Exposed family bytes) came lost = absurd lost
+        by_end (Delivered q) came lost = into-is (Delivered q) came
+        by_end (Refused reason at) came lost = into-is (Refused reason at) came
+
+-- behind a SID that binds a policy, with the policy's header in front
+pub bound-go : (net : Network) (from place : Place) (n : ℕ) (b : Behaviour) (q top : Packet) (below more : List Packet) (number : ℕ)
+    → (named : NamedPolicy) → behaviour_policy b ≡ Some number → slice_get net.policies number ≡ Some named
+    → at_how from (onward_from n b) ≡ place → top ≡ outer_by named.policy (behaviour_reduces b) families.V6 [] → more ≡ below ++ q ∷ []
+    → inside_by (world_of net) (reverse below) (look_onward net from n b q (behaviour_policy b))
+    ≡ Go (executed net n) [] (inside_at top (reverse more) place)
+bound-go net from place n b q top below more number named binds there at is all =
+    ap (λ o. inside_by (world_of net) (reverse below) (look_onward net from n b q o)) binds
+    ∙ ap (λ o. inside_by (world_of net) (reverse below) (look_bound net from n b q o)) there
+    ∙ ap (λ (p : Place). Go (executed net n) []
+    (inside_at (outer_by named.policy (behaviour_reduces b) families.V6 []) (q ∷ reverse below) p)) at
+    ∙ ap (λ (h : Packet). Go (executed net n) [] (inside_at h (q ∷ reverse below) place)) (sym is)
+    ∙ ap (λ l. Go (executed net n) [] (inside_at top l place)) (sym (ap reverse all ∙ reverse-append below (q ∷ [])))
