@@ -1,0 +1,59 @@
+//! Intents compiled, and certificates judged, over the legs that their networks ask for.
+
+ghost use Rattle.std.specs.Prelude.{◌≡◌, []};
+ghost use Rattle.intent_reader.specs.Rules.{IsIntent};
+ghost use Rattle.list_certificate.specs.Certs.{IsCert};
+ghost use Rattle.list_certificate.specs.Verdicts.{IsVerdict};
+ghost use Rattle.own_hands.specs.Realizes.{OwnListExecutes, OwnListRealizes};
+ghost use Rattle.binding_starts.specs.Value.{binding_legs_value};
+ghost use Rattle.binding_meanings.specs.Hands.{OwnListHands};
+ghost use Rattle.path_compiler.specs.Checked.{Says, SaysOver};
+ghost use Rattle.path_compiler.specs.Compiled.{NoneLessOver};
+ghost use Rattle.intent_legs.specs.Answers.{IntentAnswers};
+
+use crate::legs::IntentLegs;
+use base::NoMemory;
+use flat_networks::compilable;
+use intent_reader::Intent;
+use list_certificate::{Cert, Verdict};
+use net_model::Net;
+use path_compiler::{CompileFault, Compiled, checked_over, compile_over};
+use std::alloc::Global;
+
+/// Compiles an intent that keeps the rules in a network, of which nothing is hidden, to the least
+/// legal list of SIDs, binding SIDs among them, that takes each packet of the intent along exactly
+/// its steps up to its own hand-over, whichever equal next hop is chosen, by `compile_over` over the
+/// intent's legs. `NotFlat` comes exactly where the network is not flat, before all other answers. Of
+/// the legal lists that hand over even one inner packet at one hop limit so, none needs fewer header
+/// bytes than the list that is found, nor has fewer containers, or as many at a hop limit that is not
+/// above its need; where none is found there are none of them. (own rule)
+pub fn compile(alloc: Global, net: &Net, intent: &Intent) -> Result<Compiled, CompileFault>
+    requires whole { net.now.hidden ≡ [] }
+    requires intent { IsIntent net.now intent.now }
+    ensures answer { IntentAnswers net.now intent.now result }
+    ensures handing { NoneLessOver net.now (OwnListHands net.now intent.now) intent.now.reduced
+        result }
+{
+    net.keeps_rules();
+    match compilable(alloc, net) {
+        Err(why) => return Err(CompileFault::NotFlat(why)),
+        Ok(()) => {}
+    }
+    match IntentLegs::build(alloc, net, intent) {
+        Ok(legs) => compile_over(alloc, net, intent, &legs),
+        Err(NoMemory) => Err(CompileFault::NoMemory),
+    }
+}
+
+/// What a certificate shows over the legs of an intent, by `checked_over`: the first of its tests that
+/// fails, or the least pair of containers and need of a legal list that realizes the intent up to a
+/// packet's own hand-over, or that none does. It takes no memory. (own rule)
+pub fn check(legs: &IntentLegs<'_>, cert: &Cert) -> Verdict
+    requires { IsCert (binding_legs_value legs.now.net legs.now.intent) cert.now }
+    ensures verdict { IsVerdict (binding_legs_value legs.now.net legs.now.intent) cert.now result }
+    ensures says { Says legs.now.net (OwnListRealizes legs.now.net legs.now.intent)
+        (OwnListExecutes legs.now.net legs.now.intent) result }
+    ensures handing { SaysOver legs.now.net (OwnListHands legs.now.net legs.now.intent) result }
+{
+    checked_over(legs, cert)
+}

@@ -1,0 +1,166 @@
+//! Legs of the kind that a network asks for.
+
+ghost use Rattle.std.specs.Prelude.{◌≡◌, true, length, IfOk};
+ghost use Rattle.net_model.specs.Keeps.{Keeps};
+ghost use Rattle.net_model.specs.Rules.{IsNetwork};
+ghost use Rattle.flat_networks.specs.Flat.{IsFlat};
+ghost use Rattle.intent_reader.specs.Rules.{IsIntent};
+ghost use Rattle.intent_legs.specs.Kinds.{BindsNothing};
+
+use base::NoMemory;
+use binding_legs::BindingLegs;
+use intent_reader::Intent;
+use leg_table::StrictLegs;
+use list_pack::{Leg, Legs, ListLegs, Shape};
+use net_model::Net;
+use std::alloc::Global;
+use std::marker::Model;
+
+/// A kind of legs.
+#[derive(Debug, Drop)]
+enum Kind<'a> {
+    /// Of a network in which no SID binds a policy.
+    Strict(StrictLegs<'a>),
+    /// Through binding SIDs.
+    Binding(BindingLegs<'a>),
+}
+
+/// The legs of an intent in a network: through binding SIDs, where a SID binds a policy, and else
+/// those of strict steps, which are the same there. (own rule)
+#[derive(Debug, Drop)]
+pub struct IntentLegs<'a> {
+    kind: Kind<'a>,
+}
+
+impl<'a> Model for IntentLegs<'a> {
+    ghost use Rattle.leg_table.specs.Table.{LegTable};
+    ghost use Rattle.intent_legs.specs.Kinds.{SuitsKind, table_of};
+
+    ghost Value = { LegTable };
+
+    ghost view = { λ l. table_of l.kind };
+
+    ghost invariant = { λ l. SuitsKind l.kind };
+}
+
+/// no SID binds a policy
+fn binds_nothing(net: &Net) -> bool
+    ensures { result ≡ true → BindsNothing net.now }
+{
+    for n in 0..net.sids() {
+        if net.sid(n).behaviour.policy().is_some() {
+            return false;
+        }
+    }
+    true
+}
+
+impl<'a> IntentLegs<'a> {
+    /// The legs of an intent that keeps the rules in a flat network. (own rule)
+    pub fn build(
+        alloc: Global,
+        net: &'a Net,
+        intent: &'a Intent,
+    ) -> Result<IntentLegs<'a>, NoMemory>
+        requires intent { IsIntent net.now intent.now }
+        requires flat { IsFlat net.now }
+        ensures { IfOk result (λ t. t ≡ record { net = net.now; intent = intent.now }) }
+    {
+        if binds_nothing(net) {
+            let legs = StrictLegs::build(alloc, net, intent)?;
+            return Ok(IntentLegs {
+                kind: Kind::Strict(legs),
+            });
+        }
+        let legs = BindingLegs::build(alloc, net, intent)?;
+        Ok(IntentLegs {
+            kind: Kind::Binding(legs),
+        })
+    }
+
+    /// That the network and the intent keep their rules, and that the network is flat: a call for
+    /// the callers' proofs alone. (own rule)
+    pub fn keeps_rules(&self)
+        ensures network { IsNetwork self.now.net }
+        ensures facts { Keeps self.now.net }
+        ensures flat { IsFlat self.now.net }
+        ensures intent { IsIntent self.now.net self.now.intent }
+    {
+        match &self.kind {
+            Kind::Strict(legs) => legs.keeps_rules(),
+            Kind::Binding(legs) => legs.keeps_rules(),
+        }
+    }
+
+    fn count(&self) -> u32
+        ensures { result ≡ length self.now.intent.steps }
+    {
+        match &self.kind {
+            Kind::Strict(legs) => legs.steps(),
+            Kind::Binding(legs) => legs.steps(),
+        }
+    }
+}
+
+impl<'a> Legs for IntentLegs<'a> {
+    ghost use Rattle.binding_starts.specs.Value.{binding_legs_value};
+
+    ghost seen = { λ t. binding_legs_value t.net t.intent };
+
+    fn steps(&self) -> u32 {
+        self.keeps_rules();
+        self.count()
+    }
+
+    fn sids_at(&self, position: u32) -> &[u32] {
+        match &self.kind {
+            Kind::Strict(legs) => legs.sids_at(position),
+            Kind::Binding(legs) => legs.sids_at(position),
+        }
+    }
+
+    fn shape(&self, sid: u32) -> Shape {
+        match &self.kind {
+            Kind::Strict(legs) => legs.shape(sid),
+            Kind::Binding(legs) => legs.shape(sid),
+        }
+    }
+
+    fn leg(&self, position: u32, via: Option<u32>, next: u32) -> Option<Leg> {
+        match &self.kind {
+            Kind::Strict(legs) => legs.leg(position, via, next),
+            Kind::Binding(legs) => legs.leg(position, via, next),
+        }
+    }
+
+    fn finish(&self, position: u32, via: Option<u32>, next: u32) -> Option<u32> {
+        match &self.kind {
+            Kind::Strict(legs) => legs.finish(position, via, next),
+            Kind::Binding(legs) => legs.finish(position, via, next),
+        }
+    }
+
+    fn stays(&self, sid: u32, next: u32) -> bool {
+        match &self.kind {
+            Kind::Strict(legs) => legs.stays(sid, next),
+            Kind::Binding(legs) => legs.stays(sid, next),
+        }
+    }
+}
+
+impl<'a> ListLegs for IntentLegs<'a> {
+    ghost use Rattle.own_hands.specs.Realizes.{OwnListRealizes, OwnListExecutes};
+    ghost use Rattle.binding_meanings.specs.Hands.{OwnListHands};
+
+    ghost network = { λ t. t.net };
+
+    ghost realizes = { λ t. OwnListRealizes t.net t.intent };
+
+    ghost executes = { λ t. OwnListExecutes t.net t.intent };
+
+    ghost hands = { λ t. OwnListHands t.net t.intent };
+
+    fn keeps_meaning(&self) {
+        self.keeps_rules();
+    }
+}

@@ -1,0 +1,13 @@
+//! The legs of an intent, of the kind that its network asks for.
+//!
+//! `IntentLegs` are the legs of strict steps where no SID of the network binds a policy, and else
+//! those through binding SIDs; both are seen as the latter, since without binding SIDs they are the
+//! same. What they realize is said by a packet's own hand-over (`own_hands`). `compile` compiles an
+//! intent over them, and `check` judges a certificate.
+#![tactic(auto)]
+
+mod compiling;
+mod legs;
+
+pub use compiling::{check, compile};
+pub use legs::IntentLegs;
