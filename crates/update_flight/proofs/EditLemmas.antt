@@ -2,7 +2,7 @@
 use Rattle.std.proofs.Common.{◌≡◌, ◌⊎◌, inl, inr, ℕ, zero, suc, ◌+◌, ◌-◌, ◌<◌, ◌≤◌, List, [], ◌∷◌, ◌++◌, length, map, slice_get, Option, Some, None, option_map, Result, Ok, Err, refl, sym, ap, ◌∙◌, arith, length-append, subst}
 use Rattle.std.proofs.lemmas.List.{length-map}
 use Rattle.std.proofs.lemmas.Option.{slice_get_within}
-use Rattle.update_plan.specs.declared.entry.EntryId.{EntryId}
+use Rattle.net_model.specs.declared.net.EntryId.{EntryId}
 use Rattle.update_flight.specs.declared.edit.Edit.{Edit}
 use Rattle.update_flight.specs.declared.edit.Edit.TheVariants.{Added, Switched, Removed, Finished}
 use Rattle.update_flight.specs.declared.edit.Busy.{Busy}

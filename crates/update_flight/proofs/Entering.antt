@@ -9,7 +9,7 @@ use Rattle.update_flight.proofs.Passed.{passed-enter}
 
 -- some network
 abbrev nowhere : Network
-nowhere = record { blocks = []; nodes = []; links = []; routes = []; policies = []; titles = []; sids = [] }
+nowhere = record { blocks = []; nodes = []; links = []; routes = []; policies = []; titles = []; sids = []; hidden = [] }
 
 abbrev EntersAll : Packets → InFlight → Result ℕ NoMemory → Packets → Type 0
 EntersAll old p result new = (net : Network) → Enters (within net old) p result (within net new)

@@ -6,7 +6,7 @@ use Rattle.net_model.specs.Network.{Network}
 use Rattle.walk_rules.specs.declared.place.Ended.{Ended}
 use Rattle.packet_walk.specs.Flight.{InFlight, Flight, packet_in, packet_of, turned, turned_by, within}
 use Rattle.packet_walk.proofs.PublicLaws.{length-turned, packet-behind, packet-within, turned-ended, turned-other}
-use Rattle.update_plan.specs.declared.entry.EntryId.{EntryId}
+use Rattle.net_model.specs.declared.net.EntryId.{EntryId}
 use Rattle.update_flight.specs.Transition.{Transition, IsTransition, HaveEnded, edited, entered, first_early, is_before_switch, packets_of, starting, turned_in}
 use Rattle.update_flight.specs.Interleaving.{Move, Enter, Turn, Edit, moved}
 use Rattle.update_flight.proofs.EditLemmas.{done-either, done-least, done-most, done-one, removal-done}

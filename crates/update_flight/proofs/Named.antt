@@ -6,8 +6,8 @@ use Rattle.std.specs.List.{list_any}
 use Rattle.net_model.specs.declared.net.Hit.{Hit}
 use Rattle.net_model.specs.declared.net.Hit.TheVariants as hits
 use Rattle.net_model.specs.Network.{Network}
-use Rattle.update_plan.specs.declared.entry.EntryId.{EntryId}
-use Rattle.update_plan.specs.declared.entry.EntryId.TheVariants as ids
+use Rattle.net_model.specs.declared.net.EntryId.{EntryId}
+use Rattle.net_model.specs.declared.net.EntryId.TheVariants as ids
 use Rattle.update_plan.specs.Joined.{added_routes, added_sids, is_new_route, is_new_sid}
 use Rattle.update_plan.specs.Lookups.{is_of_old, is_of_new, passes_or_absent}
 use Rattle.update_flight.specs.Planned.{added_entries, lost_from, named_from, names, removed_entries}

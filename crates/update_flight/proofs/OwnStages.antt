@@ -18,7 +18,18 @@ use Rattle.walk_rules.specs.Way.{Way, Away, Over, Own, Into, is_multicast_of, wa
 use Rattle.walk_rules.specs.Treatment.{Gave, error_of, free_step_of, judged, step_of, treated, treated4}
 use Rattle.walk_rules.specs.Walk.{Stage, choice_at, stage_of}
 use Rattle.packet_walk.specs.Flight.{InFlight, advanced, left_by, stage_in, staged}
-use Rattle.update_flight.specs.Tables.{HasRoute, KeepsOwn}
+use Rattle.update_flight.specs.Tables.{AreAlike, HasRoute, KeepsOwn}
+
+-- tables that look up alike keep all matches
+pub kept-alike : (own now : Network) → AreAlike own now → KeepsOwn own now
+kept-alike own now alike = record {
+  nodes = alike.nodes;
+  links = alike.links;
+  routes = alike.routes;
+  policies = alike.policies;
+  sids = alike.sids;
+  matches = λ node table family a some. alike.finds node table family a;
+}
 
 module _ (own now : Network) (keeps : KeepsOwn own now) where
   -- the network of the moment, with the parts of the packet's own
@@ -133,3 +144,51 @@ module _ (own now : Network) (keeps : KeepsOwn own now) where
       ap (by now) (own-stage p route)
       ∙ (ap (λ (net : Network). by net (stage_in own p)) is-same
       ∙ advanced-same (stage_in own p) p)
+
+  -- by tables that look up alike it is the same, whatever it is
+
+  module _ (all : (node table : ℕ) (family : Family) (a : ℕ) → lookup_of now node table family a ≡ lookup_of own node table family a) where
+    finds-all : (node table : ℕ) (family : Family) (a : ℕ) → lookup_of same node table family a ≡ lookup_of own node table family a
+    finds-all node table family a = ap (λ (net : Network). lookup_of net node table family a) (sym is-same) ∙ all node table family a
+
+    way-by-all : (node : ℕ) (how : How) (family : Family) (a : ℕ) → way_by same node how family a ≡ way_by own node how family a
+    way-by-all node (Arrived table) family a =
+        ap (λ (h : Hit). if is_multicast_of family a then Away reasons.Multicast else way_by_hit own true h) (finds-all node table family a)
+    way-by-all node (Submitted table) family a =
+        ap (λ (h : Hit). if is_multicast_of family a then Away reasons.Multicast else way_by_hit own false h) (finds-all node table family a)
+    way-by-all node (Through sid lower) family a = refl
+
+    way-all : (place : Place) (a : ℕ) → way_of same place a ≡ way_of own place a
+    unfolding way_of
+    way-all place a = way-by-all place.node place.how place.family a
+
+    step-all : (place : Place) (content : Content) (choice : ℕ) → step_of same place content choice ≡ step_of own place content choice
+    unfolding error_of
+    step-all place (Unreadable bytes reason) choice = refl
+    step-all place (V6 p) choice =
+        judged-same place.node (V6 p) (free_step_of same place (V6 p) choice)
+        ∙ ap (judged own place.node (V6 p))
+        (treated-same place.node (way_of same place p.destination) p choice
+        ∙ ap (λ (way : Way). treated own place.node way p choice) (way-all place p.destination))
+    step-all place (V4 p) choice =
+        judged-same place.node (V4 p) (free_step_of same place (V4 p) choice)
+        ∙ ap (judged own place.node (V4 p))
+        (treated4-same place.node (way_of same place (destination4 p)) p choice
+        ∙ ap (λ (way : Way). treated4 own place.node way p choice) (way-all place (destination4 p)))
+
+    pub all-step : (place : Place) (content : Content) (choice : ℕ) → step_of now place content choice ≡ step_of own place content choice
+    all-step place content choice =
+        ap (λ (net : Network). step_of net place content choice) is-same ∙ step-all place content choice
+
+    pub all-stage : (p : InFlight) → stage_in now p ≡ stage_in own p
+    all-stage p =
+        ap (λ (gave : Gave). stage p gave) (all-step p.place p.content (choice_at p.choices p.decisions)) where
+          stage : InFlight → Gave → Stage
+          stage p gave = record { place = p.place; before = p.content; gave = gave }
+
+    pub all-staged : (p : InFlight) → staged now p ≡ staged own p
+    all-staged p =
+        let by : Network → Stage → InFlight = λ net s. advanced net s.gave.outcome (left_by net p s) p in
+        ap (by now) (all-stage p)
+        ∙ (ap (λ (net : Network). by net (stage_in own p)) is-same
+        ∙ advanced-same (stage_in own p) p)

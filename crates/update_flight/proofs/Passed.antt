@@ -9,13 +9,13 @@ use Rattle.walk_rules.specs.declared.place.Ended.{Ended}
 use Rattle.packet_walk.specs.declared.event.Event.{Event}
 use Rattle.packet_walk.specs.Flight.{InFlight, Packets, Flight, IsNumber, Turns, event_of, packet_in, stage_in, staged, turned, with_packet, within}
 use Rattle.packet_walk.proofs.PublicLaws.{given-packet, packet-within, turned-going}
-use Rattle.update_plan.specs.declared.entry.EntryId.{EntryId}
+use Rattle.net_model.specs.declared.net.EntryId.{EntryId}
 use Rattle.update_flight.specs.declared.edit.Edit.{Edit}
 use Rattle.update_flight.specs.declared.edit.Busy.{Busy}
 use Rattle.update_flight.specs.Transition.{Transition, HaveEnded, IsPassed, IsTransition, answer_of, answer_to, done_after, edit_count, edited, edits, entered, first_early, is_before_switch, next_edit, packets_of, removed_or_busy, starting, steps, turned_in}
-use Rattle.update_flight.specs.Tables.{HasRoute, KeepsOwn}
+use Rattle.update_flight.specs.Tables.{AreAlike, HasRoute, KeepsOwn}
 use Rattle.update_flight.proofs.EditLemmas.{length-edits}
-use Rattle.update_flight.proofs.OwnStages.{own-stage, own-staged}
+use Rattle.update_flight.proofs.OwnStages.{all-stage, all-staged, kept-alike, own-stage, own-staged}
 use Rattle.update_flight.proofs.Firsts.{first-early, none-early}
 use Rattle.update_flight.proofs.Kept.{ended-behind, kept-edit, kept-enter, kept-start, kept-turn, still-ended, turn-length}
 
@@ -115,28 +115,37 @@ pub passed-none : (passed : ℕ) (t : Transition) → IsPassed passed t → t.ea
 passed-none passed t h all =
     sym (none-early t.early t.packets.packets (λ number p few there. h.ended number p (omega (arith, few, all)) there))
 
--- a turn by tables that keep the packet's own matches is a turn by its own description's
+-- a turn by tables in which a packet's stage is the same as in others is a turn by those
+
+pub turn-same : (own now : Network) (number : ℕ) (old new : Packets) (p : InFlight) (result : Result (Option Event) NoMemory)
+    → (p.ended ≡ None → stage_in now p ≡ stage_in own p) → (p.ended ≡ None → staged now p ≡ staged own p)
+    → Turns number (within now old) p result (within now new) → Turns number (within own old) p result (within own new)
+turn-same own now number old new p (Ok None) stage after turns = (turns.0, ap (λ (f : Flight). within own (packets_of f)) turns.1)
+turn-same own now number old new p (Ok (Some event)) stage after turns = (
+  turns.0,
+  turns.1 ∙ ap (event_of number) (stage turns.0),
+  ap (λ (f : Flight). within own (packets_of f)) turns.2
+      ∙ (ap (λ (s : Stage). record {
+        net = own;
+        error = error_bytes s.gave.error;
+        packets = with_packet old.packets number (staged now p);
+      }) (stage turns.0)
+      ∙ ap (λ (q : InFlight). record {
+        net = own;
+        error = error_bytes (stage_in own p).gave.error;
+        packets = with_packet old.packets number q;
+      }) (after turns.0)),
+)
+turn-same own now number old new p (Err why) stage after turns =
+    (turns.0, ap (λ (f : Flight). within own (packets_of f)) turns.1, turns.2)
+
+-- so is a turn by tables that keep the packet's own matches, where its own stage has a route
 
 module _ (own now : Network) (keeps : KeepsOwn own now) (number : ℕ) (old new : Packets) where
   turn-own : (p : InFlight) (result : Result (Option Event) NoMemory) → HasRoute (stage_in own p)
       → Turns number (within now old) p result (within now new) → Turns number (within own old) p result (within own new)
-  turn-own p (Ok None) route turns = (turns.0, ap (λ (f : Flight). within own (packets_of f)) turns.1)
-  turn-own p (Ok (Some event)) route turns = (
-    turns.0,
-    turns.1 ∙ ap (event_of number) (own-stage own now keeps p route),
-    ap (λ (f : Flight). within own (packets_of f)) turns.2
-        ∙ (ap (λ (s : Stage). record {
-          net = own;
-          error = error_bytes s.gave.error;
-          packets = with_packet old.packets number (staged now p);
-        }) (own-stage own now keeps p route)
-        ∙ ap (λ (q : InFlight). record {
-          net = own;
-          error = error_bytes (stage_in own p).gave.error;
-          packets = with_packet old.packets number q;
-        }) (own-staged own now keeps p route)),
-  )
-  turn-own p (Err why) route turns = (turns.0, ap (λ (f : Flight). within own (packets_of f)) turns.1, turns.2)
+  turn-own p result route turns =
+      turn-same own now number old new p result (λ going. own-stage own now keeps p route) (λ going. own-staged own now keeps p route) turns
 
   own-by : (o : Option InFlight) (result : Result (Option Event) NoMemory)
       → IfSome o (λ p. Turns number (within now old) p result (within now new))
@@ -148,6 +157,19 @@ module _ (own now : Network) (keeps : KeepsOwn own now) (number : ℕ) (old new 
       → IfSome (packet_in old.packets number) (λ p. Turns number (within now old) p result (within now new))
       → IfSome (packet_in old.packets number) (λ p. HasRoute (stage_in own p) → Turns number (within own old) p result (within own new))
   own-turn result turns = own-by (packet_in old.packets number) result turns
+
+-- and a turn by tables that look up alike
+
+pub alike-turn : (own now : Network) (number : ℕ) (old new : Packets) (result : Result (Option Event) NoMemory) → AreAlike own now
+    → IfSome (packet_in old.packets number) (λ p. Turns number (within now old) p result (within now new))
+    → IfSome (packet_in old.packets number) (λ p. Turns number (within own old) p result (within own new))
+alike-turn own now number old new result alike turns = alike-by (packet_in old.packets number) turns where
+  alike-by : (o : Option InFlight) → IfSome o (λ p. Turns number (within now old) p result (within now new))
+      → IfSome o (λ p. Turns number (within own old) p result (within own new))
+  alike-by None turns = tt
+  alike-by (Some p) turns =
+      turn-same own now number old new p result (λ going. all-stage own now (kept-alike own now alike) alike.finds p)
+      (λ going. all-staged own now (kept-alike own now alike) alike.finds p) turns
 
 -- an edit that was answered, by its answer
 

@@ -17,11 +17,12 @@ use Rattle.net_model.specs.Judging.{title_text}
 use Rattle.net_model.specs.Best.{Entry, entries_of, hit_of, longest, lookup_of}
 use Rattle.net_model.specs.Entries.{IsEntryAs}
 use Rattle.net_model.proofs.PublicLaws.{contains_first, contains_later, entry_means}
-use Rattle.update_plan.specs.declared.entry.EntryId.{EntryId}
+use Rattle.net_model.specs.declared.net.EntryId.{EntryId}
 use Rattle.update_plan.specs.Joined.{added_routes, added_sids, joined_of, numbered, numbered_beside}
 use Rattle.update_plan.specs.Lookups.{SameHit, is_of_new, is_of_old, shown_lookup}
 use Rattle.update_plan.specs.Planning.{planning}
-use Rattle.update_plan.proofs.LookupLaws.{new_lookups, new_match_stays, old_lookups, old_match_stays}
+use Rattle.update_plan.proofs.LookupLaws.{new_lookups, new_match_stays, old_match_stays}
+use Rattle.update_plan.proofs.OldLookups.{old_lookups}
 use Rattle.update_flight.specs.Interleaving.{PassOver}
 use Rattle.update_flight.specs.Planned.{ShowsEdits, added_entries, hidden_after, is_shown_after, names, removed_entries}
 use Rattle.update_flight.specs.Tables.{KeepsOwn}
@@ -185,15 +186,15 @@ module _ (old new : Network) where
 
   -- the first tables look up as the old description, and the last as the new one
 
-  pub starts-old : (tables : ℕ → Network) (node table : ℕ) (family : Family) (a : ℕ) → ShowsEdits old new tables
+  pub starts-old : (tables : ℕ → Network) (node table : ℕ) (family : Family) (a : ℕ) → old.hidden ≡ [] → ShowsEdits old new tables
       → lookup_of (tables 0) node table family a ≡ lookup_of old node table family a
-  starts-old tables node table family a shows =
-      shows.looks_up 0 node table family a ∙ (first-found node table family a ∙ old_lookups old new node table family a)
+  starts-old tables node table family a whole shows =
+      shows.looks_up 0 node table family a ∙ (first-found node table family a ∙ old_lookups old new node table family a whole)
 
   pub ends-new : (tables : ℕ → Network) (node table : ℕ) (family : Family) (a : ℕ) → IsNetwork old → IsNetwork new
-      → planning old new ≡ Ok tt → ShowsEdits old new tables
+      → new.hidden ≡ [] → planning old new ≡ Ok tt → ShowsEdits old new tables
       → SameHit joined new (lookup_of (tables last) node table family a) (lookup_of new node table family a)
-  ends-new tables node table family a rules new_rules accepted shows =
+  ends-new tables node table family a rules new_rules whole accepted shows =
       subst (λ (h : Hit). SameHit joined new h (lookup_of new node table family a))
       (sym (shows.looks_up last node table family a ∙ last-found node table family a))
-      (new_lookups old new node table family a rules new_rules accepted)
+      (new_lookups old new node table family a rules new_rules whole accepted)

@@ -5,7 +5,7 @@ use Rattle.walk_rules.specs.Walk.{Stage}
 use Rattle.packet_walk.specs.Flight.{InFlight, packet_in}
 use Rattle.packet_walk.specs.Rest.{given_by}
 use Rattle.update_flight.specs.Tables.{KeepsOwn}
-use Rattle.update_plan.specs.declared.entry.EntryId.{EntryId}
+use Rattle.net_model.specs.declared.net.EntryId.{EntryId}
 use Rattle.update_flight.specs.Transition.{Transition, edit_count, edited, edits, entered, turned_in}
 
 -- a packet enters, as one of the old description or as one of the new; the packet of a number gets a turn; or an edit is asked for

@@ -1,35 +1,16 @@
 -- The edits of an accepted plan, and tables that show what its edits leave (own rules).
-use Rattle.std.specs.Prelude.{◌≡◌, ℕ, suc, ◌+◌, ◌-◌, Bool, false, ◌==◌, not, if◌then◌else◌, List, [], ◌∷◌, ◌++◌, length, take, drop}
+use Rattle.std.specs.Prelude.{◌≡◌, ℕ, suc, ◌-◌, Bool, false, ◌==◌, not, List, ◌++◌, length, take, drop}
 use Rattle.std.specs.List.{list_any}
 use Rattle.srv6_rules.specs.declared.sid.Family.{Family}
 use Rattle.net_model.specs.declared.net.Hit.{Hit}
 use Rattle.net_model.specs.declared.net.Hit.TheVariants as hits
 use Rattle.net_model.specs.Network.{Network}
 use Rattle.net_model.specs.Best.{lookup_of}
-use Rattle.update_plan.specs.declared.entry.EntryId.{EntryId}
-use Rattle.update_plan.specs.declared.entry.EntryId.TheVariants as ids
-use Rattle.update_plan.specs.Joined.{added_routes, added_sids, is_new_route, is_new_sid, joined_of}
+use Rattle.net_model.specs.declared.net.EntryId.{EntryId}
+use Rattle.net_model.specs.declared.net.EntryId.TheVariants as ids
+pub use Rattle.update_plan.specs.Changes.{added_entries, lost_from, named_from, removed_entries}
+use Rattle.update_plan.specs.Joined.{joined_of}
 use Rattle.update_plan.specs.Lookups.{shown_lookup}
-
--- the names of items, the first of which has the number n
-abbrev pub named_from : {X : Type 0} → (ℕ → EntryId) → ℕ → List X → List EntryId
-named_from name n [] = []
-named_from name n (x ∷ xs) = name n ∷ named_from name (n + 1) xs
-
--- the names of those of them that do not stay
-abbrev pub lost_from : {X : Type 0} → (X → Bool) → (ℕ → EntryId) → ℕ → List X → List EntryId
-lost_from stays name n [] = []
-lost_from stays name n (x ∷ xs) =
-    if stays x then lost_from stays name (n + 1) xs else name n ∷ lost_from stays name (n + 1) xs
-
--- what is added stands behind the old routes and SIDs; what is removed has its old number
-abbrev pub added_entries : Network → Network → List EntryId
-added_entries old new =
-    named_from ids.Route (length old.routes) (added_routes old new) ++ named_from ids.Sid (length old.sids) (added_sids old new)
-
-abbrev pub removed_entries : Network → Network → List EntryId
-removed_entries old new =
-    lost_from (is_new_route new) ids.Route 0 old.routes ++ lost_from (is_new_sid old new) ids.Sid 0 old.sids
 
 -- a name is that of a hit; no node's own address is added or removed
 abbrev pub names : EntryId → Hit → Bool

@@ -19,6 +19,16 @@ pub record KeepsOwn (own now : Network) : Type 0 where
   pub matches : (node table : ℕ) (family : Family) (a : ℕ) → lookup_of own node table family a ≢ hits.Nothing
       → lookup_of now node table family a ≡ lookup_of own node table family a
 
+-- tables that look up alike: each address is looked up to the same entry, and all else is the same, but for how it is written down
+-- what is hidden
+pub record AreAlike (one other : Network) : Type 0 where
+  pub nodes : other.nodes ≡ one.nodes
+  pub links : other.links ≡ one.links
+  pub routes : other.routes ≡ one.routes
+  pub policies : other.policies ≡ one.policies
+  pub sids : other.sids ≡ one.sids
+  pub finds : (node table : ℕ) (family : Family) (a : ℕ) → lookup_of other node table family a ≡ lookup_of one node table family a
+
 -- the stage is no drop for want of a route
 abbrev pub HasRoute : Stage → Type 0
 HasRoute s = (told : Bool) → s.gave.outcome ≢ outcomes.Drop reasons.NoRoute told

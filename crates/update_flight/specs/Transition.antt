@@ -5,7 +5,7 @@ use Rattle.std.specs.Prelude.{◌≡◌, ℕ, suc, ◌+◌, ◌^◌, ◌<◌, �
 use Rattle.base.specs.declared.no_memory.NoMemory.{NoMemory}
 use Rattle.net_model.specs.Network.{Network}
 use Rattle.packet_walk.specs.Flight.{InFlight, Packets, Flight, packet_in, turned, within}
-use Rattle.update_plan.specs.declared.entry.EntryId.{EntryId}
+use Rattle.net_model.specs.declared.net.EntryId.{EntryId}
 use Rattle.update_flight.specs.declared.edit.Edit.{Edit}
 use Rattle.update_flight.specs.declared.edit.Edit.TheVariants.{Added, Switched, Removed, Finished}
 use Rattle.update_flight.specs.declared.edit.Busy.{Busy}

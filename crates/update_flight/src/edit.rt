@@ -1,6 +1,6 @@
 //! The edits of an update.
 
-use update_plan::EntryId;
+use net_model::EntryId;
 
 /// One edit of an update's tables (own rule).
 #[derive(Clone, Copy, Debug, PartialEq, Eq)]

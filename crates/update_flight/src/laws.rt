@@ -1,6 +1,6 @@
 //! Laws about the definitions, each the contract of a function that does nothing.
 
-ghost use Rattle.std.specs.Prelude.{◌≡◌, ℕ, suc, ◌+◌, ◌-◌, ◌≤◌, ◌∷◌, All, IfSome, List, None, Ok, Some, if◌then◌else◌, length, take};
+ghost use Rattle.std.specs.Prelude.{◌≡◌, ℕ, suc, ◌+◌, ◌-◌, ◌≤◌, ◌∷◌, [], All, IfSome, List, None, Ok, Some, if◌then◌else◌, length, take};
 ghost use Rattle.net_model.specs.Best.{lookup_of};
 ghost use Rattle.net_model.specs.Network.{Network};
 ghost use Rattle.net_model.specs.Rules.{IsNetwork};
@@ -13,7 +13,7 @@ ghost use Rattle.packet_walk.specs.Rest.{rest_of};
 ghost use Rattle.update_plan.specs.Joined.{joined_of};
 ghost use Rattle.update_plan.specs.Lookups.{SameHit};
 ghost use Rattle.update_plan.specs.Planning.{planning};
-ghost use Rattle.update_plan.specs.declared.entry.EntryId.{EntryId};
+ghost use Rattle.net_model.specs.declared.net.EntryId.{EntryId};
 ghost use Rattle.update_flight.specs.Interleaving.{Move, PassOver, given_to, moved, own_of, turns_of};
 ghost use Rattle.update_flight.specs.Planned.{ShowsEdits, added_entries, removed_entries};
 ghost use Rattle.update_flight.specs.Tables.{HasRoute, KeepsOwn};
@@ -70,11 +70,11 @@ pub fn planned_tables_pass_over()
         planning old new ≡ Ok tt → ShowsEdits old new tables →
         PassOver tables (added_entries old new) (removed_entries old new) }
     ensures old { (old new : Network) (tables : ℕ → Network) →
-        (node table : ℕ) (family : Family) (a : ℕ) → ShowsEdits old new tables →
+        (node table : ℕ) (family : Family) (a : ℕ) → old.hidden ≡ [] → ShowsEdits old new tables →
         lookup_of (tables 0) node table family a ≡ lookup_of old node table family a }
     ensures new { (old new : Network) (tables : ℕ → Network) →
         (node table : ℕ) (family : Family) (a : ℕ) → IsNetwork old → IsNetwork new →
-        planning old new ≡ Ok tt → ShowsEdits old new tables →
+        new.hidden ≡ [] → planning old new ≡ Ok tt → ShowsEdits old new tables →
         let last = length (edits (added_entries old new) (removed_entries old new)) in
         SameHit (joined_of old new) new (lookup_of (tables last) node table family a)
         (lookup_of new node table family a) }

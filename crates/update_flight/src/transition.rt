@@ -10,20 +10,19 @@ ghost use Rattle.update_flight.specs.Transition.{EntersAs, IsTransition, answer_
 
 use crate::edit::{Busy, Edit};
 use base::NoMemory;
-use net_model::Net;
+use net_model::{EntryId, Net};
 use packet_walk::{Event, Packets};
 use pkt_buf::PktBuf;
 use std::alloc::Global;
 use std::marker::Model;
-use update_plan::EntryId;
 use walk_rules::Place;
 
 /// An update on its way, apart from the tables: its edits, in their order, and the packets in
 /// flight between them. The tables are the caller's, who changes them as each edit says (own rule).
 #[derive(Debug, Drop)]
 pub struct Transition<'a> {
-    added: &'a [EntryId],
-    removed: &'a [EntryId],
+    added: Vec<EntryId>,
+    removed: Vec<EntryId>,
     done: usize,
     early: u32,
     passed: u32,
@@ -35,10 +34,10 @@ impl<'a> Model for Transition<'a> {
 
     ghost Value = { TransitionValue };
 
-    ghost view = { λ t. transition_value t.added.now t.removed.now t.done t.early t.packets };
+    ghost view = { λ t. transition_value t.added.items t.removed.items t.done t.early t.packets };
 
     ghost invariant = { λ t. IsPassed t.passed
-        (transition_value t.added.now t.removed.now t.done t.early t.packets) };
+        (transition_value t.added.items t.removed.items t.done t.early t.packets) };
 }
 
 /// How many edits an edit is: one, and none where it is finished.
@@ -54,9 +53,9 @@ fn steps(edit: Edit) -> usize
 impl<'a> Transition<'a> {
     /// No edit is done, and no packet has entered; takes no memory. The entries are those that are
     /// added and those that are removed, each in the order of its edits (own rule).
-    pub fn new(alloc: Global, added: &'a [EntryId], removed: &'a [EntryId]) -> Transition<'a>
-        requires { length added.now + length removed.now + 1 < 2 ^ 32 }
-        ensures { result ≡ starting added.now removed.now }
+    pub fn new(alloc: Global, added: Vec<EntryId>, removed: Vec<EntryId>) -> Transition<'a>
+        requires { length added.items + length removed.items + 1 < 2 ^ 32 }
+        ensures { result ≡ starting added.items removed.items }
     {
         Transition {
             added,

@@ -10,7 +10,9 @@ pub mod Symmetry
 pub mod RouteNumbers
 pub mod Meant
 pub mod PlanLemmas
+pub mod ChangeLemmas
 pub mod SameItems
 pub mod Longest
 pub mod Partners
+pub mod OldLookups
 pub mod LookupLaws

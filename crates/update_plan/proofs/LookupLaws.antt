@@ -1,22 +1,21 @@
--- Look-ups in the joined network with the added or the removed entries hidden are those of one description.
-use Rattle.std.proofs.Common.{◌≡◌, ◌≢◌, ◌⊎◌, ℕ, ◌+◌, ◌≤◌, ◌<◌, Bool, true, false, ◌==◌, cond, if◌then◌else◌, List, [], ◌∷◌, ◌++◌, length, Option, Some, None, Ok, zero, suc, not, refl, sym, ap, ap₂, ◌∙◌, subst, subst₂, arith, inl, inr}
-use Rattle.std.proofs.lemmas.Bool.{cases_Bool, both_ways, ltb-true, lt-ltb, ltb-false, le-ltb, not-true}
+-- Look-ups in the joined network with the removed entries hidden are those of the new description, and own matches stay.
+use Rattle.std.proofs.Common.{◌≡◌, ◌≢◌, ◌⊎◌, ℕ, ◌≤◌, Bool, true, false, List, [], ◌∷◌, length, Some, None, Ok, zero, suc, not, refl, sym, ap, ◌∙◌, subst, subst₂, arith, inl, inr}
+use Rattle.std.proofs.lemmas.Bool.{both_ways, lt-ltb, ltb-false, le-ltb, not-true}
 use Rattle.std.proofs.lemmas.Option.{slice_get_within}
 use Rattle.std.specs.Prelude.{nat_lt}
-use Rattle.std.specs.List.{Contains, slice_get, filter}
+use Rattle.std.specs.List.{Contains, slice_get}
 use Rattle.v6_addr.specs.Address.{PrefixValue, Holds}
 use Rattle.srv6_rules.specs.declared.sid.Family.{Family}
 use Rattle.srv6_rules.specs.declared.sid.Family.TheVariants as families
 use Rattle.srv6_rules.specs.declared.sid.SidEntry.{SidEntry}
-use Rattle.net_model.specs.declared.parts.Node.{Node}
 use Rattle.net_model.specs.declared.parts.Route.{Route}
 use Rattle.net_model.specs.declared.net.Hit.{Hit}
 use Rattle.net_model.specs.declared.net.Hit.TheVariants as hits
-use Rattle.net_model.specs.Network.{Network}
+use Rattle.net_model.specs.Network.{Network, is_shown}
 use Rattle.net_model.specs.Rules.{IsNetwork}
 use Rattle.net_model.specs.Keeps.{Keeps}
 use Rattle.net_model.specs.Judging.{title_text}
-use Rattle.net_model.specs.Best.{Entry, sid_entries, is_route_of, route_entries, address_entries, has_sids, entries_of, rank_of, FitsNoWorse, IsBestEntry, IsBest, longest, hit_of, lookup_of}
+use Rattle.net_model.specs.Best.{Entry, entries_of, rank_of, IsBestEntry, IsBest, longest, hit_of, lookup_of}
 use Rattle.net_model.specs.Entries.{IsEntryAs}
 use Rattle.net_model.proofs.PublicLaws.{keeps_from_network, lookup_is_best, best_is_one, entry_means, entry_is_there}
 use Rattle.update_plan.specs.Joined.{is_old_route, is_new_route, is_old_sid, is_new_sid, joined_of}
@@ -27,103 +26,7 @@ use Rattle.update_plan.proofs.SameItems.{get_past, filtered_from, renumbered_sam
 use Rattle.update_plan.proofs.RouteNumbers.{get_front}
 use Rattle.update_plan.proofs.Longest.{longest_of_all, NoneShown, none_shown, shown_or_none}
 use Rattle.update_plan.proofs.Partners.{option_cases, old_sid_text, added_from, partner, partner_back, meeting_are_kept}
-
--- ---- the old description
-
-abbrev shows : (Hit → Bool) → Entry → Bool
-shows shown e = shown e.hit
-
--- an entry is shown where its number is below one, and else not
-one_shown : (shown : Hit → Bool) (e : Entry) (es fs : List Entry) → shown e.hit ≡ true → filter (shows shown) es ≡ fs
-    → filter (shows shown) (e ∷ es) ≡ e ∷ fs
-one_shown shown e es fs is same = rw is (ap (λ l. e ∷ l) same)
-
-one_hidden : (shown : Hit → Bool) (e : Entry) (es fs : List Entry) → shown e.hit ≡ false → filter (shows shown) es ≡ fs
-    → filter (shows shown) (e ∷ es) ≡ fs
-one_hidden shown e es fs is same = rw is same
-
-hidden_sids : (shown : Hit → Bool) (node n : ℕ) (ss : List SidEntry) → ((k : ℕ) → n ≤ k → shown (hits.Sid k) ≡ false)
-    → filter (shows shown) (sid_entries node n ss) ≡ []
-hidden_sids shown node n [] h = refl
-hidden_sids shown node n (s ∷ ss) h =
-    let rest = hidden_sids shown node (n + 1) ss (λ k above. h k (omega (arith, above))) in
-    elim (s.node == node) as (λ b. filter (shows shown)
-    (if b then record { hit = hits.Sid n; prefix = s.prefix } ∷ sid_entries node (n + 1) ss else sid_entries node (n + 1) ss) ≡ [])
-    [ true ↦ one_hidden shown (record { hit = hits.Sid n; prefix = s.prefix }) _ [] (h n (omega arith)) rest | false ↦ rest ]
-
-shown_sids : (shown : Hit → Bool) (node n : ℕ) (ss ts : List SidEntry)
-    → ((k : ℕ) → k < n + length ss → shown (hits.Sid k) ≡ true) → ((k : ℕ) → n + length ss ≤ k → shown (hits.Sid k) ≡ false)
-    → filter (shows shown) (sid_entries node n (ss ++ ts)) ≡ sid_entries node n ss
-shown_sids shown node n [] ts h g = hidden_sids shown node n ts (λ k above. g k (omega (arith, above)))
-shown_sids shown node n (s ∷ ss) ts h g =
-    let rest = shown_sids shown node (n + 1) ss ts (λ k below. h k (omega (arith, below))) (λ k above. g k (omega (arith, above))) in
-    elim (s.node == node) as (λ b. filter (shows shown)
-    (if b then record { hit = hits.Sid n; prefix = s.prefix } ∷ sid_entries node (n + 1) (ss ++ ts) else sid_entries node (n + 1) (ss ++ ts))
-    ≡ (if b then record { hit = hits.Sid n; prefix = s.prefix } ∷ sid_entries node (n + 1) ss else sid_entries node (n + 1) ss))
-    [ true ↦ one_shown shown (record { hit = hits.Sid n; prefix = s.prefix }) _ _ (h n (omega arith)) rest | false ↦ rest ]
-
-hidden_routes : (shown : Hit → Bool) (node table : ℕ) (family : Family) (n : ℕ) (rs : List Route)
-    → ((k : ℕ) → n ≤ k → shown (hits.Route k) ≡ false) → filter (shows shown) (route_entries node table family n rs) ≡ []
-hidden_routes shown node table family n [] h = refl
-hidden_routes shown node table family n (r ∷ rs) h =
-    let rest = hidden_routes shown node table family (n + 1) rs (λ k above. h k (omega (arith, above))) in
-    elim (is_route_of node table family r) as (λ b. filter (shows shown)
-    (if b then record { hit = hits.Route n; prefix = r.prefix } ∷ route_entries node table family (n + 1) rs
-    else route_entries node table family (n + 1) rs) ≡ [])
-    [ true ↦ one_hidden shown (record { hit = hits.Route n; prefix = r.prefix }) _ [] (h n (omega arith)) rest | false ↦ rest ]
-
-shown_routes : (shown : Hit → Bool) (node table : ℕ) (family : Family) (n : ℕ) (rs qs : List Route)
-    → ((k : ℕ) → k < n + length rs → shown (hits.Route k) ≡ true) → ((k : ℕ) → n + length rs ≤ k → shown (hits.Route k) ≡ false)
-    → filter (shows shown) (route_entries node table family n (rs ++ qs)) ≡ route_entries node table family n rs
-shown_routes shown node table family n [] qs h g = hidden_routes shown node table family n qs (λ k above. g k (omega (arith, above)))
-shown_routes shown node table family n (r ∷ rs) qs h g =
-    let rest = shown_routes shown node table family (n + 1) rs qs (λ k below. h k (omega (arith, below)))
-    (λ k above. g k (omega (arith, above))) in
-    elim (is_route_of node table family r) as (λ b. filter (shows shown)
-    (if b then record { hit = hits.Route n; prefix = r.prefix } ∷ route_entries node table family (n + 1) (rs ++ qs)
-    else route_entries node table family (n + 1) (rs ++ qs))
-    ≡ (if b then record { hit = hits.Route n; prefix = r.prefix } ∷ route_entries node table family (n + 1) rs
-    else route_entries node table family (n + 1) rs))
-    [ true ↦ one_shown shown (record { hit = hits.Route n; prefix = r.prefix }) _ _ (h n (omega arith)) rest | false ↦ rest ]
-
-filter_append : {X : Type 0} (p : X → Bool) (xs ys : List X) → filter p (xs ++ ys) ≡ filter p xs ++ filter p ys
-filter_append p [] ys = refl
-filter_append p (x ∷ xs) ys =
-    elim (p x) as (λ b. cond b (x ∷ filter p (xs ++ ys)) (filter p (xs ++ ys)) ≡ cond b (x ∷ filter p xs) (filter p xs) ++ filter p ys)
-    [ true ↦ ap (λ l. x ∷ l) (filter_append p xs ys) | false ↦ filter_append p xs ys ]
-
-shown_address : (shown : Hit → Bool) (o : Option Node) → shown hits.Address ≡ true
-    → filter (shows shown) (address_entries o) ≡ address_entries o
-shown_address shown None is = refl
-shown_address shown (Some n) is =
-    one_shown shown (record { hit = hits.Address; prefix = record { value = n.address.value; len = 128 } }) [] [] is refl
-
-old_entries : (old new : Network) (node table : ℕ) (family : Family)
-    → shown_entries (is_of_old old) (joined_of old new) node table family ≡ entries_of old node table family
-old_entries old new node table family =
-    let shown = is_of_old old in
-    let joined = joined_of old new in
-    let routes = shown_routes shown node table family 0 old.routes _ (λ k below. lt-ltb k (length old.routes) (omega (arith, below)))
-    (λ k above. le-ltb k (length old.routes) (omega (arith, above))) in
-    let sids = shown_sids shown node 0 old.sids _ (λ k below. lt-ltb k (length old.sids) (omega (arith, below)))
-    (λ k above. le-ltb k (length old.sids) (omega (arith, above))) in
-    elim (has_sids table family) as (λ b. filter (shows shown)
-    (if b then sid_entries node 0 joined.sids ++ (address_entries (slice_get joined.nodes node) ++ route_entries node table family 0 joined.routes)
-    else route_entries node table family 0 joined.routes)
-    ≡ (if b then sid_entries node 0 old.sids ++ (address_entries (slice_get old.nodes node) ++ route_entries node table family 0 old.routes)
-    else route_entries node table family 0 old.routes)) [
-      | true ↦
-          filter_append (shows shown) (sid_entries node 0 joined.sids) _
-          ∙ ap₂ (λ l m. l ++ m) sids
-          (filter_append (shows shown) (address_entries (slice_get old.nodes node)) _
-          ∙ ap₂ (λ l m. l ++ m) (shown_address shown (slice_get old.nodes node) refl) routes)
-      | false ↦ routes
-    ]
-
-pub old_lookups : (old new : Network) (node table : ℕ) (family : Family) (a : ℕ)
-    → shown_lookup (is_of_old old) (joined_of old new) node table family a ≡ lookup_of old node table family a
-unfolding lookup_of
-old_lookups old new node table family a = ap (λ es. hit_of (longest a es)) (old_entries old new node table family)
+use Rattle.update_plan.proofs.OldLookups.{shows}
 
 -- ---- what holds an address beside a match
 
@@ -311,15 +214,15 @@ best_from net node table family a hits.Nothing p is best = absurd is
 
 -- what fits best in the joined network has a partner that fits best in the new one
 partner_is_best : (old new : Network) (node table : ℕ) (family : Family) (a : ℕ) (h k : Hit) (p : PrefixValue) → Keeps old
-    → HasNoFault old new → IsBestEntry (entries_of (joined_of old new) node table family) a (entry_with h p)
+    → HasNoFault old new → new.hidden ≡ [] → IsBestEntry (entries_of (joined_of old new) node table family) a (entry_with h p)
     → IsEntryAs new node table family p k → SameHit (joined_of old new) new h k
     → IsBestEntry (entries_of new node table family) a (entry_with k p)
-partner_is_best old new node table family a h k p keeps fine best is same = record {
-  is_there = entry_is_there new node table family p k is;
+partner_is_best old new node table family a h k p keeps fine whole best is same = record {
+  is_there = entry_is_there new node table family p k is (ap (λ (hidden : List Hit). is_shown hidden k) whole);
   holds = best.holds;
   no_better = λ f c held.
       let (g, is_g, own, same_g) = partner_back old new node table family f.prefix f.hit keeps fine (entry_means new node table family f c) in
-      let fits = best.no_better (entry_with g f.prefix) (entry_is_there (joined_of old new) node table family f.prefix g is_g) held in
+      let fits = best.no_better (entry_with g f.prefix) (entry_is_there (joined_of old new) node table family f.prefix g is_g refl) held in
       let one = same_rank (joined_of old new) new h k same in
       let other = same_rank (joined_of old new) new g f.hit same_g in
       (fits.0, λ equal. subst₂ (λ m n. m ≤ n) one other (fits.1 equal));
@@ -327,10 +230,10 @@ partner_is_best old new node table family a h k p keeps fine best is same = reco
 
 -- the look-up in the whole joined network, where all entries that hold the address are of the new description
 whole_lookups : (old new : Network) (node table : ℕ) (family : Family) (a : ℕ) (e : Entry) (h : Hit) → IsNetwork new → Keeps old
-    → HasNoFault old new → Contains (entries_of (joined_of old new) node table family) e → Holds e.prefix a
+    → HasNoFault old new → new.hidden ≡ [] → Contains (entries_of (joined_of old new) node table family) e → Holds e.prefix a
     → AllHolding (is_of_new old new) (joined_of old new) node table family a → IsBest (joined_of old new) node table family a h
     → SameHit (joined_of old new) new h (lookup_of new node table family a)
-whole_lookups old new node table family a e h rules keeps fine there holds all best =
+whole_lookups old new node table family a e h rules keeps fine whole there holds all best =
     elim (best_entry (joined_of old new) node table family a h best) [
       | inl found ↦
           let p = found.0 in
@@ -338,7 +241,7 @@ whole_lookups old new node table family a e h rules keeps fine there holds all b
           let (k, is, same) = partner old new node table family p h keeps fine
           (entry_means (joined_of old new) node table family (entry_with h p) fits.is_there)
           (all (entry_with h p) fits.is_there fits.holds) in
-          let best_k = best_from new node table family a k p is (partner_is_best old new node table family a h k p keeps fine fits is same) in
+          let best_k = best_from new node table family a k p is (partner_is_best old new node table family a h k p keeps fine whole fits is same) in
           subst (SameHit (joined_of old new) new h)
           (best_is_one new node table family a k (lookup_of new node table family a) rules best_k (lookup_is_best new node table family a)) same
       | inr nothing ↦ absurd (nothing.1 e there holds)
@@ -350,7 +253,7 @@ none_back : (old new : Network) (node table : ℕ) (family : Family) (a : ℕ) (
 none_back old new node table family a k q keeps fine none best =
     let (h, is, own, same) = partner_back old new node table family q k keeps fine
     (entry_means new node table family (entry_with k q) best.is_there) in
-    none (entry_with h q) (entry_is_there (joined_of old new) node table family q h is) own best.holds
+    none (entry_with h q) (entry_is_there (joined_of old new) node table family q h is refl) own best.holds
 
 nothing_new : (old new : Network) (node table : ℕ) (family : Family) (a : ℕ) (k : Hit) → Keeps old → HasNoFault old new
     → NoneShown (shows (is_of_new old new)) a (entries_of (joined_of old new) node table family) → IsBest new node table family a k
@@ -366,10 +269,11 @@ whole_is : (net : Network) (node table : ℕ) (family : Family) (a : ℕ)
 unfolding lookup_of
 whole_is net node table family a = refl
 
-pub new_lookups : (old new : Network) (node table : ℕ) (family : Family) (a : ℕ) → IsNetwork old → IsNetwork new → planning old new ≡ Ok tt
+pub new_lookups : (old new : Network) (node table : ℕ) (family : Family) (a : ℕ) → IsNetwork old → IsNetwork new → new.hidden ≡ []
+    → planning old new ≡ Ok tt
     → SameHit (joined_of old new) new (shown_lookup (is_of_new old new) (joined_of old new) node table family a)
     (lookup_of new node table family a)
-new_lookups old new node table family a rules_old rules_new accepted =
+new_lookups old new node table family a rules_old rules_new whole accepted =
     let joined = joined_of old new in
     let own = is_of_new old new in
     let fine = no_fault old new accepted in
@@ -382,7 +286,7 @@ new_lookups old new node table family a rules_old rules_new accepted =
           let all = all_new old new node table family a e.prefix k fine is found.1.2 in
           subst (λ h. SameHit joined new h (lookup_of new node table family a))
           (sym (ap hit_of (all_is_whole own joined node table family a all) ∙ whole_is joined node table family a))
-          (whole_lookups old new node table family a e (lookup_of joined node table family a) rules_new keeps fine found.1.0 found.1.2 all
+          (whole_lookups old new node table family a e (lookup_of joined node table family a) rules_new keeps fine whole found.1.0 found.1.2 all
           (lookup_is_best joined node table family a))
       | inr none ↦
           subst (λ h. SameHit joined new h (lookup_of new node table family a)) (sym (nothing_shown own joined node table family a none))

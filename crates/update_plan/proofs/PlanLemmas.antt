@@ -88,14 +88,14 @@ pub joined_from : (old new : Network) (rs : List Route) (ts : List (List ℕ)) (
     → rs ≡ old.routes ++ filter (λ r. not (is_new_route old r)) new.routes
     → ts ≡ old.titles ++ filter_map (title_text new.titles) (filter (λ t. not (is_new_sid new old t)) new.sids)
     → ss ≡ old.sids ++ numbered new.titles (length old.titles) (filter (λ t. not (is_new_sid new old t)) new.sids)
-    → record old { routes = rs; titles = ts; sids = ss } ≡ joined_of old new
+    → record old { routes = rs; titles = ts; sids = ss; hidden = [] } ≡ joined_of old new
 joined_from old new rs ts ss e f g =
     let routes = filter_same (λ r. not (is_new_route old r)) (λ r. not (is_old_route old r)) (λ r. ap not (old_is_new_route old r)) new.routes in
     let sids = filter_same (λ t. not (is_new_sid new old t)) (λ t. not (is_old_sid old new t)) (λ t. ap not (old_is_new_sid old new t)) new.sids in
     let all_routes = e ∙ ap (λ l. old.routes ++ l) routes in
     let all_titles = f ∙ ap (λ l. old.titles ++ filter_map (title_text new.titles) l) sids in
     let all_sids = g ∙ ap (λ l. old.sids ++ numbered new.titles (length old.titles) l) sids in
-    λ i. record old { routes = all_routes i; titles = all_titles i; sids = all_sids i }
+    λ i. record old { routes = all_routes i; titles = all_titles i; sids = all_sids i; hidden = [] }
 
 -- ---- the whole
 

@@ -7,7 +7,7 @@ use Rattle.net_model.specs.declared.parts.Node.{Node}
 use Rattle.net_model.specs.declared.parts.Route.{Route}
 use Rattle.net_model.specs.Network.{Network}
 use Rattle.flat_networks.specs.Flat.{address_prefix}
-use Rattle.update_plan.specs.declared.entry.EntryId.TheVariants as ids
+use Rattle.net_model.specs.declared.net.EntryId.TheVariants as ids
 use Rattle.update_plan.specs.declared.entry.PlanEntry.{PlanEntry}
 use Rattle.update_plan.specs.declared.fault.PlanFault.{PlanFault}
 use Rattle.update_plan.specs.declared.fault.PlanFault.TheVariants as faults

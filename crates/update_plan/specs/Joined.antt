@@ -40,10 +40,11 @@ numbered titles n (s ∷ ss) = numbered_beside (title_text titles s) n s (λ m. 
 abbrev pub added_titles : Network → Network → List (List ℕ)
 added_titles old new = filter_map (title_text new.titles) (added_sids old new)
 
--- the titles of added SIDs follow the old ones
+-- the titles of added SIDs follow the old ones; nothing is hidden
 abbrev pub joined_of : Network → Network → Network
 joined_of old new = record old {
   routes = old.routes ++ added_routes old new;
   titles = old.titles ++ added_titles old new;
   sids = old.sids ++ numbered new.titles (length old.titles) (added_sids old new);
+  hidden = [];
 }

@@ -19,8 +19,8 @@ use Rattle.net_model.specs.Network.{Network}
 use Rattle.net_model.specs.Rules.{same_family, has_room}
 use Rattle.net_model.specs.Judging.{title_text, same_text}
 use Rattle.flat_networks.specs.Flat.{address_prefix}
-use Rattle.update_plan.specs.declared.entry.EntryId.{EntryId}
-use Rattle.update_plan.specs.declared.entry.EntryId.TheVariants as ids
+use Rattle.net_model.specs.declared.net.EntryId.{EntryId}
+use Rattle.net_model.specs.declared.net.EntryId.TheVariants as ids
 use Rattle.update_plan.specs.declared.fault.PlanFault.{PlanFault}
 use Rattle.update_plan.specs.declared.fault.PlanFault.TheVariants as faults
 use Rattle.update_plan.specs.Equal.{equal_block, equal_node, equal_link, equal_policy}

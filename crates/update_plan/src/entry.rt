@@ -1,18 +1,8 @@
-//! The entries of a network's tables, by name.
+//! The entries of a description's tables.
 
+use net_model::EntryId;
 use srv6_rules::Family;
 use v6_addr::Prefix;
-
-/// An entry of a description (own rule).
-#[derive(Clone, Copy, Debug, PartialEq, Eq)]
-pub enum EntryId {
-    /// A route, by its number.
-    Route(u32),
-    /// A SID, by its number.
-    Sid(u32),
-    /// A node's own address, by the node's number.
-    Address(u32),
-}
 
 /// An entry of a description, as it is compared with those of another.
 #[derive(Clone, Copy)]

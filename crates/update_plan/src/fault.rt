@@ -2,7 +2,7 @@
 
 ghost use Rattle.std.specs.Prelude.{◌≡◌};
 
-use crate::entry::EntryId;
+use net_model::EntryId;
 use std::alloc::AllocError;
 use text_faults::TableKind;
 

@@ -9,10 +9,10 @@ ghost use Rattle.update_plan.specs.Joined.{is_new_route, is_new_sid};
 ghost use Rattle.update_plan.specs.RouteKeys.{AreNumbered};
 ghost use Rattle.update_plan.specs.Entries.{is_added, entries_from, route_entry, sid_entry, address_entry, entries_of, AreFew};
 
-use crate::entry::{EntryId, PlanEntry};
+use crate::entry::PlanEntry;
 use crate::equal::is_in_both;
 use crate::known_routes::{RouteNumbers, has_equal, number_routes};
-use net_model::{NetParts, Node, Route, whole};
+use net_model::{EntryId, NetParts, Node, Route, whole};
 use srv6_rules::Family;
 use std::alloc::{AllocError, Global};
 

@@ -7,6 +7,7 @@
 //! fault. The functions of `laws` do nothing: their contracts are the laws of those definitions.
 #![tactic(auto)]
 
+mod changes;
 mod conflicts;
 mod differ;
 mod entry;
@@ -19,7 +20,7 @@ mod laws;
 mod limits;
 mod plan;
 
-pub use entry::EntryId;
+pub use changes::removed_entries;
 pub use fault::PlanFault;
 pub use laws::{joined_networks_keep_the_rules, joined_networks_look_up_as_both, own_matches_stay};
 pub use plan::plan_parts;

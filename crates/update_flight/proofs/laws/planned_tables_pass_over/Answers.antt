@@ -5,7 +5,7 @@ pub returns : goal.returns
 returns c =
     record {
       pass = λ old new tables rules accepted shows. passes-over old new tables rules accepted shows;
-      old = λ old new tables node table family a shows. starts-old old new tables node table family a shows;
-      new = λ old new tables node table family a rules new_rules accepted shows.
-          ends-new old new tables node table family a rules new_rules accepted shows;
+      old = λ old new tables node table family a whole shows. starts-old old new tables node table family a whole shows;
+      new = λ old new tables node table family a rules new_rules whole accepted shows.
+          ends-new old new tables node table family a rules new_rules whole accepted shows;
     }

@@ -1,4 +1,5 @@
-use Rattle.update_plan.proofs.LookupLaws.{old_lookups, old_routes, old_sids, new_lookups}
+use Rattle.update_plan.proofs.OldLookups.{old_lookups, hidden_lookups}
+use Rattle.update_plan.proofs.LookupLaws.{old_routes, old_sids, new_lookups}
 use Rattle.update_plan.proofs.laws.joined_networks_look_up_as_both.Goals as goal
 
 pub returns-clause-old : goal.returns-clause-old
@@ -12,3 +13,6 @@ returns-clause-old_sids c = old_sids
 
 pub returns-clause-new : goal.returns-clause-new
 returns-clause-new c = new_lookups
+
+pub returns-clause-hidden : goal.returns-clause-hidden
+returns-clause-hidden c = hidden_lookups

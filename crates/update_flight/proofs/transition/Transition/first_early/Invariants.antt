@@ -6,9 +6,9 @@ use Rattle.update_flight.proofs.transition.Transition.first_early.Given as goal
 abbrev pub invariant-packets : goal.invariant-packets
 invariant-packets l =
     record {
-      is : IsPassed l.self-inside.passed (transition_value l.self-inside.added.now l.self-inside.removed.now l.self-inside.done
+      is : IsPassed l.self-inside.passed (transition_value l.self-inside.added.items l.self-inside.removed.items l.self-inside.done
           l.self-inside.early l.self-inside.packets);
-      same : transition_value l.self-inside.added.now l.self-inside.removed.now l.self-inside.done l.self-inside.early
+      same : transition_value l.self-inside.added.items l.self-inside.removed.items l.self-inside.done l.self-inside.early
           l.self-inside.packets ≡ l.fn.self;
     }
 

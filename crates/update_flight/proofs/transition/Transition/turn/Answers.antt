@@ -8,7 +8,7 @@ use Rattle.update_flight.proofs.transition.Transition.turn.Goals as goal
 pub invariant_of-self : goal.invariant_of-self
 invariant_of-self c =
     let inside = c.self.inside in
-    let t : Transition = transition_value inside.added.now inside.removed.now inside.done inside.early inside.packets in
+    let t : Transition = transition_value inside.added.items inside.removed.items inside.done inside.early inside.packets in
     passed-after c.args.net.now c.args.number inside.passed t c.turn.new.self c.turn.result c.self.invariant
     (subst (λ (u : Transition). IsNumber u.packets.packets c.args.number) (sym c.self.view_is) c.requires.given) c.turn.ensures.turn
 

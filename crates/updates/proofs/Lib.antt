@@ -1,0 +1,7 @@
+pub mod Shown
+pub mod Hideable
+pub mod Between
+pub mod Edits
+pub mod Turns
+pub mod PlanFacts
+pub mod WholeWalks

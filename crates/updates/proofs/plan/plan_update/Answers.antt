@@ -1,0 +1,62 @@
+use Rattle.std.proofs.Common.{◌≡◌, List, Ok, refl, sym, ap, ap₂, ◌∙◌, subst}
+use Rattle.net_model.specs.declared.net.EntryId.{EntryId}
+use Rattle.net_model.specs.Network.{Network, network_of}
+use Rattle.net_model.specs.Rules.{IsNetwork}
+use Rattle.update_plan.specs.Changes.{added_entries, removed_entries}
+use Rattle.update_plan.specs.Joined.{joined_of}
+use Rattle.update_plan.specs.Planning.{planning}
+use Rattle.updates.specs.Update.{AreHideable, ShowsWithout}
+use Rattle.updates.proofs.PlanFacts.{added-by, added-there, plan-is, plan-kept, whole-parts}
+use Rattle.updates.proofs.plan.plan_update.Goals as goal
+
+pub hide_all-requires-clause-there : goal.hide_all-requires-clause-there
+hide_all-requires-clause-there c =
+    let old = c.args.old.now in
+    let new = c.args.new.now in
+    let one : network_of c.parts.result.now ≡ old = whole-parts old (network_of c.parts.result.now) c.parts.ensures refl c.requires.old in
+    let other : network_of c.parts-2.result.now ≡ new = whole-parts new (network_of c.parts-2.result.now) c.parts-2.ensures refl c.requires.new in
+    let parts : network_of c.in_ok-parts.parts ≡ joined_of old new =
+    c.in_ok-parts.ensures.joined ∙ ap₂ joined_of (c.in_ok-copy.ensures ∙ one) other in
+    let added : c.in_ok-added.added.items ≡ added_entries old new =
+    c.in_ok-added.ensures
+    ∙ added-by old new (network_of c.in_ok-parts.parts) c.routes.result c.sids.result parts c.routes.ensures c.sids.ensures in
+    subst (λ (l : List EntryId). AreHideable c.in_ok-net.net l) (sym c.as_slice.ensures.value)
+    (added-there old new c.in_ok-net.net c.in_ok-added.added.items (removed_entries old new) (c.in_ok-net.ensures.ok ∙ parts) added refl)
+
+pub invariant_of-result : goal.invariant_of-result
+invariant_of-result c =
+    let old = c.args.old.now in
+    let new = c.args.new.now in
+    let one : network_of c.parts.result.now ≡ old = whole-parts old (network_of c.parts.result.now) c.parts.ensures refl c.requires.old in
+    let other : network_of c.parts-2.result.now ≡ new = whole-parts new (network_of c.parts-2.result.now) c.parts-2.ensures refl c.requires.new in
+    let third : network_of c.parts-3.result.now ≡ old = whole-parts old (network_of c.parts-3.result.now) c.parts-3.ensures refl c.requires.old in
+    let fourth : network_of c.parts-4.result.now ≡ new = whole-parts new (network_of c.parts-4.result.now) c.parts-4.ensures refl c.requires.new in
+    let copy : network_of c.in_ok-copy.copy ≡ old = c.in_ok-copy.ensures ∙ one in
+    let parts : network_of c.in_ok-parts.parts ≡ joined_of old new = c.in_ok-parts.ensures.joined ∙ ap₂ joined_of copy other in
+    let added : c.in_ok-added.added.items ≡ added_entries old new =
+    c.in_ok-added.ensures
+    ∙ added-by old new (network_of c.in_ok-parts.parts) c.routes.result c.sids.result parts c.routes.ensures c.sids.ensures in
+    let removed : c.in_ok-removed.removed.items ≡ removed_entries old new = c.in_ok-removed.ensures ∙ ap₂ removed_entries third fourth in
+    let accepted : planning old new ≡ Ok tt = sym (ap₂ planning copy other) ∙ c.in_ok-parts.ensures.answer in
+    let shows : ShowsWithout c.hide_all.new.net c.in_ok-added.added.items =
+    subst (ShowsWithout c.hide_all.new.net) c.as_slice.ensures.value c.hide_all.ensures.shows in
+    let rules : IsNetwork c.in_ok-net.net = subst IsNetwork (sym c.in_ok-net.ensures.ok) c.in_ok-parts.ensures.rules in
+    plan-kept old new c.in_ok-net.net c.in_ok-added.added.items c.in_ok-removed.removed.items (c.in_ok-net.ensures.ok ∙ parts) added removed
+    c.hide_all.new.net c.hide_all.ensures.same shows rules c.keeps_rules.ensures.network accepted
+
+pub returns-clause-plan : goal.returns-clause-plan
+returns-clause-plan c =
+    let old = c.args.old.now in
+    let new = c.args.new.now in
+    let one : network_of c.parts.result.now ≡ old = whole-parts old (network_of c.parts.result.now) c.parts.ensures refl c.requires.old in
+    let other : network_of c.parts-2.result.now ≡ new = whole-parts new (network_of c.parts-2.result.now) c.parts-2.ensures refl c.requires.new in
+    let third : network_of c.parts-3.result.now ≡ old = whole-parts old (network_of c.parts-3.result.now) c.parts-3.ensures refl c.requires.old in
+    let fourth : network_of c.parts-4.result.now ≡ new = whole-parts new (network_of c.parts-4.result.now) c.parts-4.ensures refl c.requires.new in
+    let parts : network_of c.in_ok-parts.parts ≡ joined_of old new =
+    c.in_ok-parts.ensures.joined ∙ ap₂ joined_of (c.in_ok-copy.ensures ∙ one) other in
+    let added : c.in_ok-added.added.items ≡ added_entries old new =
+    c.in_ok-added.ensures
+    ∙ added-by old new (network_of c.in_ok-parts.parts) c.routes.result c.sids.result parts c.routes.ensures c.sids.ensures in
+    let removed : c.in_ok-removed.removed.items ≡ removed_entries old new = c.in_ok-removed.ensures ∙ ap₂ removed_entries third fourth in
+    plan-is old new c.in_ok-net.net c.in_ok-added.added.items c.in_ok-removed.removed.items (c.in_ok-net.ensures.ok ∙ parts) added removed
+    c.hide_all.new.net c.hide_all.ensures.same
