@@ -1,11 +1,9 @@
 -- Loops over frames: what is written of those that are done, with what is to be written of the others.
-use Rattle.std.proofs.Common.{◌≡◌, ℕ, List, [], ◌∷◌, ◌++◌, Option, IfSome, refl, sym, ap, subst, ◌∙◌, append_assoc, append-nil}
+use Rattle.std.proofs.Common.{◌≡◌, List, [], ◌∷◌, ◌++◌, Option, IfSome, refl, sym, ap, subst, ◌∙◌, append_assoc, append-nil}
 use Rattle.std.specs.List.{flat_map}
 use Rattle.std.proofs.lemmas.Grind.{flat_map-append}
 use Rattle.pcap_io.specs.declared.frame.Frame.{Frame}
-use Rattle.srx_edge.specs.Sinks.{SinkSeen, sent}
-use Rattle.srx_edge.specs.Steps.{Whole, Memory, Wrote}
-use Rattle.srx_edge.proofs.PublicLaws.{sent_both, cut_whole}
+use Rattle.srx_edge.specs.Steps.{Whole, Memory}
 use Rattle.command_output.specs.declared.halt.Failure.{Failure}
 use Rattle.command_output.specs.declared.halt.Failure.TheVariants as failures
 use Rattle.command_output.specs.Answers.{ending_of_failure}
@@ -13,7 +11,6 @@ use Rattle.command_inputs.specs.Frames.{FramesSeen, FindsFrame}
 use Rattle.command_output.specs.Gathered.{Goes, Pooled}
 use Rattle.command_output.specs.Pieces.{Piece}
 use Rattle.command_output.proofs.PublicLaws.{goes_behind, goes_both, goes_kept, goes_longer, goes_nowhere}
-use Rattle.command_output.proofs.PublicLaws.{wrote_longer, wrote_after}
 
 -- of the frames that were to come some are done, and the others are still to come
 pub record FramesLeft (whole now : FramesSeen) : Type 0 where
@@ -54,43 +51,7 @@ flat-left : {A : Type 0} (f : Frame → List A) (whole now : FramesSeen) (p : Fr
     → flat_map f p.done ++ flat_map f now.frames ≡ flat_map f whole.frames
 flat-left f whole now p = sym (flat_map-append f p.done now.frames) ∙ ap (λ (fs : List Frame). flat_map f fs) (sym p.frames)
 
--- what is written of the frames that are done went out on one sink
-
-pub record FramesTold (f : Frame → List ℕ) (whole now : FramesSeen) (first sink : SinkSeen) : Type 0 where
-  pub left : FramesLeft whole now
-  pub went : sink ≡ sent (flat_map f left.done) first
-
-module _ (f : Frame → List ℕ) (whole old new : FramesSeen) (first mid sink : SinkSeen)
-    (p : FramesTold f whole old first mid) (h : FindsFrame old new) where
-  pub told_one : IfSome new.at (λ frame. sink ≡ sent (f frame) mid) → FramesTold f whole new first sink
-  told_one next = record {
-    left = one_done whole old new p.left h;
-    went = sent_both (flat_map f p.left.done) (f h.frame) first mid sink p.went
-        (at_hand whole old new p.left h (λ frame. sink ≡ sent (f frame) mid) next)
-        ∙ ap (λ (bytes : List ℕ). sent bytes first) (sym (flat_one whole old new p.left h f));
-  }
-
-  pub one_cut : (failure : Failure) → IfSome new.at (λ frame. Wrote (ending_of_failure failure) (f frame) mid sink)
-      → Wrote (ending_of_failure failure) (flat_map f whole.frames) first sink
-  one_cut failure wrote = subst (λ (bytes : List ℕ). Wrote (ending_of_failure failure) bytes first sink)
-      (flat-each whole old new p.left h f)
-      (wrote_longer failure (flat_map f p.left.done ++ f h.frame) (flat_map f new.frames) first sink
-      (wrote_after failure (flat_map f p.left.done) (f h.frame) first mid sink p.went
-      (at_hand whole old new p.left h (λ frame. Wrote (ending_of_failure failure) (f frame) mid sink) wrote)))
-
-pub told_to_the_end : (f : Frame → List ℕ) (whole now : FramesSeen) (first sink : SinkSeen)
-    → FramesTold f whole now first sink → now.frames ≡ [] → sink ≡ sent (flat_map f whole.frames) first
-told_to_the_end f whole now first sink p none =
-    p.went ∙ ap (λ (frames : List Frame). sent (flat_map f frames) first) (frames_done whole now p.left none)
-
--- memory was wanting before the next frame
-pub told_in_part : (f : Frame → List ℕ) (whole now : FramesSeen) (first sink : SinkSeen) → FramesTold f whole now first sink
-    → Wrote Memory (flat_map f whole.frames) first sink
-told_in_part f whole now first sink p = subst (λ (bytes : List ℕ). Wrote Memory bytes first sink) (flat-left f whole now p.left)
-    (wrote_longer failures.NoMemory (flat_map f p.left.done) (flat_map f now.frames) first sink
-    (cut_whole (flat_map f p.left.done) first sink p.went))
-
--- the same of pieces for both sinks, by the pool
+-- the pieces of the frames that are done went out or wait, by the pool
 
 pub record FramesPut (f : Frame → List Piece) (whole now : FramesSeen) (first pool : Pooled) : Type 0 where
   pub left : FramesLeft whole now

@@ -1,9 +1,8 @@
 //! The frames of an input one by one, wherever they come from.
 
-ghost use Rattle.std.specs.Prelude.{◌≡◌, ◌∷◌, [], IfOk, IfSome, List, ℕ};
+ghost use Rattle.std.specs.Prelude.{◌≡◌, IfOk, IfSome, OnOk, List};
 ghost use Rattle.std.specs.List.{flat_map};
 ghost use Rattle.pcap_io.specs.declared.frame.Frame.{Frame as FrameValue};
-ghost use Rattle.srx_edge.specs.Steps.{Wrote};
 ghost use Rattle.command_output.specs.Answers.{ending_of_step};
 ghost use Rattle.command_output.specs.Gathered.{Goes, pooled};
 ghost use Rattle.command_output.specs.Pieces.{Piece};
@@ -41,65 +40,6 @@ pub trait Frames {
         ensures { result ≡ (seen self.now).at };
 }
 
-/// What is written of frames on one sink, frame by frame. (own rule)
-pub trait Tells {
-    /// What holds of those that may be asked.
-    ghost ready: { Self → Type 0 };
-
-    /// The bytes that are written of a frame.
-    ghost lines: { Self → FrameValue → List ℕ };
-
-    /// Writes what is to be written of a frame.
-    fn tell<K: Sink>(
-        &self,
-        alloc: Global,
-        frame: &LentFrame<'_>,
-        sink: &mut K,
-    ) -> Result<(), Failure>
-        requires { ready self.now }
-        ensures { Wrote (ending_of_step result) (lines self.now frame.now)
-            (K.seen sink.old) (K.seen sink.new) };
-}
-
-/// Writes what is to be written of the frame at hand.
-fn tell_at_hand<N: Frames, T: Tells, K: Sink>(
-    alloc: Global,
-    teller: &T,
-    frames: &N,
-    sink: &mut K,
-) -> Result<(), Failure>
-    requires { T.ready teller.now }
-    ensures { IfSome (N.seen frames.now).at (λ frame. Wrote (ending_of_step result)
-        (T.lines teller.now frame) (K.seen sink.old) (K.seen sink.new)) }
-{
-    match frames.frame() {
-        Some(frame) => teller.tell(alloc, &frame, sink),
-        None => Ok(()),
-    }
-}
-
-/// Writes what is to be written of all frames that will come, one after the other, and gives the
-/// refusal of what is after the last, if anything is. (own rule)
-pub fn tell_frames<N: Frames, T: Tells, K: Sink>(
-    alloc: Global,
-    teller: &T,
-    frames: &mut N,
-    sink: &mut K,
-) -> Result<Option<Refusal>, Failure>
-    requires { T.ready teller.now }
-    ensures fault { IfOk result (λ fault. fault ≡ (N.seen frames.old).end) }
-    ensures wrote { Wrote (ending_of_step result)
-        (flat_map (T.lines teller.now) (N.seen frames.old).frames)
-        (K.seen sink.old) (K.seen sink.new) }
-{
-    'frames: loop {
-        match frames.next()? {
-            Found::Frame => tell_at_hand(alloc, teller, frames, sink)?,
-            Found::End(fault) => return Ok(fault),
-        }
-    }
-}
-
 /// What is written of frames by the pool, frame by frame. (own rule)
 pub trait Puts {
     /// What holds of those that may be asked.
@@ -108,17 +48,20 @@ pub trait Puts {
     /// The pieces that are written of a frame.
     ghost pieces: { Self → FrameValue → List Piece };
 
-    /// Writes what is to be written of a frame.
+    /// Writes what is to be written of a frame; of the frames behind it the same is to be written as
+    /// before.
     fn put<O: Sink, E: Sink>(
-        &self,
+        &mut self,
         alloc: Global,
         frame: &LentFrame<'_>,
         pool: &mut Pool,
         out: &mut O,
         err: &mut E,
     ) -> Result<(), Failure>
-        requires { ready self.now }
-        ensures { Goes (ending_of_step result) (pieces self.now frame.now)
+        requires { ready self.old }
+        ensures ready { OnOk result (ready self.new) }
+        ensures same { OnOk result (pieces self.new ≡ pieces self.old) }
+        ensures wrote { Goes (ending_of_step result) (pieces self.old frame.now)
             (pooled pool.old (O.seen out.old) (E.seen err.old))
             (pooled pool.new (O.seen out.new) (E.seen err.new)) };
 }
@@ -126,15 +69,17 @@ pub trait Puts {
 /// Writes what is to be written of the frame at hand, by the pool.
 fn put_at_hand<N: Frames, P: Puts, O: Sink, E: Sink>(
     alloc: Global,
-    puts: &P,
+    puts: &mut P,
     frames: &N,
     pool: &mut Pool,
     out: &mut O,
     err: &mut E,
 ) -> Result<(), Failure>
-    requires { P.ready puts.now }
-    ensures { IfSome (N.seen frames.now).at (λ frame. Goes (ending_of_step result)
-        (P.pieces puts.now frame)
+    requires { P.ready puts.old }
+    ensures ready { OnOk result (P.ready puts.new) }
+    ensures same { OnOk result (P.pieces puts.new ≡ P.pieces puts.old) }
+    ensures wrote { IfSome (N.seen frames.now).at (λ frame. Goes (ending_of_step result)
+        (P.pieces puts.old frame)
         (pooled pool.old (O.seen out.old) (E.seen err.old))
         (pooled pool.new (O.seen out.new) (E.seen err.new))) }
 {
@@ -149,16 +94,16 @@ fn put_at_hand<N: Frames, P: Puts, O: Sink, E: Sink>(
 #[tactic(auto, using(crate::proofs::FrameLoops::put_to_the_end))]
 pub fn put_frames<N: Frames, P: Puts, O: Sink, E: Sink>(
     alloc: Global,
-    puts: &P,
+    puts: &mut P,
     frames: &mut N,
     pool: &mut Pool,
     out: &mut O,
     err: &mut E,
 ) -> Result<Option<Refusal>, Failure>
-    requires { P.ready puts.now }
+    requires { P.ready puts.old }
     ensures fault { IfOk result (λ fault. fault ≡ (N.seen frames.old).end) }
     ensures wrote { Goes (ending_of_step result)
-        (flat_map (P.pieces puts.now) (N.seen frames.old).frames)
+        (flat_map (P.pieces puts.old) (N.seen frames.old).frames)
         (pooled pool.old (O.seen out.old) (E.seen err.old))
         (pooled pool.new (O.seen out.new) (E.seen err.new)) }
 {

@@ -1,6 +1,6 @@
 //! The judgements of a command: its files and its node's name.
 
-ghost use Rattle.std.specs.Prelude.{◌≡◌, ◌<◌, ◌≤◌, IfOk, length};
+ghost use Rattle.std.specs.Prelude.{◌≡◌, ◌<◌, ◌≤◌, [], IfOk, length};
 ghost use Rattle.intent_reader.specs.Rules.{IsIntent};
 ghost use Rattle.list_certificate.specs.Certs.{IsCert};
 ghost use Rattle.list_certificate.specs.Reading.{IsNetworkOf};
@@ -22,15 +22,17 @@ use trace_replay::{Trace, read_trace};
 #[tactic(auto, using(crate::proofs::Judging::texts))]
 fn network_of(alloc: Global, text: &[u8]) -> Result<Net, Halt>
     requires { length text.now ≤ MAX_TEXT_BYTES }
-    ensures { JudgesText network_in text.now result }
+    ensures judged { JudgesText network_in text.now result }
+    ensures whole { IfOk result (λ net. net.hidden ≡ []) }
 {
     Ok(read_net(alloc, text)?)
 }
 
-/// The network that a text describes, as that of a file. (own rule)
+/// The network that a text describes, as that of a file; nothing of it is hidden. (own rule)
 #[tactic(auto, using(crate::proofs::Judging::texts))]
 pub fn network_of_text(alloc: Global, text: &[u8]) -> Result<Net, Halt>
-    ensures { JudgesText network_in text.now result }
+    ensures judged { JudgesText network_in text.now result }
+    ensures whole { IfOk result (λ net. net.hidden ≡ []) }
 {
     if text.len() > MAX_TEXT_BYTES {
         return Err(Halt::Refused(Refusal::TooBig {
@@ -40,10 +42,11 @@ pub fn network_of_text(alloc: Global, text: &[u8]) -> Result<Net, Halt>
     network_of(alloc, text)
 }
 
-/// The network that the file of this name describes. (own rule)
+/// The network that the file of this name describes; nothing of it is hidden. (own rule)
 #[tactic(auto, using(crate::proofs::Judging::files))]
 pub fn network_of_file<F: Files>(alloc: Global, files: &mut F, name: &str) -> Result<Net, Halt>
-    ensures { JudgesFile network_in name.now result (F.seen files.old) (F.seen files.new) }
+    ensures judged { JudgesFile network_in name.now result (F.seen files.old) (F.seen files.new) }
+    ensures whole { IfOk result (λ net. net.hidden ≡ []) }
 {
     let text = files.read(alloc, name, MAX_TEXT_BYTES)?;
     network_of(alloc, text.as_slice())

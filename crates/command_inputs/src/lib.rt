@@ -7,6 +7,7 @@
 #![tactic(auto)]
 
 mod choices;
+pub mod figures;
 mod frames;
 mod input_bytes;
 mod judge;
@@ -15,7 +16,7 @@ mod packets;
 mod sources;
 
 pub use choices::{Picks, choices_of_words, picks_of_words};
-pub use frames::{Found, Frames, Puts, Tells, put_frames, tell_frames};
+pub use frames::{Found, Frames, Puts, put_frames};
 pub use input_bytes::InputBytes;
 pub use judge::{
     cert_of_file, intent_of_file, intent_of_text, network_of_file, network_of_text, node_of_name,

@@ -1,5 +1,5 @@
 -- Which files were asked for, by how far the files were judged.
-use Rattle.std.proofs.Common.{◌≡◌, inl, inr, ℕ, Bool, true, false, List, [], ◌∷◌, ◌++◌, length, Option, None, Some, IfSome, refl, sym, ap, ◌∙◌, append-nil, append_assoc}
+use Rattle.std.proofs.Common.{◌≡◌, inl, ℕ, Bool, true, false, List, [], ◌∷◌, ◌++◌, length, Option, None, Some, IfSome, refl, sym, ap, ◌∙◌, append-nil, append_assoc}
 use Rattle.std.specs.Prelude.{IsSomeAnd, ◌==◌, not}
 use Rattle.srx_edge.specs.FilesRead.{FilesSeen}
 use Rattle.srx_edge.specs.Sources.{SourceSeen}

@@ -8,5 +8,6 @@ pub mod PieceSteps
 pub mod Pooling
 pub mod Standing
 pub mod PublicLaws
+pub mod Wanting
 pub mod Writing
 pub mod PieceBytes

@@ -10,7 +10,7 @@ use Rattle.command_output.specs.declared.halt.Failure.{Failure}
 use Rattle.command_output.specs.declared.halt.Failure.TheVariants as failures
 use Rattle.command_output.specs.declared.limits.TheConstants.{MOST_WAITING}
 use Rattle.command_output.specs.Answers.{ending_of_failure, ending_of_step}
-use Rattle.command_output.specs.Gathered.{gathered, IsShort, InGroups, WroteInGroups, Waiting, none_waits, waiting_pieces, Pooled, Waits, Stands, Goes}
+use Rattle.command_output.specs.Gathered.{gathered, InGroups, WroteInGroups, Waiting, none_waits, waiting_pieces, Pooled, Waits, Goes}
 use Rattle.command_output.specs.Pieces.{Piece, ForOut, ForErr, Which, ToOut, Sinks, Never, bytes_in_order, bytes_for_out, bytes_for_err, gone, WroteAll}
 use Rattle.command_output.proofs.PieceLemmas.{bytes_in_order-append, marked}
 use Rattle.command_output.proofs.Gathering.{in_groups, groups_same, one_group, groups_both, groups_whole, groups_wanting, stopped_then, stopped_longer, stopped_same, stopped_group, stopped_each}

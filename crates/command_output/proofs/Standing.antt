@@ -1,12 +1,12 @@
 -- What stands on the sinks of pieces that went out in groups.
-use Rattle.std.proofs.Common.{◌≡◌, ◌⊎◌, inl, inr, ℕ, List, [], ◌∷◌, ◌++◌, Option, None, Some, refl, sym, ap, ap₂, ◌∙◌, append-nil, append_assoc}
+use Rattle.std.proofs.Common.{◌≡◌, ◌⊎◌, inl, inr, ℕ, List, [], ◌∷◌, ◌++◌, refl, sym, ap, ap₂, ◌∙◌, append-nil, append_assoc}
 use Rattle.std.specs.List.{flat_map}
 use Rattle.std.proofs.lemmas.List.{map-append}
-use Rattle.srx_edge.specs.Sinks.{SinkSeen, sent}
+use Rattle.srx_edge.specs.Sinks.{sent}
 use Rattle.srx_edge.specs.Steps.{How, Failing, Wanting}
 use Rattle.command_output.specs.Gathered.{gathered, InGroups, StandsInOrder}
 use Rattle.command_output.specs.Pieces.{Piece, ForOut, ForErr, Which, ToOut, ToErr, Sinks, Stop, Never, AtFiles, AtInput, At, Elsewhere, bytes_in_order, bytes_for_out, bytes_for_err, gone, left_by}
-use Rattle.command_output.proofs.Gathering.{gone-parts, groups_whole}
+use Rattle.command_output.proofs.Gathering.{gone-parts}
 use Rattle.command_output.proofs.PieceLemmas.{bytes_in_order-append, marked}
 use Rattle.command_output.proofs.Pooling.{for_out-append, for_err-append}
 

@@ -17,7 +17,7 @@ use Rattle.command_output.specs.declared.told.Told.{Told}
 use Rattle.command_output.specs.Lines.{bytes_of_text, refusal_line}
 use Rattle.command_output.specs.Outside.{Outside, outside, AsksForFront, ReadsToEnd, ReadsWhole}
 use Rattle.command_output.specs.Gathered.{InGroups}
-use Rattle.command_output.specs.Pieces.{ForErr, Piece, Output, Sinks, Stop, ending_by, gone, Went}
+use Rattle.command_output.specs.Pieces.{ForErr, Piece, Output, Sinks, Stop, ending_by, gone}
 use Rattle.command_output.specs.Endings.{ending_of_status, OnWhole, OrNothing, LinesLast, Takes}
 use Rattle.command_output.specs.Shape.{Shape, WantedOf, IsOneOf}
 

@@ -1,7 +1,8 @@
 -- What is written is gathered before it goes out: it waits in groups, and of each group what is for `out` goes out before what
 -- is for `err` (own rules).
-use Rattle.std.specs.Prelude.{◌≡◌, ◌≤◌, ℕ, List, [], ◌∷◌, ◌++◌, length, Option}
+use Rattle.std.specs.Prelude.{◌≡◌, ◌≤◌, ◌⊎◌, ℕ, IsTrue, List, [], ◌∷◌, ◌++◌, length, Option, ⊤}
 use Rattle.std.specs.List.{All, flat_map}
+use Rattle.srx_edge.specs.Edge.{next_count}
 use Rattle.srx_edge.specs.Sinks.{SinkSeen, sent}
 use Rattle.srx_edge.specs.Steps.{Ending, Whole, Fault, Memory, How, ending_by as ending_by_how}
 use Rattle.command_output.specs.declared.limits.TheConstants.{MOST_WAITING}
@@ -89,3 +90,18 @@ pub record StandsInOrder (pieces : List Piece) (old new : Sinks) : Type 0 where
   pub of_rest : ahead ++ later ≡ bytes_for_out rest
   pub on_out : new.out.held ≡ (sent (bytes_for_out first ++ ahead) old.out).held
   pub on_err : new.err.held ≡ (sent (bytes_for_err first) old.err).held
+
+-- a step that takes no memory: where memory was wanting, a sink wanted it, which is stopped by that
+
+abbrev pub HasWant : SinkSeen → SinkSeen → Type 0
+HasWant old new = (new.wants ≡ next_count old.wants) × IsTrue new.stopped
+
+abbrev pub WantsInSink : Ending → SinkSeen → SinkSeen → Type 0
+WantsInSink Whole old new = ⊤
+WantsInSink Fault old new = ⊤
+WantsInSink Memory old new = HasWant old new
+
+abbrev pub WantsInSinks : Ending → Sinks → Sinks → Type 0
+WantsInSinks Whole old new = ⊤
+WantsInSinks Fault old new = ⊤
+WantsInSinks Memory old new = HasWant old.out new.out ⊎ HasWant old.err new.err

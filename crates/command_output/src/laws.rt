@@ -3,7 +3,6 @@
 ghost use Rattle.std.specs.Prelude.{◌≡◌, List};
 ghost use Rattle.command_output.specs.Gathered.{InGroups, StandsInOrder};
 ghost use Rattle.command_output.specs.Pieces.{Never, Piece, Sinks, Stop, gone};
-ghost use Rattle.command_output.specs.declared.limits.TheConstants.{MOST_WAITING};
 
 /// However far pieces went out in groups, each sink holds a front of the bytes that are for it, and
 /// where a line stands on `err`, all that comes before it for `out` stands on `out`. Where the call
@@ -13,9 +12,4 @@ pub fn a_line_stands_after_what_comes_before_it()
         InGroups stop pieces old new → StandsInOrder pieces old new }
     ensures whole { (pieces : List Piece) (old new : Sinks) →
         InGroups Never pieces old new → new ≡ gone pieces old }
-{}
-
-/// At most 65,591 bytes wait for each sink. (own rule)
-pub fn what_waits_is_bounded()
-    ensures { MOST_WAITING ≡ 65591 }
 {}

@@ -8,6 +8,7 @@
 //! that writes bytes to a sink.
 #![tactic(auto)]
 
+pub mod figures;
 mod halt;
 pub mod laws;
 mod limits;
@@ -23,7 +24,7 @@ mod verbs;
 
 pub use halt::{Failure, Halt};
 pub use limits::{MAX_INPUT_BYTES, MOST_WAITING};
-pub use lines::{line_of_packet, line_of_refusal, line_of_unread};
+pub use lines::{line_of_refusal, write_packet_line, write_unread_line};
 pub use node_name::NodeName;
 pub use pool::Pool;
 pub use refusal::{Refusal, refusal_of_not_flat};

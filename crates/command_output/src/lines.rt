@@ -1,6 +1,6 @@
 //! The lines on `err`, each with its line feed.
 
-ghost use Rattle.std.specs.Prelude.{◌≡◌, IfOk, string_bytes};
+ghost use Rattle.std.specs.Prelude.{◌≡◌, ◌++◌, IfOk, OnOk, string_bytes};
 ghost use Rattle.command_output.specs.Sent.{IsEnd};
 ghost use Rattle.command_output.specs.Lines.{refusal_line, left_line, delivered_line, dropped_line, stages_line, packet_line, unread_line};
 
@@ -18,67 +18,73 @@ pub fn line_of_refusal(alloc: Global, refusal: &Refusal) -> Result<String, Alloc
     format!(in alloc; "{refusal}\n")
 }
 
-/// The line of a packet that left over a link.
+/// Adds the line of a packet that left over a link.
 #[tactic(auto, unfolding(crate::specs::Lines::left_line))]
-fn line_of_left(alloc: Global, number: u32, link: &Name) -> Result<String, AllocError>
-    ensures { IfOk result (λ line. string_bytes line ≡ left_line number link.now) }
+fn add_left(line: &mut String, number: u32, link: &Name) -> Result<(), AllocError>
+    ensures { OnOk result (string_bytes line.new
+        ≡ string_bytes line.old ++ left_line number link.now) }
 {
-    format!(in alloc; "packet {number}: left {link}\n")
+    write!(line, "packet {number}: left {link}\n")
 }
 
-/// The line of a packet that a node took.
+/// Adds the line of a packet that a node took.
 #[tactic(auto, unfolding(crate::specs::Lines::delivered_line))]
-fn line_of_delivered(alloc: Global, number: u32, node: &Name) -> Result<String, AllocError>
-    ensures { IfOk result (λ line. string_bytes line ≡ delivered_line number node.now) }
+fn add_delivered(line: &mut String, number: u32, node: &Name) -> Result<(), AllocError>
+    ensures { OnOk result (string_bytes line.new
+        ≡ string_bytes line.old ++ delivered_line number node.now) }
 {
-    format!(in alloc; "packet {number}: delivered at {node}\n")
+    write!(line, "packet {number}: delivered at {node}\n")
 }
 
-/// The line of a packet that a node dropped.
+/// Adds the line of a packet that a node dropped.
 #[tactic(auto, unfolding(crate::specs::Lines::dropped_line))]
-fn line_of_dropped(
-    alloc: Global,
+fn add_dropped(
+    line: &mut String,
     number: u32,
     reason: Reason,
     node: &Name,
-) -> Result<String, AllocError>
-    ensures { IfOk result (λ line. string_bytes line ≡ dropped_line number reason node.now) }
+) -> Result<(), AllocError>
+    ensures { OnOk result (string_bytes line.new
+        ≡ string_bytes line.old ++ dropped_line number reason node.now) }
 {
-    format!(in alloc; "packet {number}: dropped {reason} at {node}\n")
+    write!(line, "packet {number}: dropped {reason} at {node}\n")
 }
 
-/// The line of a packet that used all its stages.
+/// Adds the line of a packet that used all its stages.
 #[tactic(auto, unfolding(crate::specs::Lines::stages_line))]
-fn line_of_stages(alloc: Global, number: u32) -> Result<String, AllocError>
-    ensures { IfOk result (λ line. string_bytes line ≡ stages_line number) }
+fn add_stages(line: &mut String, number: u32) -> Result<(), AllocError>
+    ensures { OnOk result (string_bytes line.new ≡ string_bytes line.old ++ stages_line number) }
 {
-    format!(in alloc; "packet {number}: stopped after {MAX_STAGES} stages\n")
+    write!(line, "packet {number}: stopped after {MAX_STAGES} stages\n")
 }
 
-/// The line of a packet that is not read. (own rule)
+/// Writes the line of a packet that is not read, in place of what the text held. (own rule)
 #[tactic(auto, unfolding(crate::specs::Lines::unread_line))]
-pub fn line_of_unread(alloc: Global, number: u32, cause: Unread) -> Result<String, AllocError>
-    ensures { IfOk result (λ line. string_bytes line ≡ unread_line number cause) }
+pub fn write_unread_line(line: &mut String, number: u32, cause: Unread) -> Result<(), AllocError>
+    ensures { OnOk result (string_bytes line.new ≡ unread_line number cause) }
 {
-    format!(in alloc; "packet {number}: not read, {cause}\n")
+    line.clear();
+    write!(line, "packet {number}: not read, {cause}\n")
 }
 
-/// The line of a packet of a number when it ends. (own rule)
-pub fn line_of_packet(
-    alloc: Global,
+/// Writes the line of a packet of a number when it ends, in place of what the text held; a text that
+/// is handed on from packet to packet asks for memory for its longest line alone. (own rule)
+pub fn write_packet_line(
+    line: &mut String,
     net: &Net,
     number: u32,
     ended: &Ended,
-) -> Result<String, AllocError>
+) -> Result<(), AllocError>
     requires { IsEnd net.now ended.now }
-    ensures { IfOk result (λ line. string_bytes line ≡ packet_line net.now number ended.now) }
+    ensures { OnOk result (string_bytes line.new ≡ packet_line net.now number ended.now) }
 {
+    line.clear();
     match ended {
-        Ended::Left { link } => line_of_left(alloc, number, &net.link(*link).name),
-        Ended::Delivered { node } => line_of_delivered(alloc, number, &net.node(*node).name),
+        Ended::Left { link } => add_left(line, number, &net.link(*link).name),
+        Ended::Delivered { node } => add_delivered(line, number, &net.node(*node).name),
         Ended::Dropped { node, reason } => {
-            line_of_dropped(alloc, number, *reason, &net.node(*node).name)
+            add_dropped(line, number, *reason, &net.node(*node).name)
         }
-        Ended::Stages => line_of_stages(alloc, number),
+        Ended::Stages => add_stages(line, number),
     }
 }

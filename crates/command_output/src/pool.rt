@@ -4,7 +4,7 @@ ghost use Rattle.std.specs.Prelude.{◌≡◌, ◌+◌, ◌≤◌, ◌∷◌, []
 ghost use Rattle.std.specs.Bool.{OnTrue};
 ghost use Rattle.pcap_io.specs.Capture.{written_frame_bytes};
 ghost use Rattle.command_output.specs.Answers.{ending_of_step};
-ghost use Rattle.command_output.specs.Gathered.{Goes, none_waits, pooled, waiting_pieces};
+ghost use Rattle.command_output.specs.Gathered.{Goes, WantsInSinks, none_waits, pooled, waiting_pieces};
 ghost use Rattle.command_output.specs.Pieces.{ForErr, ForOut, WroteAll, sinks_of};
 
 use crate::halt::Failure;
@@ -30,11 +30,18 @@ pub struct Pool {
 }
 
 impl Model for Pool {
+    ghost use Rattle.std.specs.Prelude.{◌≤◌};
+    ghost use Rattle.std.specs.Vec.{vec_capacity};
     ghost use Rattle.command_output.specs.Gathered.{Waiting};
+    ghost use Rattle.command_output.specs.declared.limits.TheConstants.{MOST_WAITING};
 
     ghost Value = { Waiting };
 
     ghost view = { λ pool. record { out = pool.out.items; err = pool.err.items } };
+
+    // So no call after the first takes memory.
+    ghost invariant = { λ pool. (MOST_WAITING ≤ vec_capacity pool.out)
+        × (MOST_WAITING ≤ vec_capacity pool.err) };
 }
 
 /// Whether bytes have room beside those that wait.
@@ -62,6 +69,9 @@ impl Pool {
         ensures wrote { WroteAll (ending_of_step result) (waiting_pieces self.old)
             (sinks_of (O.seen out.old) (E.seen err.old))
             (sinks_of (O.seen out.new) (E.seen err.new)) }
+        ensures wants { WantsInSinks (ending_of_step result)
+            (sinks_of (O.seen out.old) (E.seen err.old))
+            (sinks_of (O.seen out.new) (E.seen err.new)) }
         ensures emptied { OnOk result (self.new ≡ none_waits) }
     {
         write_all(out, self.out.as_slice())?;
@@ -84,6 +94,9 @@ impl Pool {
         ensures goes { Goes (ending_of_step result) []
             (pooled self.old (O.seen out.old) (E.seen err.old))
             (pooled self.new (O.seen out.new) (E.seen err.new)) }
+        ensures wants { WantsInSinks (ending_of_step result)
+            (sinks_of (O.seen out.old) (E.seen err.old))
+            (sinks_of (O.seen out.new) (E.seen err.new)) }
         ensures out { OnOk result (length self.new.out + for_out ≤ MOST_WAITING) }
         ensures err { OnOk result (length self.new.err + for_err ≤ MOST_WAITING) }
     {
@@ -101,9 +114,12 @@ impl Pool {
         out: &mut O,
         err: &mut E,
     ) -> Result<(), Failure>
-        ensures { Goes (ending_of_step result) (ForOut bytes.now ∷ [])
+        ensures goes { Goes (ending_of_step result) (ForOut bytes.now ∷ [])
             (pooled self.old (O.seen out.old) (E.seen err.old))
             (pooled self.new (O.seen out.new) (E.seen err.new)) }
+        ensures wants { WantsInSinks (ending_of_step result)
+            (sinks_of (O.seen out.old) (E.seen err.old))
+            (sinks_of (O.seen out.new) (E.seen err.new)) }
     {
         if bytes.len() > MOST_WAITING {
             self.pour(out, err)?;
@@ -121,9 +137,12 @@ impl Pool {
         out: &mut O,
         err: &mut E,
     ) -> Result<(), Failure>
-        ensures { Goes (ending_of_step result) (ForErr bytes.now ∷ [])
+        ensures goes { Goes (ending_of_step result) (ForErr bytes.now ∷ [])
             (pooled self.old (O.seen out.old) (E.seen err.old))
             (pooled self.new (O.seen out.new) (E.seen err.new)) }
+        ensures wants { WantsInSinks (ending_of_step result)
+            (sinks_of (O.seen out.old) (E.seen err.old))
+            (sinks_of (O.seen out.new) (E.seen err.new)) }
     {
         if bytes.len() > MOST_WAITING {
             self.pour(out, err)?;
@@ -145,10 +164,13 @@ impl Pool {
         err: &mut E,
     ) -> Result<(), Failure>
         requires { length packet.now ≤ MAX_PACKET_LEN }
-        ensures { Goes (ending_of_step result)
+        ensures goes { Goes (ending_of_step result)
             (ForOut (written_frame_bytes number micros packet.now) ∷ [])
             (pooled self.old (O.seen out.old) (E.seen err.old))
             (pooled self.new (O.seen out.new) (E.seen err.new)) }
+        ensures wants { WantsInSinks (ending_of_step result)
+            (sinks_of (O.seen out.old) (E.seen err.old))
+            (sinks_of (O.seen out.new) (E.seen err.new)) }
     {
         self.make_room(FRAME_HEAD_LEN + packet.len(), 0, out, err)?;
         write_frame(&mut self.out, number, micros, packet)?;

@@ -2,14 +2,16 @@
 
 ghost use Rattle.srx_edge.specs.Steps.{Wrote};
 ghost use Rattle.command_output.specs.Answers.{ending_of_step};
+ghost use Rattle.command_output.specs.Gathered.{WantsInSink};
 
 use crate::halt::Failure;
 use srx_edge::{Sink, pour};
 
-/// Pours bytes into a sink. (own rule)
+/// Pours bytes into a sink; takes no memory. (own rule)
 #[tactic(auto, using(crate::proofs::Writing::writing))]
 pub fn write_all<O: Sink>(sink: &mut O, bytes: &[u8]) -> Result<(), Failure>
-    ensures { Wrote (ending_of_step result) bytes.now (O.seen sink.old) (O.seen sink.new) }
+    ensures wrote { Wrote (ending_of_step result) bytes.now (O.seen sink.old) (O.seen sink.new) }
+    ensures wants { WantsInSink (ending_of_step result) (O.seen sink.old) (O.seen sink.new) }
 {
     Ok(pour(sink, bytes)?)
 }

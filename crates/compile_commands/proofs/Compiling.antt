@@ -42,23 +42,23 @@ report-is net c values lines numbers are is counts =
     ap₂ (λ (a b : List ℕ). a ++ b) (is ∙ (lines-map values ∙ ap (flat_map container_line) are)) counts
 
 -- a list that was found in a flat network has values
-values-of : (net : Network) (intent : Intent) (c : Compiled) → IsNetwork net → flatness_of net ≡ Ok tt
+values-of : (net : Network) (intent : Intent) (c : Compiled) → IsNetwork net → net.hidden ≡ [] → flatness_of net ≡ Ok tt
     → IsFound (legs_value net intent) net (ListRealizes net intent) (ListExecutes net intent) intent.reduced c → HasValues net c
-values-of net intent c network is_flat found =
+values-of net intent c network whole is_flat found =
     let legal = found.chosen.whole.legal in
-    let flat : IsFlat net = (flatness_ok net).0 (subst (λ (r : Result (Unit {0}) NotFlat). IsOk r) (sym is_flat) refl) in
+    let flat : IsFlat net = (flatness_ok net whole).0 (subst (λ (r : Result (Unit {0}) NotFlat). IsOk r) (sym is_flat) refl) in
     (legal, legal-flat net c.list (flat-lists net network flat) legal)
 
 pub values_kept : (net : Network) (intent : Intent) (c : Compiled) → IsNetwork net → CompileAnswers net intent (Ok c) → HasValues net c
-values_kept net intent c network answers = values-of net intent c network answers.flat answers.found
+values_kept net intent c network answers = values-of net intent c network answers.whole answers.flat answers.found
 
 pub values_long : (net : Network) (intent : Intent) (c : Compiled) → IsNetwork net → CompileAnswers net intent (Err (faults.TooLong c))
     → HasValues net c
-values_long net intent c network answers = values-of net intent c network answers.flat answers.found
+values_long net intent c network answers = values-of net intent c network answers.whole answers.flat answers.found
 
 pub values_over : (net : Network) (intent : Intent) (c : Compiled) → IsNetwork net → CompileAnswers net intent (Err (faults.HopLimit c))
     → HasValues net c
-values_over net intent c network answers = values-of net intent c network answers.flat answers.found
+values_over net intent c network answers = values-of net intent c network answers.whole answers.flat answers.found
 
 -- the SIDs of what was found are SIDs of the network
 

@@ -83,11 +83,11 @@ module _ (net : Network) (intent : Intent) (network : IsNetwork net) (is_intent 
   abbrev v : LegsValue
   v = legs_value net intent
 
-  flat-by : flatness_of net ≡ Ok tt → IsFlat net
-  flat-by is = (flatness_ok net).0 (subst (λ (r : Result (Unit {0}) NotFlat). IsOk r) (sym is) refl)
+  flat-by : net.hidden ≡ [] → flatness_of net ≡ Ok tt → IsFlat net
+  flat-by whole is = (flatness_ok net whole).0 (subst (λ (r : Result (Unit {0}) NotFlat). IsOk r) (sym is) refl)
 
-  laws-of : flatness_of net ≡ Ok tt → KeepsLaws v
-  laws-of is = strict-laws net intent (keeps_from_network net network) (flat-facts net network (flat-by is)) is_intent
+  laws-of : net.hidden ≡ [] → flatness_of net ≡ Ok tt → KeepsLaws v
+  laws-of whole is = strict-laws net intent (keeps_from_network net network) (flat-facts net network (flat-by whole is)) is_intent
 
   -- the text is read as the certificate of the solution
   cert-read : (s : Solution) (comments : List (List ℕ)) (text : List ℕ) → KeepsLaws v → IsSolution v s → All IsComment comments
@@ -101,12 +101,12 @@ module _ (net : Network) (intent : Intent) (network : IsNetwork net) (is_intent 
       rw fits (ap cert_by read)
 
   -- so the verdict is the one that it certifies
-  told-by : (s : Solution) (comments : List (List ℕ)) (text : List ℕ) (verdict : Verdict) (output : Output) → flatness_of net ≡ Ok tt
-      → IsSolution v s → Certifies net intent s verdict → All IsComment comments
+  told-by : (s : Solution) (comments : List (List ℕ)) (text : List ℕ) (verdict : Verdict) (output : Output) → net.hidden ≡ []
+      → flatness_of net ≡ Ok tt → IsSolution v s → Certifies net intent s verdict → All IsComment comments
       → text ≡ lines_text comments ++ spelled net s → length text ≤ MAX_TEXT_BYTES
       → FlatWants net intent (flatness_of net) (Some text) output → output ≡ told_of net verdict
-  told-by s comments text verdict output flat is certifies all parts small wants =
-      let laws = laws-of flat in
+  told-by s comments text verdict output whole flat is certifies all parts small wants =
+      let laws = laws-of whole flat in
       let head : ℕ = 1 + length comments in
       let flat_wants : FlatWants net intent (Ok tt) (Some text) output
       = subst (λ (r : Result (Unit {0}) NotFlat). FlatWants net intent r (Some text) output) flat wants in
@@ -117,18 +117,18 @@ module _ (net : Network) (intent : Intent) (network : IsNetwork net) (is_intent 
       read.2 ∙ ap (told_of net) same
 
   -- and that verdict is wanted
-  told-back : (s : Solution) (comments : List (List ℕ)) (text : List ℕ) (verdict : Verdict) (output : Output) → flatness_of net ≡ Ok tt
-      → IsSolution v s → Certifies net intent s verdict → All IsComment comments
+  told-back : (s : Solution) (comments : List (List ℕ)) (text : List ℕ) (verdict : Verdict) (output : Output) → net.hidden ≡ []
+      → flatness_of net ≡ Ok tt → IsSolution v s → Certifies net intent s verdict → All IsComment comments
       → text ≡ lines_text comments ++ spelled net s → length text ≤ MAX_TEXT_BYTES
       → output ≡ told_of net verdict → FlatWants net intent (flatness_of net) (Some text) output
-  told-back s comments text verdict output flat is certifies all parts small told =
-      let laws = laws-of flat in
+  told-back s comments text verdict output whole flat is certifies all parts small told =
+      let laws = laws-of whole flat in
       let cert : Cert = certificate_of (1 + length comments) s in
       let judges : IsVerdict v cert verdict = certifies (1 + length comments) in
       let says : Says net (ListRealizes net intent) (ListExecutes net intent) verdict
       = says_lists v net (ListRealizes net intent) (ListExecutes net intent) (ListHands net intent)
-      (legs-mean net intent network (flat-by flat) is_intent) cert verdict laws judges in
-      let handing : SaysOfHanding net intent verdict = says-handing net intent network (flat-by flat) is_intent verdict says in
+      (legs-mean net intent network (flat-by whole flat) is_intent) cert verdict laws judges in
+      let handing : SaysOfHanding net intent verdict = says-handing net intent network (flat-by whole flat) is_intent verdict says in
       let wants : CertWants net intent (Ok cert) output = (verdict, record { is = judges; says = says; handing = handing }, told) in
       let read : FlatWants net intent (Ok tt) (Some text) output
       = subst (λ (r : Result Cert Refusal). CertWants net intent r output) (sym (cert-read s comments text laws is all parts small)) wants in
@@ -147,44 +147,44 @@ module _ (net : Network) (intent : Intent) (network : IsNetwork net) (is_intent 
     abbrev Checks : Type 0
     Checks = FlatWants net intent (flatness_of net) (Some (bytes_for_out old.pieces)) output
 
-    list-confirmed : (c : Compiled) (told : List ℕ) (status : Status) → flatness_of net ≡ Ok tt → IsSolution v c.solution
+    list-confirmed : (c : Compiled) (told : List ℕ) (status : Status) → net.hidden ≡ [] → flatness_of net ≡ Ok tt → IsSolution v c.solution
         → Certifies net intent c.solution (Least c.containers c.need) → HasValues net c
         → old ≡ reported (printed net (report_of net c) c.solution) told status
         → Checks ↔ (output ≡ told_of net (Least c.containers c.need))
-    list-confirmed c told status flat is certifies has e =
+    list-confirmed c told status whole flat is certifies has e =
         let all = report-comments net c has in
         let parts = out-is told (report_of net c) status c.solution (report_texts net c) old e (report-lines net c) in
         let text : List ℕ = bytes_for_out old.pieces in
         let verdict : Verdict = Least c.containers c.need in (
-          told-by c.solution (report_texts net c) text verdict output flat is certifies all parts small,
-          told-back c.solution (report_texts net c) text verdict output flat is certifies all parts small,
+          told-by c.solution (report_texts net c) text verdict output whole flat is certifies all parts small,
+          told-back c.solution (report_texts net c) text verdict output whole flat is certifies all parts small,
         )
 
-    none-confirmed : (s : Solution) (told : List ℕ) (status : Status) → flatness_of net ≡ Ok tt → IsSolution v s
+    none-confirmed : (s : Solution) (told : List ℕ) (status : Status) → net.hidden ≡ [] → flatness_of net ≡ Ok tt → IsSolution v s
         → Certifies net intent s NoList → old ≡ reported (printed net no_report s) told status → Checks ↔ (output ≡ told_of net NoList)
-    none-confirmed s told status flat is certifies e =
+    none-confirmed s told status whole flat is certifies e =
         let parts = out-is told no_report status s no_report_texts old e no-report-lines in
         let text : List ℕ = bytes_for_out old.pieces in (
-          told-by s no_report_texts text NoList output flat is certifies no-report-comments parts small,
-          told-back s no_report_texts text NoList output flat is certifies no-report-comments parts small,
+          told-by s no_report_texts text NoList output whole flat is certifies no-report-comments parts small,
+          told-back s no_report_texts text NoList output whole flat is certifies no-report-comments parts small,
         )
 
     confirmed : (answer : Result Compiled CompileFault) → CompileAnswers net intent answer → AnswerWants net intent answer old
         → Checks ↔ ConfirmsAnswer net answer output
     confirmed (Ok c) answers e =
-        list-confirmed c [] statuses.Done answers.flat answers.found.solution
+        list-confirmed c [] statuses.Done answers.whole answers.flat answers.found.solution
         (certifies-answer net intent (Ok c) network is_intent answers) (values_kept net intent c network answers) e
     confirmed (Err (faults.NotFlat why)) answers e =
         let P : Result (Unit {0}) NotFlat → Type 0 = λ r. FlatWants net intent r (Some (bytes_for_out old.pieces)) output in
         (λ wants. subst P answers wants, λ told. subst P (sym answers) told)
     confirmed (Err (faults.NoList s)) answers e =
-        none-confirmed s none_line statuses.NoAnswer answers.flat answers.solution
+        none-confirmed s none_line statuses.NoAnswer answers.whole answers.flat answers.solution
         (certifies-answer net intent (Err (faults.NoList s)) network is_intent answers) e
     confirmed (Err (faults.TooLong c)) answers e =
-        list-confirmed c (too_long_line c.containers) statuses.NoAnswer answers.flat answers.found.solution
+        list-confirmed c (too_long_line c.containers) statuses.NoAnswer answers.whole answers.flat answers.found.solution
         (certifies-answer net intent (Err (faults.TooLong c)) network is_intent answers) (values_long net intent c network answers) e
     confirmed (Err (faults.HopLimit c)) answers e =
-        list-confirmed c (hop_limit_line c.need) statuses.NoAnswer answers.flat answers.found.solution
+        list-confirmed c (hop_limit_line c.need) statuses.NoAnswer answers.whole answers.flat answers.found.solution
         (certifies-answer net intent (Err (faults.HopLimit c)) network is_intent answers) (values_over net intent c network answers) e
     confirmed (Err faults.NoMemory) answers e = absurd e
 

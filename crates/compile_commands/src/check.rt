@@ -1,7 +1,7 @@
 //! The command `check`: the verdict on a certificate for the intent of a file in the network that
 //! another describes.
 
-ghost use Rattle.std.specs.Prelude.{◌≡◌, IfOk};
+ghost use Rattle.std.specs.Prelude.{◌≡◌, [], IfOk};
 ghost use Rattle.intent_reader.specs.Rules.{IsIntent};
 ghost use Rattle.leg_table.specs.Value.{legs_value};
 ghost use Rattle.list_certificate.specs.Certs.{IsCert};
@@ -145,7 +145,8 @@ fn status_of_verdict(verdict: Verdict) -> Status
 /// The legs of the strict steps of an intent, where the network is flat.
 #[tactic(auto, using(crate::proofs::Checking::legs))]
 fn legs_of_flat<'a>(alloc: Global, net: &'a Net, intent: &'a Intent) -> Result<StrictLegs<'a>, Halt>
-    requires { IsIntent net.now intent.now }
+    requires whole { net.now.hidden ≡ [] }
+    requires intent { IsIntent net.now intent.now }
     ensures legs { LegsOf net.now intent.now result }
     ensures known { IsNetworkOf net.now (legs_value net.now intent.now) }
 {

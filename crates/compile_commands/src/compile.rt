@@ -1,6 +1,6 @@
 //! The command `compile`: a list for the intent of a file in the network that another describes.
 
-ghost use Rattle.std.specs.Prelude.{◌≡◌, IfOk, string_bytes};
+ghost use Rattle.std.specs.Prelude.{◌≡◌, [], IfOk, string_bytes};
 ghost use Rattle.std.specs.List.{flat_map};
 ghost use Rattle.net_model.specs.Keeps.{Keeps};
 ghost use Rattle.net_model.specs.Rules.{IsNetwork};
@@ -217,7 +217,8 @@ impl Answer {
     /// What is to be written of an intent in a network: the compiler's answer.
     #[tactic(auto, using(crate::proofs::Compiling::taken))]
     fn of_intent(alloc: Global, net: &Net, intent: &Intent) -> Result<Answer, Halt>
-        requires { IsIntent net.now intent.now }
+        requires whole { net.now.hidden ≡ [] }
+        requires intent { IsIntent net.now intent.now }
         ensures { GivesOf net.now intent.now result }
     {
         net.keeps_rules();

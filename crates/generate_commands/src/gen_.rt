@@ -1,7 +1,7 @@
 //! The command `gen`: the texts of a generated network and of the intent over it, and what the
 //! walks of generated packets through it come to.
 
-ghost use Rattle.std.specs.Prelude.{◌≡◌, IfOk, Some, string_bytes};
+ghost use Rattle.std.specs.Prelude.{◌≡◌, [], IfOk, Some, string_bytes};
 ghost use Rattle.net_maker.specs.Intents.{intent_text};
 ghost use Rattle.net_maker.specs.Networks.{net_text};
 ghost use Rattle.intent_reader.specs.Rules.{IsIntent};
@@ -145,7 +145,8 @@ fn lines_of_summary(alloc: Global, s: &Summary) -> Result<String, AllocError>
 /// What is to be written of an intent in a network.
 #[tactic(auto, using(crate::proofs::Generating::summaries))]
 fn summary_for(alloc: Global, net: &Net, intent: &Intent) -> Result<Generated, Halt>
-    requires { IsIntent net.now intent.now }
+    requires whole { net.now.hidden ≡ [] }
+    requires intent { IsIntent net.now intent.now }
     ensures { Generates (CompiledWants SumWants net.now intent.now) result }
 {
     match summary(alloc, net, intent, PACKETS) {
@@ -188,6 +189,7 @@ fn text_of_intent(alloc: Global, size: Size) -> Result<Vec<u8>, NoMemory>
 /// What is to be written of the generated intent in a network.
 #[tactic(auto, using(crate::proofs::Generating::summaries))]
 fn sum_in(alloc: Global, net: &Net, size: Size) -> Result<Generated, Halt>
+    requires { net.now.hidden ≡ [] }
     ensures { Generates (IntentWants SumWants net.now (intent_in net.now (intent_text size)))
         result }
 {

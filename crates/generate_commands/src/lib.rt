@@ -3,6 +3,7 @@
 //! `specs/Gen.antt` has its words, its shape and its output, and `specs/Summary.antt` the numbers.
 #![tactic(auto)]
 
+pub mod figures;
 mod gen_;
 mod summed;
 mod summing;

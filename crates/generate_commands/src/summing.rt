@@ -18,6 +18,7 @@ use net_model::Net;
 use packet_walk::decisions_of;
 use path_compiler::{CompileFault, Compiled};
 use pcap_io::{LentBody, LentFrame};
+use pkt_buf::PktBuf;
 use run_commands::{Comes, Enters, staged};
 use std::alloc::Global;
 use walk_commands::{Headend, headend_of};
@@ -119,7 +120,8 @@ fn count_packet(alloc: Global, net: &Net, headend: &Headend, k: u32) -> Result<C
     let mut bytes = Vec::new(alloc);
     write_packet(k as u16, &mut bytes)?;
     let frame = LentFrame::new(k, LentBody::V6(bytes.as_slice()));
-    match headend.enter(alloc, &frame)? {
+    let mut buf = PktBuf::of(Vec::new(alloc));
+    match headend.enter(&frame, &mut buf)? {
         Some(comes) => count_walk(alloc, net, comes, &CHOICES),
         None => Ok(Counts { frames: 0, left: 0 }),
     }
@@ -193,6 +195,7 @@ pub fn summary(
     intent: &Intent,
     packets: u32,
 ) -> Result<Summary, CompileFault>
+    requires whole { net.now.hidden ≡ [] }
     requires intent { IsIntent net.now intent.now }
     requires packets { packets ≤ MAX_PACKETS }
     ensures { SummaryAnswers net.now intent.now packets result }

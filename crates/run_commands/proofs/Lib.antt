@@ -5,3 +5,4 @@ pub mod Scheduling
 pub mod Entering
 pub mod Turning
 pub mod Mixing
+pub mod OutAlone

@@ -5,14 +5,15 @@ ghost use Rattle.srv6_rules.specs.Packet.{entered};
 ghost use Rattle.run_commands.specs.AtNode.{entry_at, entry_place};
 
 use crate::enters::{Comes, Enters, Stays};
+use crate::handed_on::refilled;
 use base::NoMemory;
 use command_output::Unread;
 use node_stage::Content;
 use pcap_io::{LentBody, LentFrame};
 use pkt_buf::PktBuf;
+use policy_encap::MAX_FRONT;
 use srv6_rules::Family;
 use srv6_rules::numbers::MAX_PACKET_LEN;
-use std::alloc::Global;
 use walk_rules::{How, Place};
 
 /// A node, at which packets enter. (own rule)
@@ -34,12 +35,12 @@ impl AtNode {
     }
 }
 
-/// A copy of bytes as they enter a node as a packet of a family.
-fn copied(alloc: Global, family: Family, bytes: &[u8]) -> Result<Content, NoMemory>
+/// A copy of bytes in a buffer, with room in front, as they enter a node as a packet of a family.
+fn copied(family: Family, bytes: &[u8], buf: &mut PktBuf) -> Result<Content, NoMemory>
     ensures { IfOk result (λ content. content ≡ entered family bytes.now) }
 {
     let len = MAX_PACKET_LEN.min(bytes.len());
-    let packet = PktBuf::new(alloc, 0, bytes.split_at(len).0)?;
+    let packet = refilled(buf, MAX_FRONT, bytes.split_at(len).0)?;
     Ok(Content::enter_buf(family, packet))
 }
 
@@ -56,7 +57,7 @@ impl Enters for AtNode {
         }
     }
 
-    fn enter(&self, alloc: Global, frame: &LentFrame<'_>) -> Result<Option<Comes>, NoMemory> {
+    fn enter(&self, frame: &LentFrame<'_>, buf: &mut PktBuf) -> Result<Option<Comes>, NoMemory> {
         let (family, bytes) = match frame.body() {
             LentBody::V6(bytes) => (Family::V6, bytes),
             LentBody::V4(bytes) => (Family::V4, bytes),
@@ -64,7 +65,7 @@ impl Enters for AtNode {
         };
         Ok(Some(Comes {
             place: self.place(family),
-            content: copied(alloc, family, bytes)?,
+            content: copied(family, bytes, buf)?,
         }))
     }
 }

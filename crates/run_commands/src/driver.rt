@@ -17,16 +17,17 @@ use crate::put_walk::{put_head, put_walk};
 use crate::scheduled::{Entered, put_turns};
 use base::NoMemory;
 use command_inputs::{Found, Frames, Packets, Puts, put_frames};
-use command_output::{Failure, Pool, Refusal, line_of_packet, line_of_unread};
+use command_output::{Failure, Pool, Refusal, write_packet_line, write_unread_line};
 use net_model::Net;
 use pcap_io::LentFrame;
+use pkt_buf::PktBuf;
 use srx_edge::Sink;
 use std::alloc::Global;
 
-/// Writes the line of a packet that stays.
+/// Writes the line of a packet that stays, in place of what the text held.
 #[tactic(auto, using(command_output::proofs::PublicLaws::going))]
 fn put_stays<O: Sink, E: Sink>(
-    alloc: Global,
+    line: &mut String,
     net: &Net,
     number: u32,
     stays: &Stays,
@@ -40,22 +41,18 @@ fn put_stays<O: Sink, E: Sink>(
         (pooled pool.new (O.seen out.new) (E.seen err.new)) }
 {
     match stays {
-        Stays::NotRead(cause) => {
-            let line = line_of_unread(alloc, number, *cause)?;
-            pool.put_err(line.as_bytes(), out, err)
-        }
-        Stays::Ends(ended) => {
-            let line = line_of_packet(alloc, net, number, ended)?;
-            pool.put_err(line.as_bytes(), out, err)
-        }
+        Stays::NotRead(cause) => write_unread_line(line, number, *cause)?,
+        Stays::Ends(ended) => write_packet_line(line, net, number, ended)?,
     }
+    pool.put_err(line.as_bytes(), out, err)
 }
 
-/// What is written of the packets that stay.
+/// What is written of the packets that stay. The text of a line is handed on to the next.
 #[derive(Drop)]
 struct Staying<'a, W> {
     net: &'a Net,
     enters: &'a W,
+    line: String,
 }
 
 impl<W: Enters> Puts for Staying<'_, W> {
@@ -65,49 +62,62 @@ impl<W: Enters> Puts for Staying<'_, W> {
 
     #[tactic(auto, using(command_output::proofs::PublicLaws::going))]
     fn put<O: Sink, E: Sink>(
-        &self,
-        alloc: Global,
+        &mut self,
+        _alloc: Global,
         frame: &LentFrame<'_>,
         pool: &mut Pool,
         out: &mut O,
         err: &mut E,
     ) -> Result<(), Failure> {
         match self.enters.stays(frame) {
-            Some(stays) => put_stays(alloc, self.net, frame.number(), &stays, pool, out, err),
+            Some(stays) => {
+                let number = frame.number();
+                put_stays(&mut self.line, self.net, number, &stays, pool, out, err)
+            }
             None => Ok(()),
         }
     }
 }
 
-/// Writes what the walk of a packet that enters sends, and then its line.
-fn walk_packet<O: Sink, E: Sink>(
-    alloc: Global,
-    course: &Course<'_>,
-    comes: Comes,
-    number: u32,
-    pool: &mut Pool,
-    out: &mut O,
-    err: &mut E,
-) -> Result<(), Failure>
-    requires place { IsPlace course.now.net.now comes.place }
-    requires choices { 0 < length course.now.choices.now }
-    ensures { Goes (ending_of_step result)
-        (packet_pieces course.now.net.now number
-        (walk_of_comes course.now.net.now course.now.choices.now comes))
-        (pooled pool.old (O.seen out.old) (E.seen err.old))
-        (pooled pool.new (O.seen out.new) (E.seen err.new)) }
-{
-    let ended = put_walk(alloc, course, comes, number, pool, out, err)?;
-    let line = line_of_packet(alloc, course.net, number, &ended)?;
-    pool.put_err(line.as_bytes(), out, err)
-}
-
 /// What is written of the packets that enter, each of which is walked to its end before the next.
-/// No packet is kept in memory after its end.
+/// No packet is kept in memory after its end: its buffer is handed on to the next, and so is the text
+/// of its line.
 #[derive(Drop)]
 struct Walking<'a, W> {
     course: &'a Course<'a>,
     enters: &'a W,
+    buf: PktBuf,
+    line: String,
+}
+
+impl<W: Enters> Walking<'_, W> {
+    /// Writes what the walk of a packet that enters sends, and then its line; the buffer in which it
+    /// stood is handed on.
+    fn walk<O: Sink, E: Sink>(
+        &mut self,
+        alloc: Global,
+        comes: Comes,
+        number: u32,
+        pool: &mut Pool,
+        out: &mut O,
+        err: &mut E,
+    ) -> Result<(), Failure>
+        requires place { IsPlace self.old.course.now.net.now comes.place }
+        requires choices { 0 < length self.old.course.now.choices.now }
+        ensures course { self.new.course ≡ self.old.course }
+        ensures enters { self.new.enters ≡ self.old.enters }
+        ensures wrote { Goes (ending_of_step result)
+            (packet_pieces self.old.course.now.net.now number
+            (walk_of_comes self.old.course.now.net.now self.old.course.now.choices.now comes))
+            (pooled pool.old (O.seen out.old) (E.seen err.old))
+            (pooled pool.new (O.seen out.new) (E.seen err.new)) }
+    {
+        let walked = put_walk(alloc, self.course, comes, number, pool, out, err)?;
+        write_packet_line(&mut self.line, self.course.net, number, &walked.ended)?;
+        pool.put_err(self.line.as_bytes(), out, err)?;
+        self.buf = walked.content.into_bytes();
+        Ok(())
+    }
 }
 
 impl<W: Enters> Puts for Walking<'_, W> {
@@ -120,17 +130,15 @@ impl<W: Enters> Puts for Walking<'_, W> {
 
     #[tactic(auto, using(command_output::proofs::PublicLaws::going))]
     fn put<O: Sink, E: Sink>(
-        &self,
+        &mut self,
         alloc: Global,
         frame: &LentFrame<'_>,
         pool: &mut Pool,
         out: &mut O,
         err: &mut E,
     ) -> Result<(), Failure> {
-        match self.enters.enter(alloc, frame)? {
-            Some(comes) => {
-                walk_packet(alloc, self.course, comes, frame.number(), pool, out, err)
-            }
+        match self.enters.enter(frame, &mut self.buf)? {
+            Some(comes) => self.walk(alloc, comes, frame.number(), pool, out, err),
             None => Ok(()),
         }
     }
@@ -156,7 +164,9 @@ fn enter_at_hand<'a, N: Frames, W: Enters>(
     let Some(frame) = frames.frame() else {
         return Ok(());
     };
-    match enters.enter(alloc, &frame)? {
+    // Each packet in flight keeps its buffer.
+    let mut buf = PktBuf::of(Vec::new(alloc));
+    match enters.enter(&frame, &mut buf)? {
         Some(comes) => entered.enter(frame.number(), comes.content, comes.place, course.choices),
         None => Ok(()),
     }
@@ -212,8 +222,14 @@ fn walk_by_schedule<N: Frames, W: Enters, O: Sink, E: Sink>(
         (pooled pool.new (O.seen out.new) (E.seen err.new)) }
 {
     if course.schedule.is_empty() {
-        let walking = Walking { course, enters };
-        return put_frames(alloc, &walking, frames, pool, out, err);
+        let buf = PktBuf::of(Vec::new(alloc));
+        let mut walking = Walking {
+            course,
+            enters,
+            buf,
+            line: String::new(alloc),
+        };
+        return put_frames(alloc, &mut walking, frames, pool, out, err);
     }
     let (entered, fault) = enter_frames(alloc, course, enters, frames)?;
     put_turns(alloc, course, entered, pool, out, err)?;
@@ -238,11 +254,12 @@ fn put_first<N: Frames, W: Enters, O: Sink, E: Sink>(
         (pooled pool.new (O.seen out.new) (E.seen err.new)) }
 {
     put_head(alloc, pool, out, err)?;
-    let staying = Staying {
+    let mut staying = Staying {
         net: course.net,
         enters,
+        line: String::new(alloc),
     };
-    put_frames(alloc, &staying, frames, pool, out, err)?;
+    put_frames(alloc, &mut staying, frames, pool, out, err)?;
     Ok(())
 }
 

@@ -9,13 +9,17 @@ mod at_node;
 mod course;
 mod driver;
 mod enters;
+mod handed_on;
 pub mod laws;
 mod put_walk;
 pub mod run;
 mod scheduled;
 pub mod show;
+mod silent;
 
 pub use course::Course;
 pub use driver::drive;
 pub use enters::{Comes, Enters, Stays};
+pub use handed_on::refilled;
 pub use put_walk::staged;
+pub use silent::Silent;

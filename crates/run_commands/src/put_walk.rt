@@ -111,6 +111,15 @@ pub fn staged(
     stage(alloc, net, place, content, choice, error)
 }
 
+/// A packet whose walk ended.
+#[derive(Debug, Drop)]
+pub(crate) struct Walked {
+    /// How it ended.
+    pub(crate) ended: Ended,
+    /// What its last stage left.
+    pub(crate) content: Content,
+}
+
 /// Walks a packet from where it enters and writes each of its frames, with its number, and that of
 /// the ICMPv6 error about it, if a node sends one. Decision d takes the choice at d modulo the number
 /// of choices. The walk ends as its last stage does, after at most 10,000 stages. (own rule)
@@ -122,12 +131,12 @@ pub(crate) fn put_walk<O: Sink, E: Sink>(
     pool: &mut Pool,
     out: &mut O,
     err: &mut E,
-) -> Result<Ended, Failure>
+) -> Result<Walked, Failure>
     requires place { IsPlace course.now.net.now comes.place }
     requires choices { 0 < length course.now.choices.now }
-    ensures ended { IfOk result (λ ended. ended ≡ end_of course.now.net.now
+    ensures ended { IfOk result (λ walked. walked.ended ≡ end_of course.now.net.now
         (walk_of_comes course.now.net.now course.now.choices.now comes)) }
-    ensures within { IfOk result (IsEnd course.now.net.now) }
+    ensures within { IfOk result (λ walked. IsEnd course.now.net.now walked.ended) }
     ensures wrote { Goes (ending_of_step result)
         (ForOut (frames_of number
         (walk_of_comes course.now.net.now course.now.choices.now comes)) ∷ [])
@@ -149,8 +158,14 @@ pub(crate) fn put_walk<O: Sink, E: Sink>(
         taken += decisions_of(&outcome);
         match next_place(net, &place, &outcome) {
             Some(next) => place = next,
-            None => return Ok(ended_by(net, &place, &outcome)),
+            None => {
+                let ended = ended_by(net, &place, &outcome);
+                return Ok(Walked { ended, content });
+            }
         }
     }
-    Ok(Ended::Stages)
+    Ok(Walked {
+        ended: Ended::Stages,
+        content,
+    })
 }

@@ -18,7 +18,7 @@ ghost use Rattle.command_output.specs.Sent.{IsEnd};
 use crate::course::Course;
 use crate::put_walk::put_sent;
 use base::NoMemory;
-use command_output::{Failure, Pool, line_of_packet};
+use command_output::{Failure, Pool, write_packet_line};
 use net_model::Net;
 use node_stage::Content;
 use packet_walk::{Flight, Turns};
@@ -125,7 +125,8 @@ fn put_end<O: Sink, E: Sink>(
 {
     match flight.ended(turn.packet) {
         Some(ended) => {
-            let line = line_of_packet(alloc, net, turn.number, &ended)?;
+            let mut line = String::new(alloc);
+            write_packet_line(&mut line, net, turn.number, &ended)?;
             pool.put_err(line.as_bytes(), out, err)
         }
         None => Ok(()),

@@ -1,14 +1,16 @@
 //! The command `show`: the headers of the packets of the input, as lines.
 
-ghost use Rattle.std.specs.Prelude.{◌≡◌, ⊤, IfOk, string_bytes};
+ghost use Rattle.std.specs.Prelude.{◌≡◌, ◌∷◌, [], ⊤, IfOk, string_bytes};
 ghost use Rattle.srx_edge.specs.Steps.{Wrote};
 ghost use Rattle.command_output.specs.Answers.{CommandsOfInput, ending_of_step};
 ghost use Rattle.run_commands.specs.Show.{frame_lines, frames_lines, is_show, not_read_lines, show_shape};
 ghost use Rattle.command_inputs.specs.Packets.{HasHead, fault_of, reading_of};
+ghost use Rattle.command_output.specs.Pieces.{ForOut};
 ghost use Rattle.command_output.specs.Verbs.{words_of};
 
-use command_inputs::{Packets, Tells, packets_of_input, tell_frames};
-use command_output::{Failure, Halt, Refusal, Status, Text, Told, Unread, write_all};
+use crate::silent::Silent;
+use command_inputs::{Packets, Puts, packets_of_input, put_frames};
+use command_output::{Failure, Halt, Pool, Refusal, Status, Text, Told, Unread};
 use header_lines::lines_of_packet;
 use pcap_io::{LentBody, LentFrame};
 use srv6_rules::Family;
@@ -43,28 +45,31 @@ fn lines_of_frame(alloc: Global, frame: &LentFrame<'_>) -> Result<String, AllocE
     }
 }
 
-/// What tells a frame by the headers of its packet.
-struct HeaderTeller;
+/// What is written of a frame by the headers of its packet.
+#[derive(Drop)]
+struct Showing;
 
-impl Tells for HeaderTeller {
+impl Puts for Showing {
     ghost ready = { λ _. ⊤ };
 
-    ghost lines = { λ _ frame. frame_lines frame };
+    ghost pieces = { λ _ frame. ForOut (frame_lines frame) ∷ [] };
 
-    #[tactic(auto, using(command_output::proofs::PublicLaws::writing))]
-    fn tell<K: Sink>(
-        &self,
+    #[tactic(auto, using(command_output::proofs::PublicLaws::going))]
+    fn put<O: Sink, E: Sink>(
+        &mut self,
         alloc: Global,
         frame: &LentFrame<'_>,
-        sink: &mut K,
+        pool: &mut Pool,
+        out: &mut O,
+        err: &mut E,
     ) -> Result<(), Failure> {
         let lines = lines_of_frame(alloc, frame)?;
-        write_all(sink, lines.as_bytes())
+        pool.put_out(lines.as_bytes(), out, err)
     }
 }
 
 /// Writes the lines of the packets of the input, and gives the refusal of what is after the
-/// frames, if anything is.
+/// frames, if anything is. They go out in groups, and nothing waits at the end.
 fn show_packets<O: Sink>(
     alloc: Global,
     packets: &Packets,
@@ -75,8 +80,19 @@ fn show_packets<O: Sink>(
     ensures wrote { Wrote (ending_of_step result) (frames_lines (reading_of packets.now).frames)
         (O.seen out.old) (O.seen out.new) }
 {
+    let mut pool = Pool::new(alloc)?;
     let mut frames = packets.frames();
-    tell_frames(alloc, &HeaderTeller, &mut frames, out)
+    let mut silent = Silent;
+    let fault = put_frames(
+        alloc,
+        &mut Showing,
+        &mut frames,
+        &mut pool,
+        out,
+        &mut silent,
+    )?;
+    pool.pour(out, &mut silent)?;
+    Ok(fault)
 }
 
 /// Shows the headers of the packets of the input, one packet after the other. What is after the

@@ -1,31 +1,34 @@
 //! The command `trace`: the walks of the packets of the input, from a node of the network that a
 //! file describes, as text.
 
-ghost use Rattle.std.specs.Prelude.{◌≡◌, ◌<◌, IfOk, IfSome, Some, length};
+ghost use Rattle.std.specs.Prelude.{◌≡◌, ◌<◌, ◌∷◌, [], IfOk, IfSome, Some, length};
 ghost use Rattle.srv6_rules.specs.Packet.{bytes_of};
 ghost use Rattle.srx_edge.specs.Steps.{Wrote};
 ghost use Rattle.command_output.specs.Answers.{CommandsOut, ending_of_step};
-ghost use Rattle.trace_commands.specs.Trace.{text_of, trace_asked, trace_shape, trace_words, traced_as, traced_of};
+ghost use Rattle.trace_commands.specs.Trace.{text_of, trace_asked, trace_shape, trace_words, traced_as};
 ghost use Rattle.trace_commands.specs.Teller.{MayTell, frame_trace};
+ghost use Rattle.command_output.specs.Gathered.{Goes, pooled};
 ghost use Rattle.command_output.specs.Lines.{line};
+ghost use Rattle.command_output.specs.Pieces.{ForOut};
 ghost use Rattle.command_output.specs.Verbs.{words_of};
 ghost use Rattle.command_inputs.specs.Packets.{HasHead, fault_of, reading_of};
 ghost use Rattle.trace_replay.specs.Lines.{outcome_text, stages_text};
 ghost use Rattle.trace_replay.specs.Numbered.{IsNumbered};
-ghost use Rattle.trace_replay.specs.Written.{packet_trace, packets_trace, trace_head_bytes, trace_end_bytes, walk_trace};
+ghost use Rattle.trace_replay.specs.Written.{packet_trace, trace_head_bytes, trace_end_bytes, walk_trace};
 ghost use Rattle.walk_rules.specs.Relation.{IsPlace};
 ghost use Rattle.walk_rules.specs.Walk.{choice_at};
 
+use base::NoMemory;
 use command_inputs::{
-    Packets, Tells, choices_of_words, network_of_file, node_of_name, packets_of_input, tell_frames,
+    Packets, Puts, choices_of_words, network_of_file, node_of_name, packets_of_input, put_frames,
 };
-use command_output::{Failure, Halt, Refusal, Status, Text, Told, two_words_after, write_all};
+use command_output::{Failure, Halt, Pool, Refusal, Status, Text, Told, two_words_after};
 use icmp6_errors::IcmpSlot;
 use net_model::Net;
 use node_stage::Content;
 use packet_walk::decisions_of;
 use pcap_io::{LentBody, LentFrame};
-use run_commands::staged;
+use run_commands::{Silent, staged};
 use srv6_rules::Family;
 use srx_edge::{Files, Sink, Source};
 use std::alloc::{AllocError, Global};
@@ -62,82 +65,59 @@ pub fn trace_of_words(alloc: Global, words: &[String]) -> Result<Option<TraceWor
 }
 
 /// Writes the first line.
-#[tactic(auto, using(command_output::proofs::PublicLaws::writing))]
-fn write_head<O: Sink>(alloc: Global, out: &mut O) -> Result<(), Failure>
-    ensures { Wrote (ending_of_step result) trace_head_bytes (O.seen out.old) (O.seen out.new) }
+#[tactic(auto, using(command_output::proofs::PublicLaws::going))]
+fn put_head<O: Sink, E: Sink>(
+    alloc: Global,
+    pool: &mut Pool,
+    out: &mut O,
+    err: &mut E,
+) -> Result<(), Failure>
+    ensures { Goes (ending_of_step result) (ForOut trace_head_bytes ∷ [])
+        (pooled pool.old (O.seen out.old) (E.seen err.old))
+        (pooled pool.new (O.seen out.new) (E.seen err.new)) }
 {
     let mut text = Vec::new(alloc);
     print_head(alloc, &mut text)?;
-    write_all(out, text.as_slice())
+    pool.put_out(text.as_slice(), out, err)
 }
 
-/// Writes the line of one stage: its outcome, the packet after it, and the error about a drop.
-#[tactic(auto, using(command_output::proofs::PublicLaws::writing))]
-fn write_event<O: Sink>(
+/// The line of one stage: its outcome, the packet after it, and the error about a drop.
+fn line_of_event(
     alloc: Global,
     net: &Net,
     outcome: &Outcome,
     content: &Content,
     error: &IcmpSlot,
-    out: &mut O,
-) -> Result<(), Failure>
+) -> Result<Vec<u8>, NoMemory>
     requires { IsNumbered net.now outcome.now }
-    ensures { Wrote (ending_of_step result)
-        (line (outcome_text net.now outcome.now (bytes_of content.now) error.now.items))
-        (O.seen out.old) (O.seen out.new) }
+    ensures { IfOk result (λ text. text.items
+        ≡ line (outcome_text net.now outcome.now (bytes_of content.now) error.now.items)) }
 {
     let mut text = Vec::new(alloc);
     let (packet, error) = (content.bytes(), error.as_slice());
     print_event(alloc, net, outcome, packet, error, &mut text)?;
-    write_all(out, text.as_slice())
+    Ok(text)
 }
 
 /// Writes the line of a packet that used all its stages.
-#[tactic(auto, using(command_output::proofs::PublicLaws::writing))]
-fn write_stopped<O: Sink>(alloc: Global, out: &mut O) -> Result<(), Failure>
-    ensures { Wrote (ending_of_step result) (line stages_text) (O.seen out.old) (O.seen out.new) }
+#[tactic(auto, using(command_output::proofs::PublicLaws::going))]
+fn put_stopped<O: Sink, E: Sink>(
+    alloc: Global,
+    pool: &mut Pool,
+    out: &mut O,
+    err: &mut E,
+) -> Result<(), Failure>
+    ensures { Goes (ending_of_step result) (ForOut (line stages_text) ∷ [])
+        (pooled pool.old (O.seen out.old) (E.seen err.old))
+        (pooled pool.new (O.seen out.new) (E.seen err.new)) }
 {
     let mut text = Vec::new(alloc);
     print_stages(alloc, &mut text)?;
-    write_all(out, text.as_slice())
+    pool.put_out(text.as_slice(), out, err)
 }
 
-/// Walks a packet from a place and writes a line for each stage, as it goes. Decision d takes the
-/// choice at d modulo the number of choices. The walk ends as its last stage does; where 10,000
-/// stages had no end, one more line says so.
-fn write_stages<O: Sink>(
-    alloc: Global,
-    net: &Net,
-    start: Place,
-    content: Content,
-    choices: &[u32],
-    out: &mut O,
-) -> Result<(), Failure>
-    requires place { IsPlace net.now start }
-    requires choices { 0 < length choices.now }
-    ensures { Wrote (ending_of_step result)
-        (walk_trace MAX_STAGES net.now (Some start) content (choice_at choices.now) 0)
-        (O.seen out.old) (O.seen out.new) }
-{
-    let mut content = content;
-    let mut place = start;
-    let mut error = IcmpSlot::new();
-    let mut taken = 0;
-    for used in 0..MAX_STAGES {
-        let choice = choices[taken % choices.len()];
-        let outcome = staged(alloc, net, &place, &mut content, choice, &mut error)?;
-        write_event(alloc, net, &outcome, &content, &error, out)?;
-        taken += decisions_of(&outcome);
-        match next_place(net, &place, &outcome) {
-            Some(next) => place = next,
-            None => return Ok(()),
-        }
-    }
-    write_stopped(alloc, out)
-}
-
-/// What tells a frame by the walk of its packet: the network, the node that packets enter at, and
-/// the choices of each walk.
+/// What is written of a frame by the walk of its packet: the network, the node that packets enter at,
+/// and the choices of each walk.
 #[derive(Drop)]
 struct WalkTeller<'a> {
     net: &'a Net,
@@ -145,112 +125,186 @@ struct WalkTeller<'a> {
     choices: &'a [u32],
 }
 
-/// Writes the lines of a packet: its bytes as it enters at the node, and its walk from there.
-#[tactic(auto, using(crate::proofs::TraceSteps::lines))]
-fn trace_packet<O: Sink>(
+/// Walks a packet from a place and writes a line for each stage, as it goes. Decision d takes the
+/// choice at d modulo the number of choices. The walk ends as its last stage does; where 10,000
+/// stages had no end, one more line says so.
+fn put_stages<O: Sink, E: Sink>(
     alloc: Global,
     teller: &WalkTeller<'_>,
+    start: Place,
+    content: Content,
+    pool: &mut Pool,
+    out: &mut O,
+    err: &mut E,
+) -> Result<(), Failure>
+    requires place { IsPlace teller.now.net.now start }
+    requires choices { 0 < length teller.now.choices.now }
+    ensures { Goes (ending_of_step result)
+        (ForOut (walk_trace MAX_STAGES teller.now.net.now (Some start) content
+        (choice_at teller.now.choices.now) 0) ∷ [])
+        (pooled pool.old (O.seen out.old) (E.seen err.old))
+        (pooled pool.new (O.seen out.new) (E.seen err.new)) }
+{
+    let (net, choices) = (teller.net, teller.choices);
+    let mut content = content;
+    let mut place = start;
+    let mut error = IcmpSlot::new();
+    let mut taken = 0;
+    for used in 0..MAX_STAGES {
+        let choice = choices[taken % choices.len()];
+        let outcome = staged(alloc, net, &place, &mut content, choice, &mut error)?;
+        let line = line_of_event(alloc, net, &outcome, &content, &error)?;
+        pool.put_out(line.as_slice(), out, err)?;
+        taken += decisions_of(&outcome);
+        match next_place(net, &place, &outcome) {
+            Some(next) => place = next,
+            None => return Ok(()),
+        }
+    }
+    put_stopped(alloc, pool, out, err)
+}
+
+/// A packet that is traced: its number, and what enters of it as a packet of a family.
+#[derive(Drop)]
+struct Entering {
     number: u32,
     family: Family,
     content: Content,
+}
+
+/// Writes the lines of a packet: its bytes as it enters at the node, and its walk from there.
+#[tactic(auto, using(crate::proofs::TraceSteps::lines))]
+fn put_packet<O: Sink, E: Sink>(
+    alloc: Global,
+    teller: &WalkTeller<'_>,
+    packet: Entering,
+    pool: &mut Pool,
     out: &mut O,
+    err: &mut E,
 ) -> Result<(), Failure>
     requires { MayTell teller.now }
-    ensures { Wrote (ending_of_step result)
-        (packet_trace teller.now.net.now
-        (traced_as teller.now.node teller.now.choices.now number family content))
-        (O.seen out.old) (O.seen out.new) }
+    ensures { Goes (ending_of_step result)
+        (ForOut (packet_trace teller.now.net.now
+        (traced_as teller.now.node teller.now.choices.now packet.number packet.family
+        packet.content)) ∷ [])
+        (pooled pool.old (O.seen out.old) (E.seen err.old))
+        (pooled pool.new (O.seen out.new) (E.seen err.new)) }
 {
     let (net, node) = (teller.net, teller.node);
+    let Entering {
+        number,
+        family,
+        content,
+    } = packet;
     let mut text = Vec::new(alloc);
     print_packet(alloc, net, number, family, node, content.bytes(), &mut text)?;
-    write_all(out, text.as_slice())?;
+    pool.put_out(text.as_slice(), out, err)?;
     let place = Place {
         node,
         how: How::Arrived { table: 0 },
         family,
     };
-    write_stages(alloc, net, place, content, teller.choices, out)
+    put_stages(alloc, teller, place, content, pool, out, err)
 }
 
-impl Tells for WalkTeller<'_> {
+impl Puts for WalkTeller<'_> {
     ghost ready = { MayTell };
 
-    ghost lines = { frame_trace };
+    ghost pieces = { λ teller frame. ForOut (frame_trace teller frame) ∷ [] };
 
     #[tactic(auto, using(crate::proofs::TraceSteps::packet))]
-    fn tell<K: Sink>(
-        &self,
+    fn put<O: Sink, E: Sink>(
+        &mut self,
         alloc: Global,
         frame: &LentFrame<'_>,
-        sink: &mut K,
+        pool: &mut Pool,
+        out: &mut O,
+        err: &mut E,
     ) -> Result<(), Failure> {
+        let number = frame.number();
         let (family, bytes) = match frame.body() {
             LentBody::V6(bytes) => (Family::V6, bytes),
             LentBody::V4(bytes) => (Family::V4, bytes),
             LentBody::ShortFrame | LentBody::NotIp => return Ok(()),
         };
         let content = Content::enter(family, bytes.to_vec(alloc)?);
-        trace_packet(alloc, self, frame.number(), family, content, sink)
+        let packet = Entering {
+            number,
+            family,
+            content,
+        };
+        put_packet(alloc, self, packet, pool, out, err)
     }
 }
 
-/// Writes the lines of the packets of the input, and gives the refusal of what is after the
-/// frames, if anything is.
-fn trace_packets<O: Sink>(
-    alloc: Global,
-    teller: &WalkTeller<'_>,
-    packets: &Packets,
-    out: &mut O,
-) -> Result<Option<Refusal>, Failure>
-    requires teller { MayTell teller.now }
-    requires head { HasHead packets.now }
-    ensures fault { IfOk result (λ fault. fault ≡ fault_of (reading_of packets.now)) }
-    ensures wrote { Wrote (ending_of_step result)
-        (packets_trace teller.now.net.now
-        (traced_of teller.now.node teller.now.choices.now (reading_of packets.now).frames))
-        (O.seen out.old) (O.seen out.new) }
-{
-    let mut frames = packets.frames();
-    tell_frames(alloc, teller, &mut frames, out)
-}
-
 /// Writes the last line.
-#[tactic(auto, using(command_output::proofs::PublicLaws::writing))]
-fn write_end<O: Sink>(alloc: Global, out: &mut O) -> Result<(), Failure>
-    ensures { Wrote (ending_of_step result) trace_end_bytes (O.seen out.old) (O.seen out.new) }
+#[tactic(auto, using(command_output::proofs::PublicLaws::going))]
+fn put_end<O: Sink, E: Sink>(
+    alloc: Global,
+    pool: &mut Pool,
+    out: &mut O,
+    err: &mut E,
+) -> Result<(), Failure>
+    ensures { Goes (ending_of_step result) (ForOut trace_end_bytes ∷ [])
+        (pooled pool.old (O.seen out.old) (E.seen err.old))
+        (pooled pool.new (O.seen out.new) (E.seen err.new)) }
 {
     let mut text = Vec::new(alloc);
     print_end(alloc, &mut text)?;
-    write_all(out, text.as_slice())
+    pool.put_out(text.as_slice(), out, err)
 }
 
 /// Writes the trace, which has its last line where nothing that is refused follows the frames, and
 /// gives the refusal of what is after them, if anything is.
-#[tactic(auto, using(crate::proofs::TraceSteps::texts))]
-fn write_trace<O: Sink>(
+fn put_trace<O: Sink, E: Sink>(
     alloc: Global,
-    teller: &WalkTeller<'_>,
+    teller: &mut WalkTeller<'_>,
     packets: &Packets,
+    pool: &mut Pool,
     out: &mut O,
+    err: &mut E,
 ) -> Result<Option<Refusal>, Failure>
-    requires teller { MayTell teller.now }
+    requires teller { MayTell teller.old }
     requires head { HasHead packets.now }
     ensures fault { IfOk result (λ fault. fault ≡ fault_of (reading_of packets.now)) }
-    ensures wrote { Wrote (ending_of_step result)
-        (text_of teller.now.net.now teller.now.node teller.now.choices.now
-        (reading_of packets.now))
-        (O.seen out.old) (O.seen out.new) }
+    ensures wrote { Goes (ending_of_step result)
+        (ForOut (text_of teller.old.net.now teller.old.node teller.old.choices.now
+        (reading_of packets.now)) ∷ [])
+        (pooled pool.old (O.seen out.old) (E.seen err.old))
+        (pooled pool.new (O.seen out.new) (E.seen err.new)) }
 {
-    write_head(alloc, out)?;
-    let fault = trace_packets(alloc, teller, packets, out)?;
+    put_head(alloc, pool, out, err)?;
+    let mut frames = packets.frames();
+    let fault = put_frames(alloc, teller, &mut frames, pool, out, err)?;
     match fault {
         Some(refusal) => Ok(Some(refusal)),
         None => {
-            write_end(alloc, out)?;
+            put_end(alloc, pool, out, err)?;
             Ok(None)
         }
     }
+}
+
+/// Writes the same for `out` alone. It goes out in groups, and nothing waits at the end.
+fn write_trace<O: Sink>(
+    alloc: Global,
+    teller: &mut WalkTeller<'_>,
+    packets: &Packets,
+    out: &mut O,
+) -> Result<Option<Refusal>, Failure>
+    requires teller { MayTell teller.old }
+    requires head { HasHead packets.now }
+    ensures fault { IfOk result (λ fault. fault ≡ fault_of (reading_of packets.now)) }
+    ensures wrote { Wrote (ending_of_step result)
+        (text_of teller.old.net.now teller.old.node teller.old.choices.now
+        (reading_of packets.now))
+        (O.seen out.old) (O.seen out.new) }
+{
+    let mut pool = Pool::new(alloc)?;
+    let mut silent = Silent;
+    let fault = put_trace(alloc, teller, packets, &mut pool, out, &mut silent)?;
+    pool.pour(out, &mut silent)?;
+    Ok(fault)
 }
 
 /// Writes the walks of the packets of the input, one after the other, from a node of the network
@@ -275,12 +329,12 @@ pub fn trace<F: Files, S: Source, O: Sink>(
     let net = network_of_file(alloc, files, file)?;
     let node = node_of_name(&net, node)?;
     let packets = packets_of_input(alloc, input)?;
-    let teller = WalkTeller {
+    let mut teller = WalkTeller {
         net: &net,
         node,
         choices,
     };
-    match write_trace(alloc, &teller, &packets, out)? {
+    match write_trace(alloc, &mut teller, &packets, out)? {
         Some(refusal) => Err(Halt::Refused(refusal)),
         None => Ok(Told {
             line: Text::Fixed(b""),

@@ -18,11 +18,10 @@ use command_output::Unread;
 use node_stage::Content;
 use pcap_io::{LentBody, LentFrame};
 use pkt_buf::PktBuf;
-use policy_encap::{EncapFault, encap, encap_fault};
-use run_commands::{Comes, Enters, Stays};
+use policy_encap::{EncapFault, MAX_FRONT, encap, encap_fault};
+use run_commands::{Comes, Enters, Stays, refilled};
 use srv6_rules::numbers::{IPV6_HEADER_LEN, SEGMENT_LEN, SEGMENT_LIST_AT};
 use srv6_rules::{Family, Policy, Reason};
-use std::alloc::Global;
 use walk_rules::{Ended, How, Place};
 
 /// The headend of an intent, where inner packets enter. (RFC 8986 sections 5.1 and 5.2)
@@ -104,24 +103,27 @@ impl Headend {
         }
     }
 
-    /// The outer packet round an inner one, if it can be encapsulated.
-    fn encapsulated(&self, alloc: Global, packet: &[u8]) -> Result<Option<Comes>, NoMemory>
+    /// The outer packet round an inner one, if it can be encapsulated, in a buffer that is handed in.
+    fn encapsulated(&self, packet: &[u8], buf: &mut PktBuf) -> Result<Option<Comes>, NoMemory>
         requires policy { IsPolicy self.now.policy }
         requires packet { HoldsInner self.now.inner packet.now }
         requires short { length packet.now ≤ most_len }
         ensures { IfOk result (λ comes. comes ≡ comes_of (entry_alone self.now packet.now)) }
     {
-        // The policy's header fits in front, in either form.
-        let front = IPV6_HEADER_LEN
+        // The policy's header fits in front, in either form, and the longest one in front of that.
+        let header = IPV6_HEADER_LEN
             + SEGMENT_LIST_AT
             + SEGMENT_LEN * self.policy.segments.as_slice().len();
-        let mut buf = PktBuf::new(alloc, front, packet)?;
-        match encap(&self.policy, self.inner, &mut buf) {
+        let mut outer = refilled(buf, header + MAX_FRONT, packet)?;
+        match encap(&self.policy, self.inner, &mut outer) {
             Ok(()) => Ok(Some(Comes {
                 place: self.place(),
-                content: Content::enter_buf(Family::V6, buf),
+                content: Content::enter_buf(Family::V6, outer),
             })),
-            Err(EncapFault::InnerHop | EncapFault::TooBig { .. }) => Ok(None),
+            Err(EncapFault::InnerHop | EncapFault::TooBig { .. }) => {
+                *buf = outer;
+                Ok(None)
+            }
             Err(EncapFault::NoMemory) => Err(NoMemory),
         }
     }
@@ -139,9 +141,9 @@ impl Enters for Headend {
         }
     }
 
-    fn enter(&self, alloc: Global, frame: &LentFrame<'_>) -> Result<Option<Comes>, NoMemory> {
+    fn enter(&self, frame: &LentFrame<'_>, buf: &mut PktBuf) -> Result<Option<Comes>, NoMemory> {
         match self.inner_in(frame.body()) {
-            Ok(packet) => self.encapsulated(alloc, packet),
+            Ok(packet) => self.encapsulated(packet, buf),
             Err(_) => Ok(None),
         }
     }

@@ -1,6 +1,6 @@
 //! How a walk starts: with the list that an intent is compiled to, as the policy of its headend.
 
-ghost use Rattle.std.specs.Prelude.{◌≡◌, ◌<◌, ◌^◌, IfOk};
+ghost use Rattle.std.specs.Prelude.{◌≡◌, ◌<◌, ◌^◌, [], IfOk};
 ghost use Rattle.intent_reader.specs.Rules.{IsIntent};
 ghost use Rattle.compile_commands.specs.Compile.{HasValues};
 ghost use Rattle.walk_commands.specs.Walk.{StartsAs, headend_of, policy_of};
@@ -68,7 +68,8 @@ pub fn headend_of(
 /// How a walk starts for an intent: with the list that it is compiled to, if there is one.
 #[tactic(auto, using(compile_commands::proofs::PublicLaws::valued))]
 pub(crate) fn start_of_intent(alloc: Global, net: &Net, intent: &Intent) -> Result<Start, Halt>
-    requires { IsIntent net.now intent.now }
+    requires whole { net.now.hidden ≡ [] }
+    requires intent { IsIntent net.now intent.now }
     ensures { StartsAs net.now intent.now result }
 {
     net.keeps_rules();

@@ -4,8 +4,8 @@ use Rattle.command_inputs.specs.Judgements.{network_in}
 use Rattle.command_inputs.proofs.Judging.{judged_file}
 use Rattle.command_inputs.proofs.judge.network_of_file.Goals as goal
 
-pub returns : goal.returns
-returns g c =
+pub returns-clause-judged : goal.returns-clause-judged
+returns-clause-judged g c =
     judged_file network_in c.network_of.result c.in_ok-text.text.items c.args.name.now (g.F.Files.seen c.args.files.now)
     (g.F.Files.seen c.read.new.self) c.in_ok-text.ensures.1 c.in_ok-text.ensures.2
-    (subst (λ (text : List ℕ). JudgesText network_in text c.network_of.result) c.as_slice.ensures.value c.network_of.ensures)
+    (subst (λ (text : List ℕ). JudgesText network_in text c.network_of.result) c.as_slice.ensures.value c.network_of.ensures.judged)

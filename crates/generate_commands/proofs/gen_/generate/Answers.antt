@@ -17,13 +17,13 @@ returns-in_err-write_all-in-Report g c =
     c.from_residual-in_err-write_all-in-Report.ensures.1 in
     rw (p.1, p.2) (λ (files : FilesSeen) (input : SourceSeen). gen_cut c.args.size c.args.made files input c.in-Report.text
     (rw c.in-Report.is at c.in_ok-text.ensures) (g.O.Sink.seen c.args.out.now) (g.O.Sink.seen c.write_all.new.sink)
-    c.in_err-write_all-in-Report.field-0.0 (rw c.as_bytes.ensures at c.in_err-write_all-in-Report.ensures))
+    c.in_err-write_all-in-Report.field-0.0 (rw c.as_bytes.ensures at c.in_err-write_all-in-Report.ensures.wrote))
 
 pub returns-in_ok-write_all-in-Report : goal.returns-in_ok-write_all-in-Report
 returns-in_ok-write_all-in-Report g c =
     λ (files : FilesSeen) (input : SourceSeen). gen_done c.args.size c.args.made files input c.in-Report.text
     (rw c.in-Report.is at c.in_ok-text.ensures) (g.O.Sink.seen c.args.out.now) (g.O.Sink.seen c.write_all.new.sink)
-    _ refl refl (rw c.as_bytes.ensures at c.in_ok-write_all-in-Report.ensures)
+    _ refl refl (rw c.as_bytes.ensures at c.in_ok-write_all-in-Report.ensures.wrote)
 
 pub returns-in-NoList : goal.returns-in-NoList
 returns-in-NoList g c =

@@ -5,4 +5,4 @@ use Rattle.run_commands.proofs.at_node.copied.Goals as goal
 
 pub returns : goal.returns
 returns c = c.enter_buf.ensures ∙ entered-cut c.args.family c.args.bytes.now c.in_ok-packet.packet.bytes c.min-len.result
-    c.min-len.ensures (ap (λ (b : Buffer). b.bytes) c.in_ok-packet.ensures ∙ c.split_at.ensures.front)
+    c.min-len.ensures (ap (λ (b : Buffer). b.bytes) c.in_ok-packet.ensures.filled ∙ c.split_at.ensures.front)

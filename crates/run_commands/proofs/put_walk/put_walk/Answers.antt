@@ -78,7 +78,7 @@ returns-in-None-clause-ended g c =
     (choice_at c.args.course.now.choices.now) c.loop-used.taken gave _ _ _ later
     left c.in_ok-outcome.ensures.function c.loop-used.invariant.progress (sym c.in-None.ensures)
     (c.in_ok-put_sent.ensures c.staged.new.content step.error tells c.bytes-packet.ensures (c.as_slice-told.ensures.value ∙ slot)) in
-    c.ended_by.ensures ∙ last.1
+    c.ended_by-ended.ensures ∙ last.1
 
 pub returns-in-None-clause-wrote : goal.returns-in-None-clause-wrote
 returns-in-None-clause-wrote g c =

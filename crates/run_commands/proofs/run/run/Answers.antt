@@ -1,5 +1,5 @@
 -- What `run` leaves, by where it ends.
-use Rattle.std.proofs.Common.{◌≡◌, inl, inr, ℕ, true, false, List, [], ◌∷◌, Option, None, Some, IfSome, Ok, Err, refl, sym, ap, ◌∙◌, subst}
+use Rattle.std.proofs.Common.{◌≡◌, inl, inr, ℕ, true, false, List, [], ◌∷◌, Option, None, Some, IfSome, Ok, Err, refl, sym, ◌∙◌, subst}
 use Rattle.std.specs.Prelude.{IsSomeAnd}
 use Rattle.srx_edge.specs.Edge.{file_named}
 use Rattle.srx_edge.specs.FilesRead.{FilesSeen, asked_for}
@@ -205,7 +205,7 @@ returns-in_err-net g c =
     rw (p.1, p.2) (run_halted_at_file c.args.file.now c.args.node.now c.args.choices.now c.args.schedule.now _ _ (g.S.Source.seen c.args.input.now)
     (g.S.Source.seen c.args.input.now)
     (g.O.Sink.seen c.args.out.now) (g.E.Sink.seen c.args.err.now)
-    c.in_err-net.field-0.0 c.in_err-net.ensures)
+    c.in_err-net.field-0.0 c.in_err-net.ensures.judged)
 
 pub returns-in_err-node : goal.returns-in_err-node
 returns-in_err-node g c =
@@ -213,14 +213,14 @@ returns-in_err-node g c =
     rw (p.1, p.2) (run_halted_at_node c.args.file.now c.args.node.now c.args.choices.now c.args.schedule.now _ _ (g.S.Source.seen c.args.input.now)
     (g.S.Source.seen c.args.input.now)
     (g.O.Sink.seen c.args.out.now) (g.E.Sink.seen c.args.err.now)
-    c.in_ok-net.net c.in_ok-net.ensures c.in_err-node.field-0.0 (sym c.in_err-node.ensures.judged))
+    c.in_ok-net.net c.in_ok-net.ensures.judged c.in_err-node.field-0.0 (sym c.in_err-node.ensures.judged))
 
 pub returns-in_err-packets : goal.returns-in_err-packets
 returns-in_err-packets g c =
     let p = err_from_is_err_and c.from_residual-in_err-packets.result c.from_residual-in_err-packets.ensures.1 in
     rw (p.1, p.2) (run_halted_at_input c.args.file.now c.args.node.now c.args.choices.now c.args.schedule.now _ _ _ _ (g.O.Sink.seen c.args.out.now)
     (g.E.Sink.seen c.args.err.now)
-    c.in_ok-net.net c.in_ok-net.ensures c.in_ok-node.node (sym c.in_ok-node.ensures.judged)
+    c.in_ok-net.net c.in_ok-net.ensures.judged c.in_ok-node.node (sym c.in_ok-node.ensures.judged)
     c.in_err-packets.field-0.0 c.in_err-packets.ensures.judged)
 
 pub returns-in_err-refusal : goal.returns-in_err-refusal
@@ -228,20 +228,20 @@ returns-in_err-refusal g c =
     let p = err_from_is_err_and c.from_residual-in_err-refusal.result c.from_residual-in_err-refusal.ensures.1 in
     rw (p.1, p.2) (run_halted_at_pieces c.args.file.now c.args.node.now c.args.choices.now c.args.schedule.now _ _ _ _ (g.O.Sink.seen c.args.out.now)
     (g.E.Sink.seen c.args.err.now)
-    c.in_ok-net.net c.in_ok-net.ensures c.in_ok-node.node (sym c.in_ok-node.ensures.judged) c.in_ok-packets.packets
+    c.in_ok-net.net c.in_ok-net.ensures.judged c.in_ok-node.node (sym c.in_ok-node.ensures.judged) c.in_ok-packets.packets
     c.in_ok-packets.ensures.judged (g.O.Sink.seen c.drive.new.out) (g.E.Sink.seen c.drive.new.err)
     c.in_err-refusal.field-0.0 c.in_err-refusal.ensures.wrote)
 
 pub returns-in-Some : goal.returns-in-Some
 returns-in-Some g c = run_refused c.args.file.now c.args.node.now c.args.choices.now c.args.schedule.now _ _ _ _ (g.O.Sink.seen c.args.out.now)
     (g.E.Sink.seen c.args.err.now)
-    c.in_ok-net.net c.in_ok-net.ensures c.in_ok-node.node (sym c.in_ok-node.ensures.judged) c.in_ok-packets.packets
+    c.in_ok-net.net c.in_ok-net.ensures.judged c.in_ok-node.node (sym c.in_ok-node.ensures.judged) c.in_ok-packets.packets
     c.in_ok-packets.ensures.judged (g.O.Sink.seen c.drive.new.out) (g.E.Sink.seen c.drive.new.err)
     c.in-Some.refusal (sym c.in-Some.is ∙ c.in_ok-refusal.ensures.fault) c.in_ok-refusal.ensures.wrote
 
 pub returns : goal.returns
 returns g c = run_done c.args.file.now c.args.node.now c.args.choices.now c.args.schedule.now _ _ _ _ (g.O.Sink.seen c.args.out.now)
     (g.E.Sink.seen c.args.err.now)
-    c.in_ok-net.net c.in_ok-net.ensures c.in_ok-node.node (sym c.in_ok-node.ensures.judged) c.in_ok-packets.packets
+    c.in_ok-net.net c.in_ok-net.ensures.judged c.in_ok-node.node (sym c.in_ok-node.ensures.judged) c.in_ok-packets.packets
     c.in_ok-packets.ensures.judged (g.O.Sink.seen c.drive.new.out) (g.E.Sink.seen c.drive.new.err)
     _ (sym c.in-None.is ∙ c.in_ok-refusal.ensures.fault) refl refl c.in_ok-refusal.ensures.wrote

@@ -187,33 +187,33 @@ pub returns-in_err-net : goal.returns-in_err-net
 returns-in_err-net g c =
     let p = err_from_is_err_and c.from_residual.result c.from_residual.ensures.1 in
     rw (p.1, p.2) (replay_halted_at_file c.args.file.now c.args.trace.now _ _ (g.O.Sink.seen c.args.out.now)
-    c.in_err-net.field-0.0 c.in_err-net.ensures)
+    c.in_err-net.field-0.0 c.in_err-net.ensures.judged)
 
 pub returns-in_err-trace : goal.returns-in_err-trace
 returns-in_err-trace g c =
     let p = err_from_is_err_and c.from_residual-in_err-trace.result c.from_residual-in_err-trace.ensures.1 in
     rw (p.1, p.2) (replay_halted_at_trace c.args.file.now c.args.trace.now _ _ _
     (g.O.Sink.seen c.args.out.now) (g.O.Sink.seen c.args.out.now)
-    c.in_ok-net.net c.in_ok-net.ensures c.in_err-trace.field-0.0 c.in_err-trace.ensures.judged)
+    c.in_ok-net.net c.in_ok-net.ensures.judged c.in_err-trace.field-0.0 c.in_err-trace.ensures.judged)
 
 pub returns-in_err-judgement : goal.returns-in_err-judgement
 returns-in_err-judgement g c =
     let p = err_from_is_err_and c.from_residual-in_err-judgement.result c.from_residual-in_err-judgement.ensures.1 in
     rw (p.1, p.2) (replay_halted_at_judgement c.args.file.now c.args.trace.now _ _ _
     (g.O.Sink.seen c.args.out.now) (g.O.Sink.seen c.args.out.now)
-    c.in_ok-net.net c.in_ok-net.ensures c.in_ok-trace.trace c.in_ok-trace.ensures.judged)
+    c.in_ok-net.net c.in_ok-net.ensures.judged c.in_ok-trace.trace c.in_ok-trace.ensures.judged)
 
 pub returns-in_err-write_all : goal.returns-in_err-write_all
 returns-in_err-write_all g c =
     let p = err_from_is_err_and c.from_residual-in_err-write_all.result c.from_residual-in_err-write_all.ensures.1 in
     rw (p.1, p.2) (replay_halted_at_out c.args.file.now c.args.trace.now _ _ _ _ _
-    c.in_ok-net.net c.in_ok-net.ensures c.in_ok-trace.trace c.in_ok-trace.ensures.judged
+    c.in_ok-net.net c.in_ok-net.ensures.judged c.in_ok-trace.trace c.in_ok-trace.ensures.judged
     c.in_ok-judgement.judgement c.in_ok-judgement.ensures c.in_err-write_all.field-0.0
-    (rw c.as_bytes.ensures at c.in_err-write_all.ensures))
+    (rw c.as_bytes.ensures at c.in_err-write_all.ensures.wrote))
 
 pub returns : goal.returns
 returns g c =
     replay_done c.args.file.now c.args.trace.now _ _ _ _ _
-    c.in_ok-net.net c.in_ok-net.ensures c.in_ok-trace.trace c.in_ok-trace.ensures.judged
+    c.in_ok-net.net c.in_ok-net.ensures.judged c.in_ok-trace.trace c.in_ok-trace.ensures.judged
     c.in_ok-judgement.judgement c.in_ok-judgement.ensures _ refl refl
-    (rw c.as_bytes.ensures at c.in_ok-write_all.ensures)
+    (rw c.as_bytes.ensures at c.in_ok-write_all.ensures.wrote)

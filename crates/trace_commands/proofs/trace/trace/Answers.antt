@@ -202,7 +202,7 @@ returns-in_err-net g c =
     rw (p.1, p.2) (trace_halted_at_file c.args.file.now c.args.node.now c.args.choices.now _ _ (g.S.Source.seen c.args.input.now)
     (g.S.Source.seen c.args.input.now)
     (g.O.Sink.seen c.args.out.now)
-    c.in_err-net.field-0.0 c.in_err-net.ensures)
+    c.in_err-net.field-0.0 c.in_err-net.ensures.judged)
 
 pub returns-in_err-node : goal.returns-in_err-node
 returns-in_err-node g c =
@@ -210,31 +210,31 @@ returns-in_err-node g c =
     rw (p.1, p.2) (trace_halted_at_node c.args.file.now c.args.node.now c.args.choices.now _ _ (g.S.Source.seen c.args.input.now)
     (g.S.Source.seen c.args.input.now)
     (g.O.Sink.seen c.args.out.now)
-    c.in_ok-net.net c.in_ok-net.ensures c.in_err-node.field-0.0 (sym c.in_err-node.ensures.judged))
+    c.in_ok-net.net c.in_ok-net.ensures.judged c.in_err-node.field-0.0 (sym c.in_err-node.ensures.judged))
 
 pub returns-in_err-packets : goal.returns-in_err-packets
 returns-in_err-packets g c =
     let p = err_from_is_err_and c.from_residual-in_err-packets.result c.from_residual-in_err-packets.ensures.1 in
     rw (p.1, p.2) (trace_halted_at_input c.args.file.now c.args.node.now c.args.choices.now _ _ _ _ (g.O.Sink.seen c.args.out.now)
-    c.in_ok-net.net c.in_ok-net.ensures c.in_ok-node.node (sym c.in_ok-node.ensures.judged)
+    c.in_ok-net.net c.in_ok-net.ensures.judged c.in_ok-node.node (sym c.in_ok-node.ensures.judged)
     c.in_err-packets.field-0.0 c.in_err-packets.ensures.judged)
 
 pub returns-in_err-refusal : goal.returns-in_err-refusal
 returns-in_err-refusal g c =
     let p = err_from_is_err_and c.from_residual-in_err-refusal.result c.from_residual-in_err-refusal.ensures.1 in
     rw (p.1, p.2) (trace_halted_at_out c.args.file.now c.args.node.now c.args.choices.now _ _ _ _ (g.O.Sink.seen c.args.out.now)
-    c.in_ok-net.net c.in_ok-net.ensures c.in_ok-node.node (sym c.in_ok-node.ensures.judged) c.in_ok-packets.packets
+    c.in_ok-net.net c.in_ok-net.ensures.judged c.in_ok-node.node (sym c.in_ok-node.ensures.judged) c.in_ok-packets.packets
     c.in_ok-packets.ensures.judged (g.O.Sink.seen c.write_trace.new.out)
     c.in_err-refusal.field-0.0 c.in_err-refusal.ensures.wrote)
 
 pub returns-in-Some : goal.returns-in-Some
 returns-in-Some g c = trace_refused c.args.file.now c.args.node.now c.args.choices.now _ _ _ _ (g.O.Sink.seen c.args.out.now)
-    c.in_ok-net.net c.in_ok-net.ensures c.in_ok-node.node (sym c.in_ok-node.ensures.judged) c.in_ok-packets.packets
+    c.in_ok-net.net c.in_ok-net.ensures.judged c.in_ok-node.node (sym c.in_ok-node.ensures.judged) c.in_ok-packets.packets
     c.in_ok-packets.ensures.judged (g.O.Sink.seen c.write_trace.new.out)
     c.in-Some.refusal (sym c.in-Some.is ∙ c.in_ok-refusal.ensures.fault) c.in_ok-refusal.ensures.wrote
 
 pub returns : goal.returns
 returns g c = trace_done c.args.file.now c.args.node.now c.args.choices.now _ _ _ _ (g.O.Sink.seen c.args.out.now)
-    c.in_ok-net.net c.in_ok-net.ensures c.in_ok-node.node (sym c.in_ok-node.ensures.judged) c.in_ok-packets.packets
+    c.in_ok-net.net c.in_ok-net.ensures.judged c.in_ok-node.node (sym c.in_ok-node.ensures.judged) c.in_ok-packets.packets
     c.in_ok-packets.ensures.judged (g.O.Sink.seen c.write_trace.new.out)
     _ (sym c.in-None.is ∙ c.in_ok-refusal.ensures.fault) refl refl c.in_ok-refusal.ensures.wrote

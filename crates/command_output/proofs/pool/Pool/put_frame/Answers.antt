@@ -1,4 +1,4 @@
-use Rattle.std.proofs.Common.{◌≡◌, ◌+◌, ◌≤◌, [], ◌∷◌, ◌++◌, ◌∙◌, ap, arith, length, refl}
+use Rattle.std.proofs.Common.{◌+◌, ◌≤◌, [], ◌∷◌, ◌++◌, ◌∙◌, ap, arith, length, refl}
 use Rattle.std.proofs.lemmas.Result.{err_from_is_err_and}
 use Rattle.srx_edge.specs.Steps.{Memory}
 use Rattle.pcap_io.specs.Capture.{written_frame_bytes}
@@ -8,14 +8,14 @@ use Rattle.command_output.specs.Pieces.{ForOut}
 use Rattle.command_output.proofs.Pooling.{frame-length, goes_both, goes_longer, goes_out, goes_then, goes_wanting}
 use Rattle.command_output.proofs.pool.Pool.put_frame.Goals as goal
 
-pub returns-in_err-make_room : goal.returns-in_err-make_room
-returns-in_err-make_room g c =
+pub returns-in_err-make_room-clause-goes : goal.returns-in_err-make_room-clause-goes
+returns-in_err-make_room-clause-goes g c =
     let p = err_from_is_err_and c.from_residual.result c.from_residual.ensures.1 in
     rw (p.1, p.2) (goes_longer c.in_err-make_room.field-0.0 []
     (ForOut (written_frame_bytes c.args.number c.args.micros c.args.packet.now) ∷ []) _ _ c.in_err-make_room.ensures.goes)
 
-pub returns-in_err-write_frame : goal.returns-in_err-write_frame
-returns-in_err-write_frame g c =
+pub returns-in_err-write_frame-clause-goes : goal.returns-in_err-write_frame-clause-goes
+returns-in_err-write_frame-clause-goes g c =
     let p = err_from_is_err_and c.from_residual-in_err-write_frame.result c.from_residual-in_err-write_frame.ensures.1 in
     let frame = written_frame_bytes c.args.number c.args.micros c.args.packet.now in
     let mid = pooled c.make_room.new.self (g.O.Sink.seen c.make_room.new.out) (g.E.Sink.seen c.make_room.new.err) in
@@ -24,8 +24,8 @@ returns-in_err-write_frame g c =
     rw (p.1, p.2) (goes_then Memory [] (ForOut frame ∷ []) _ mid new c.in_ok-make_room.ensures.goes
     (goes_wanting (ForOut frame ∷ []) mid new refl))
 
-pub returns : goal.returns
-returns g c =
+pub returns-clause-goes : goal.returns-clause-goes
+returns-clause-goes g c =
     let frame = written_frame_bytes c.args.number c.args.micros c.args.packet.now in
     let mid = pooled c.make_room.new.self (g.O.Sink.seen c.make_room.new.out) (g.E.Sink.seen c.make_room.new.err) in
     let new = pooled (record { out = c.write_frame.new.out.items; err = c.self.inside.err.items })
@@ -37,3 +37,8 @@ returns g c =
     (c.in_ok-write_frame.ensures.ok ∙ ap (λ (w : Waiting). w.out ++ frame) c.self.view_is)
     (ap (λ (w : Waiting). w.err) c.self.view_is)
     fits c.in_ok-make_room.ensures.err)
+
+pub returns-in_err-make_room-clause-wants : goal.returns-in_err-make_room-clause-wants
+returns-in_err-make_room-clause-wants g c =
+    let p = err_from_is_err_and c.from_residual.result c.from_residual.ensures.1 in
+    rw (p.1, p.2) c.in_err-make_room.ensures.wants

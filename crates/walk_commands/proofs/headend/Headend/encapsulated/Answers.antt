@@ -7,6 +7,6 @@ use Rattle.walk_commands.proofs.headend.Headend.encapsulated.Goals as goal
 
 pub returns-in-Ok : goal.returns-in-Ok
 returns-in-Ok c =
-    comes_made c.args.self.now c.in_ok-buf.buf.bytes c.place.result c.enter_buf.result _ c.place.ensures c.enter_buf.ensures
+    comes_made c.args.self.now c.in_ok-outer.outer.bytes c.place.result c.enter_buf.result _ c.place.ensures c.enter_buf.ensures
     c.in-Ok.ensures.answer
-    ∙ ap (λ (b : Buffer). comes_of (entry_alone c.args.self.now b.bytes)) c.in_ok-buf.ensures
+    ∙ ap (λ (b : Buffer). comes_of (entry_alone c.args.self.now b.bytes)) c.in_ok-outer.ensures.filled
