@@ -1,25 +1,68 @@
 //! The program `srv6`: SRv6 nodes run on packets, proved.
+//!
+//! `run` has the clause of the whole program over any files, input and outputs: the words are those
+//! after the program's name, and the exit status is the number of the status. What stands without a
+//! clause is `main`: that the words, the files and the streams are the system's.
 #![tactic(auto)]
 
+ghost use Rattle.std.specs.Prelude.{◌≡◌, drop, IfOk};
+ghost use Rattle.std.specs.Vec.Iter.{into_iter_items};
+ghost use Rattle.std.specs.Process.{exit_status};
+ghost use Rattle.command_output.specs.Outside.{outside};
+ghost use Rattle.srv6.specs.Exit.{exit_number, Ends};
+
 use srv6_cli::{Status, serve};
-use srx_edge::{HostFiles, HostSink, HostSource};
+use srx_edge::{Files, HostFiles, HostSink, HostSource, Sink, Source};
+use std::alloc::{AllocError, Global};
 use std::process::ExitCode;
 use std::{env, io};
 
-/// The words after the program's name.
-fn words_of(rt: &HostRuntime) -> io::Result<Vec<String>> {
-    let mut words = Vec::new(rt.alloc());
-    for word in env::args(rt)?.skip(1) {
+/// The words after the program's name, which is the first of all words. (own rule)
+fn words_after_name(alloc: Global, all: env::Args) -> Result<Vec<String>, AllocError>
+    ensures { IfOk result (λ words. words.items ≡ drop 1 (into_iter_items all)) }
+{
+    let mut all = all;
+    let _name = all.next();
+    let mut words = Vec::new(alloc);
+    for word in all {
         words.push(word)?;
     }
     Ok(words)
 }
 
-/// Runs the command that some words name over real files and std's streams.
-fn run(rt: &HostRuntime, words: &[String]) -> Status {
-    serve(
+/// The exit status of a status: from 0 for `Done` to 6 for `NoMemory`. (own rule)
+fn exit_code(status: Status) -> ExitCode
+    ensures { exit_status result ≡ exit_number status }
+{
+    ExitCode::from(status as u8)
+}
+
+/// Runs the command of the words after the program's name over files, an input and outputs. Want of
+/// memory for these words is answered before anything is asked for, read or written. (own rule)
+fn run<F: Files, S: Source, O: Sink, E: Sink>(
+    alloc: Global,
+    all: env::Args,
+    files: &mut F,
+    input: &mut S,
+    out: &mut O,
+    err: &mut E,
+) -> ExitCode
+    ensures { Ends (into_iter_items all) result
+        (outside (F.seen files.old) (S.seen input.old) (O.seen out.old) (E.seen err.old))
+        (outside (F.seen files.new) (S.seen input.new) (O.seen out.new) (E.seen err.new)) }
+{
+    let Ok(words) = words_after_name(alloc, all) else {
+        return exit_code(Status::NoMemory);
+    };
+    let status = serve(alloc, words.as_slice(), files, input, out, err);
+    exit_code(status)
+}
+
+/// Runs the command that these words name over real files and std's streams.
+fn run_over_system(rt: &HostRuntime, all: env::Args) -> ExitCode {
+    run(
         rt.alloc(),
-        words,
+        all,
         &mut HostFiles::new(rt),
         &mut HostSource::new(rt.stdin()),
         &mut HostSink::new(rt.stdout()),
@@ -30,10 +73,9 @@ fn run(rt: &HostRuntime, words: &[String]) -> Status {
 /// Runs the command that the words name; the status is the exit number. Words that aren't texts are
 /// as no words.
 fn main(rt: HostRuntime) -> ExitCode {
-    let status = match words_of(&rt) {
-        Ok(words) => run(&rt, words.as_slice()),
-        Err(error) if error.kind() == io::ErrorKind::OutOfMemory => Status::NoMemory,
-        Err(_) => run(&rt, &[]),
-    };
-    ExitCode::from(status as u8)
+    match env::args(&rt) {
+        Ok(all) => run_over_system(&rt, all),
+        Err(error) if error.kind() == io::ErrorKind::OutOfMemory => exit_code(Status::NoMemory),
+        Err(_) => run_over_system(&rt, Vec::new(rt.alloc()).into_iter()),
+    }
 }
