@@ -8,8 +8,7 @@ ghost use Rattle.own_hands.specs.Realizes.{OwnListExecutes, OwnListRealizes};
 ghost use Rattle.binding_starts.specs.Value.{binding_legs_value};
 ghost use Rattle.binding_meanings.specs.Hands.{OwnListHands};
 ghost use Rattle.path_compiler.specs.Checked.{Says, SaysOver};
-ghost use Rattle.path_compiler.specs.Compiled.{NoneLessOver};
-ghost use Rattle.intent_legs.specs.Answers.{IntentAnswers};
+ghost use Rattle.intent_legs.specs.Answers.{IntentAnswers, NoneLessFor};
 
 use crate::legs::IntentLegs;
 use base::NoMemory;
@@ -31,8 +30,7 @@ pub fn compile(alloc: Global, net: &Net, intent: &Intent) -> Result<Compiled, Co
     requires whole { net.now.hidden ≡ [] }
     requires intent { IsIntent net.now intent.now }
     ensures answer { IntentAnswers net.now intent.now result }
-    ensures handing { NoneLessOver net.now (OwnListHands net.now intent.now) intent.now.reduced
-        result }
+    ensures handing { NoneLessFor net.now intent.now result }
 {
     net.keeps_rules();
     match compilable(alloc, net) {
