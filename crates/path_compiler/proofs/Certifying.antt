@@ -29,8 +29,8 @@ use Rattle.leg_table.proofs.PublicLaws.{strict-laws, legs-mean}
 use Rattle.path_compiler.specs.declared.compiled.Compiled.{Compiled}
 use Rattle.path_compiler.specs.declared.compiled.CompileFault.{CompileFault}
 use Rattle.path_compiler.specs.declared.compiled.CompileFault.TheVariants as faults
-use Rattle.path_compiler.specs.Checked.{Certifies, CertifiesAnswer}
-use Rattle.path_compiler.specs.Compiled.{CompileAnswers, IsChosen, IsFound}
+use Rattle.path_compiler.specs.Checked.{Certifies, CertifiesAnswer, CertifiesAnswerOver, CertifiesOver}
+use Rattle.path_compiler.specs.Compiled.{AnswersOver, CompileAnswers, IsChosen, IsFound}
 use Rattle.path_compiler.proofs.Answering.{none-realizes}
 use Rattle.path_compiler.proofs.Checking.{under-list}
 
@@ -79,6 +79,29 @@ pub verdict-none : (v : LegsValue) (s : Solution) (head : ℕ) → KeepsLaws v �
     → IsVerdict v (certificate_of head s) NoList
 verdict-none v s head laws is empty = subst (IsAcceptedBy v head s) empty (solution-accepted v head s laws is)
 
+flat-by : (net : Network) → net.hidden ≡ [] → flatness_of net ≡ Ok tt → IsFlat net
+flat-by net whole is = (flatness_ok net whole).0 (subst (λ (r : Result (Unit {0}) NotFlat). IsOk r) (sym is) refl)
+
+-- of legs that keep the laws and mean lists where the network is flat each answer is certified
+module _ (v : LegsValue) (net : Network) (Realizes Executes Hands : List Container → ℕ → Type 0)
+    (holds : IsFlat net → KeepsLaws v × Means v net Realizes Executes Hands) where
+  found-certified : (reduced : Bool) (c : Compiled) → IsFlat net → IsFound v net Realizes Executes reduced c
+      → CertifiesOver v c.solution (Least c.containers c.need)
+  found-certified reduced c flat found =
+      verdict-found v net Realizes Executes Hands (holds flat).1 (holds flat).0 reduced c found
+
+  pub certifies-by : (intent : Intent) (answer : Result Compiled CompileFault) → AnswersOver v net Realizes Executes intent answer
+      → CertifiesAnswerOver v answer
+  certifies-by intent (Ok c) answers = found-certified intent.reduced c (flat-by net answers.whole answers.flat) answers.found
+  certifies-by intent (Err (faults.NotFlat why)) answers = tt
+  certifies-by intent (Err (faults.NoList s)) answers =
+      λ head. verdict-none v s head (holds (flat-by net answers.whole answers.flat)).0 answers.solution answers.no_path
+  certifies-by intent (Err (faults.TooLong c)) answers =
+      found-certified intent.reduced c (flat-by net answers.whole answers.flat) answers.found
+  certifies-by intent (Err (faults.HopLimit c)) answers =
+      found-certified intent.reduced c (flat-by net answers.whole answers.flat) answers.found
+  certifies-by intent (Err faults.NoMemory) answers = tt
+
 -- over the strict steps of an intent
 
 strict : (net : Network) (intent : Intent) → IsNetwork net → IsFlat net → IsIntent net intent → KeepsLaws (legs_value net intent)
@@ -96,18 +119,8 @@ pub certifies-none : (net : Network) (intent : Intent) (s : Solution) → IsNetw
 certifies-none net intent s network flat is solution empty =
     λ head. verdict-none (legs_value net intent) s head (strict net intent network flat is) solution empty
 
-flat-by : (net : Network) → net.hidden ≡ [] → flatness_of net ≡ Ok tt → IsFlat net
-flat-by net whole is = (flatness_ok net whole).0 (subst (λ (r : Result (Unit {0}) NotFlat). IsOk r) (sym is) refl)
-
 pub certifies-answer : (net : Network) (intent : Intent) (answer : Result Compiled CompileFault) → IsNetwork net → IsIntent net intent
     → CompileAnswers net intent answer → CertifiesAnswer net intent answer
-certifies-answer net intent (Ok c) network is answers =
-    certifies-found net intent intent.reduced c network (flat-by net answers.whole answers.flat) is answers.found
-certifies-answer net intent (Err (faults.NotFlat why)) network is answers = tt
-certifies-answer net intent (Err (faults.NoList s)) network is answers =
-    certifies-none net intent s network (flat-by net answers.whole answers.flat) is answers.solution answers.no_path
-certifies-answer net intent (Err (faults.TooLong c)) network is answers =
-    certifies-found net intent intent.reduced c network (flat-by net answers.whole answers.flat) is answers.found
-certifies-answer net intent (Err (faults.HopLimit c)) network is answers =
-    certifies-found net intent intent.reduced c network (flat-by net answers.whole answers.flat) is answers.found
-certifies-answer net intent (Err faults.NoMemory) network is answers = tt
+certifies-answer net intent answer network is answers =
+    certifies-by (legs_value net intent) net (ListRealizes net intent) (ListExecutes net intent) (ListHands net intent)
+    (λ flat. (strict net intent network flat is, legs-mean net intent network flat is)) intent answer answers

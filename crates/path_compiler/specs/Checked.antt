@@ -7,6 +7,7 @@ use Rattle.list_pack.specs.declared.types.Solution.{Solution}
 use Rattle.list_pack.specs.Costs.{AtMost}
 use Rattle.list_pack.specs.Paths.{cost_with}
 use Rattle.list_pack.specs.SidLists.{IsLegalList}
+use Rattle.list_pack.specs.Value.{LegsValue}
 use Rattle.list_certificate.specs.declared.types.Verdict.{Verdict}
 use Rattle.list_certificate.specs.declared.types.Verdict.TheVariants.{Least, NoList, No}
 use Rattle.list_certificate.specs.Certs.{certificate_of}
@@ -44,16 +45,24 @@ SaysOver net Hands (No line why) = Unit {0}
 abbrev pub SaysOfHanding : Network → Intent → Verdict → Type 0
 SaysOfHanding net intent verdict = SaysOver net (ListHands net intent) verdict
 
--- the verdict on the certificate of what the search found over the strict steps of an intent, wherever its head stands
-abbrev pub Certifies : Network → Intent → Solution → Verdict → Type 0
-Certifies net intent s verdict = (head : ℕ) → IsVerdict (legs_value net intent) (certificate_of head s) verdict
+-- the verdict on the certificate of what a search over legs found, wherever its head stands
+abbrev pub CertifiesOver : LegsValue → Solution → Verdict → Type 0
+CertifiesOver v s verdict = (head : ℕ) → IsVerdict v (certificate_of head s) verdict
 
 -- with an answer of the compiler comes a certificate whose verdict is the answer's: its list's containers and need, also where the list is
 -- over a bound of the intent, or that there is none
+abbrev pub CertifiesAnswerOver : LegsValue → Result Compiled CompileFault → Type 0
+CertifiesAnswerOver v (Ok c) = CertifiesOver v c.solution (Least c.containers c.need)
+CertifiesAnswerOver v (Err (compile_faults.NotFlat why)) = Unit {0}
+CertifiesAnswerOver v (Err (compile_faults.NoList s)) = CertifiesOver v s NoList
+CertifiesAnswerOver v (Err (compile_faults.TooLong found)) = CertifiesOver v found.solution (Least found.containers found.need)
+CertifiesAnswerOver v (Err (compile_faults.HopLimit found)) = CertifiesOver v found.solution (Least found.containers found.need)
+CertifiesAnswerOver v (Err compile_faults.NoMemory) = Unit {0}
+
+-- over the strict steps of an intent
+
+abbrev pub Certifies : Network → Intent → Solution → Verdict → Type 0
+Certifies net intent s verdict = CertifiesOver (legs_value net intent) s verdict
+
 abbrev pub CertifiesAnswer : Network → Intent → Result Compiled CompileFault → Type 0
-CertifiesAnswer net intent (Ok c) = Certifies net intent c.solution (Least c.containers c.need)
-CertifiesAnswer net intent (Err (compile_faults.NotFlat why)) = Unit {0}
-CertifiesAnswer net intent (Err (compile_faults.NoList s)) = Certifies net intent s NoList
-CertifiesAnswer net intent (Err (compile_faults.TooLong found)) = Certifies net intent found.solution (Least found.containers found.need)
-CertifiesAnswer net intent (Err (compile_faults.HopLimit found)) = Certifies net intent found.solution (Least found.containers found.need)
-CertifiesAnswer net intent (Err compile_faults.NoMemory) = Unit {0}
+CertifiesAnswer net intent answer = CertifiesAnswerOver (legs_value net intent) answer

@@ -14,9 +14,11 @@ ghost use Rattle.leg_table.specs.Realizes.{ListRealizes, ListExecutes};
 ghost use Rattle.leg_table.specs.Value.{legs_value};
 ghost use Rattle.path_compiler.specs.declared.compiled.Compiled.{Compiled};
 ghost use Rattle.path_compiler.specs.declared.compiled.CompileFault.{CompileFault};
-ghost use Rattle.path_compiler.specs.Checked.{Certifies, CertifiesAnswer, Says, SaysOfHanding};
+ghost use Rattle.path_compiler.specs.Checked.{Certifies, CertifiesAnswer, CertifiesAnswerOver, CertifiesOver, Says, SaysOfHanding, SaysOver};
 ghost use Rattle.path_compiler.specs.declared.compiled.CompileFault.TheVariants as faults;
-ghost use Rattle.path_compiler.specs.Compiled.{CompileAnswers, IsFound};
+ghost use Rattle.path_compiler.specs.Compiled.{AnswersOver, CompileAnswers, IsFound};
+
+use list_pack::ListLegs;
 
 /// In a flat network the certificate of what the search found, wherever its head stands, is judged
 /// `Least` with exactly the chosen list's containers and need, in either form of the header, and
@@ -52,3 +54,45 @@ pub fn a_verdict_speaks_of_lists_that_hand_over()
         → Says net (ListRealizes net intent) (ListExecutes net intent) verdict
         → SaysOfHanding net intent verdict }
 {}
+
+/// Over any legs that mean lists the certificate of what the search found, wherever its head stands,
+/// is judged `Least` with exactly the chosen list's containers and need, in either form of the header,
+/// and `NoList` where no path was found. So it is for each answer over them, also where the least list
+/// is too long or its need not below the hop limit. (own rule)
+pub fn a_certificate_tells_what_was_found<L: ListLegs>(legs: &L)
+    ensures found { (reduced : Bool) (c : Compiled)
+        → IsFound (L.seen legs.now) (L.network legs.now) (L.realizes legs.now) (L.executes legs.now)
+        reduced c
+        → CertifiesOver (L.seen legs.now) c.solution (Least c.containers c.need) }
+    ensures none { (s : Solution) → IsSolution (L.seen legs.now) s → s.path ≡ []
+        → CertifiesOver (L.seen legs.now) s NoList }
+    ensures answers { (intent : Intent) (answer : Result Compiled CompileFault)
+        → AnswersOver (L.seen legs.now) (L.network legs.now) (L.realizes legs.now)
+        (L.executes legs.now) intent answer
+        → CertifiesAnswerOver (L.seen legs.now) answer }
+{
+    legs.keeps_meaning();
+    legs.steps();
+}
+
+/// But for want of memory an intent has one answer over any legs: one refusal, or one list with its
+/// numbers; and what the search found is one too. (own rule)
+pub fn legs_have_one_answer<L: ListLegs>(legs: &L)
+    ensures { (intent : Intent) (a b : Result Compiled CompileFault)
+        → AnswersOver (L.seen legs.now) (L.network legs.now) (L.realizes legs.now)
+        (L.executes legs.now) intent a
+        → AnswersOver (L.seen legs.now) (L.network legs.now) (L.realizes legs.now)
+        (L.executes legs.now) intent b
+        → a ≢ Err faults.NoMemory → b ≢ Err faults.NoMemory → a ≡ b }
+{}
+
+/// What a verdict says of the legal lists that realize what legs are for holds of those too that hand
+/// over even one packet at one hop limit: `Least` gives the least pair of these, with a hop limit in the
+/// place of a need one higher, and with `NoList` there are none. (own rule)
+pub fn what_is_said_holds_of_lists_that_hand_over<L: ListLegs>(legs: &L)
+    ensures { (verdict : Verdict)
+        → Says (L.network legs.now) (L.realizes legs.now) (L.executes legs.now) verdict
+        → SaysOver (L.network legs.now) (L.hands legs.now) verdict }
+{
+    legs.keeps_meaning();
+}
