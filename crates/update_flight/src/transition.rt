@@ -6,11 +6,12 @@ ghost use Rattle.srv6_rules.specs.Packet.{entered as entered_as};
 ghost use Rattle.node_stage.specs.Fronted.{fronted};
 ghost use Rattle.packet_walk.specs.Flight.{ArePlaced, IsNumber, Turns, entering, packet_in, stage_in, within};
 ghost use Rattle.update_flight.specs.Tables.{HasRoute, KeepsOwn};
-ghost use Rattle.update_flight.specs.Transition.{EntersAs, IsTransition, answer_of, edited, first_early, next_edit, starting, steps};
+ghost use Rattle.update_flight.specs.Transition.{EntersAs, IsTransition, answer_of, edited, first_early, is_before_switch, next_edit, starting, steps};
 
 use crate::edit::{Busy, Edit};
 use base::NoMemory;
 use net_model::{EntryId, Net};
+use node_stage::ContentBuf;
 use packet_walk::{Event, Packets};
 use pkt_buf::PktBuf;
 use std::alloc::Global;
@@ -72,6 +73,14 @@ impl<'a> Transition<'a> {
         ensures { result.now ≡ self.now.packets }
     {
         &self.packets
+    }
+
+    /// Whether packets that enter are those of the old description: the switch is still to come (own
+    /// rule).
+    pub fn is_before_switch(&self) -> bool
+        ensures { result ≡ is_before_switch self.now }
+    {
+        self.done <= self.added.len()
     }
 
     /// What is so of a transition. For the callers' proofs.
@@ -143,6 +152,32 @@ impl<'a> Transition<'a> {
                 Ok(edit)
             }
             Err(busy) => Err(busy),
+        }
+    }
+
+    /// What stands at a place enters there, with the choices of its decisions, as a packet of the old
+    /// description before the switch and as one of the new after it, as `Packets::enter_content` has
+    /// it. `NoMemory` leaves all as it was (own rule).
+    pub fn enter_content(
+        &mut self,
+        content: ContentBuf,
+        place: Place,
+        choices: &'a [u32],
+    ) -> Result<u32, NoMemory>
+        requires choices { 0 < length choices.now }
+        requires few { length self.old.packets.packets + 1 < 2 ^ 32 }
+        ensures { EntersAs self.old (entering content place choices.now)
+            (entering content place choices.now) result self.new }
+    {
+        if self.added.len() < self.done {
+            return self.packets.enter_content(content, place, choices);
+        }
+        match self.packets.enter_content(content, place, choices) {
+            Ok(number) => {
+                self.early = number;
+                Ok(number)
+            }
+            Err(why) => Err(why),
         }
     }
 

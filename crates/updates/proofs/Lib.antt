@@ -5,3 +5,4 @@ pub mod Edits
 pub mod Turns
 pub mod PlanFacts
 pub mod WholeWalks
+pub mod Placed

@@ -2,18 +2,20 @@
 
 ghost use Rattle.std.specs.Prelude.{◌≡◌, ◌+◌, ◌<◌, ◌^◌, length, IfOk, IfSome, OnOk, OnErr};
 ghost use Rattle.srv6_rules.specs.Packet.{entered as entered_as};
+ghost use Rattle.net_model.specs.Keeps.{Keeps};
 ghost use Rattle.walk_rules.specs.Relation.{IsPlace};
 ghost use Rattle.node_stage.specs.Fronted.{fronted};
-ghost use Rattle.packet_walk.specs.Flight.{IsNumber, Turns, entering, packet_in, stage_in, within};
+ghost use Rattle.packet_walk.specs.Flight.{IsInFlight, IsNumber, Turns, entering, packet_in, stage_in, within};
 ghost use Rattle.update_flight.specs.Interleaving.{own_of};
 ghost use Rattle.update_flight.specs.Tables.{AreAlike, HasRoute};
-ghost use Rattle.update_flight.specs.Transition.{EntersAs, IsTransition};
+ghost use Rattle.update_flight.specs.Transition.{EntersAs, IsTransition, is_before_switch};
 ghost use Rattle.updates.specs.Update.{CanChange, EditsAs, IsAddition, IsChanged, starting_by, tables_now, tables_of};
 
 use crate::fault::EditFault;
 use crate::plan::Plan;
 use base::NoMemory;
 use net_model::Net;
+use node_stage::ContentBuf;
 use packet_walk::{Event, Packets};
 use pkt_buf::PktBuf;
 use std::alloc::{AllocError, Global};
@@ -92,11 +94,49 @@ impl<'a> Update<'a> {
         &self.net
     }
 
+    /// Whether packets that enter are those of the old description: the switch is still to come (own
+    /// rule).
+    pub fn is_before_switch(&self) -> bool
+        ensures { result ≡ is_before_switch self.now.transition }
+    {
+        self.transition.is_before_switch()
+    }
+
+    /// The tables keep the rules, and a packet is at a place of them. For the callers' proofs.
+    pub fn keeps_packet(&self, number: u32)
+        requires { IsNumber self.now.transition.packets.packets number }
+        ensures network { Keeps (tables_now self.now) }
+        ensures packet { IfSome (packet_in self.now.transition.packets.packets number)
+            (IsInFlight (tables_now self.now)) }
+    {
+        self.net.keeps_rules();
+        self.transition.packets().keeps_rules(number);
+    }
+
     /// What is so of the edits and the packets. For the callers' proofs.
     pub fn keeps_rules(&self)
         ensures { IsTransition self.now.transition }
     {
         self.transition.keeps_rules();
+    }
+
+    /// What stands at a place enters there, with the choices of its decisions, as a packet of the old
+    /// description before the switch and as one of the new after it, as `Packets::enter_content` has
+    /// it. `NoMemory` leaves all as it was (own rule).
+    pub fn enter_content(
+        &mut self,
+        content: ContentBuf,
+        place: Place,
+        choices: &'a [u32],
+    ) -> Result<u32, NoMemory>
+        requires place { IsPlace self.old.joined place }
+        requires choices { 0 < length choices.now }
+        requires few { length self.old.transition.packets.packets + 1 < 2 ^ 32 }
+        ensures enter { EntersAs self.old.transition (entering content place choices.now)
+            (entering content place choices.now) result self.new.transition }
+        ensures same { self.new.joined ≡ self.old.joined }
+    {
+        self.transition.enter_content(content, place, choices)
     }
 
     /// A packet enters at a place with the choices of its decisions, as `Packets::enter` has it: with
