@@ -32,7 +32,7 @@ use Rattle.command_output.specs.declared.refusal.Refusal.{Refusal}
 use Rattle.command_output.specs.declared.refusal.Refusal.TheVariants as refusals
 use Rattle.command_output.specs.Answers.{JudgesFile, JudgesText, JudgesInput}
 use Rattle.command_output.specs.Halts.{halt_of_net, halt_of_intent, halt_of_draw, halt_of_refusal}
-use Rattle.command_inputs.specs.Judgements.{network_by, network_in, intent_by, intent_in}
+use Rattle.command_inputs.specs.Judgements.{network_by, network_in, intent_by, intent_in, intents_in}
 use Rattle.command_output.specs.Outside.{AsksForFront, ReadsToEnd}
 use Rattle.command_inputs.specs.Packets.{capture_by, ng_in, packets_in, is_bare}
 
@@ -107,6 +107,27 @@ pub intent_too_big : (net : Network) (text : List ℕ) → MAX_TEXT_BYTES < leng
 intent_too_big net text more = let many : nat_lt MAX_TEXT_BYTES (length text) ≡ true = search rules in rw many refl
 
 pub ruleset texts = (network_judged, network_refused, network_too_big, intent_judged, intent_refused, intent_too_big)
+
+-- an intent in both networks
+
+pub both_judged : (old new : Network) (text : List ℕ) (before after : Intent) → JudgesText (intent_in old) text (Ok before)
+    → JudgesText (intent_in new) text (Ok after)
+    → JudgesText (intents_in old new) text (Ok (record { before = before; after = after }))
+both_judged old new text before after one other = rw (one, other) refl
+
+pub both_refused_old : (old new : Network) (text : List ℕ) (halt : Halt) → JudgesText (intent_in old) text (Err halt)
+    → JudgesText (intents_in old new) text (Err halt)
+both_refused_old old new text (halts.Refused refusal) one = rw one refl
+both_refused_old old new text (halts.Failed failures.Fault) one = one
+both_refused_old old new text (halts.Failed failures.NoMemory) one = tt
+
+pub both_refused_new : (old new : Network) (text : List ℕ) (before : Intent) (halt : Halt) → JudgesText (intent_in old) text (Ok before)
+    → JudgesText (intent_in new) text (Err halt) → JudgesText (intents_in old new) text (Err halt)
+both_refused_new old new text before (halts.Refused refusal) one other = rw (one, other) refl
+both_refused_new old new text before (halts.Failed failures.Fault) one other = other
+both_refused_new old new text before (halts.Failed failures.NoMemory) one other = tt
+
+pub ruleset boths = (both_judged, both_refused_old, both_refused_new)
 
 -- a text that was read from a file, as it was judged
 pub judged_file : {A : Type 0} (judge : List ℕ → Result A Refusal) (judged : Result A Halt) (text name : List ℕ) (old new : FilesSeen)

@@ -40,6 +40,10 @@ entries_of (Some numbers) = if list_all is_entry numbers then Some numbers else 
 abbrev pub schedule_in : List ℕ → Option (List ℕ)
 schedule_in text = entries_of (numbers_up_to MAX_SCHEDULE text)
 
+-- the events of an update: 1 to 65,536 numbers joined by commas
+abbrev pub events_in : List ℕ → Option (List ℕ)
+events_in text = numbers_up_to MAX_SCHEDULE text
+
 abbrev pub items_of : Option (Vec ℕ) → Option (List ℕ)
 items_of None = None
 items_of (Some numbers) = Some numbers.items

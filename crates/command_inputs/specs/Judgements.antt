@@ -12,6 +12,7 @@ use Rattle.list_certificate.specs.declared.types.Cert.{Cert}
 use Rattle.list_certificate.specs.Reading.{read_of}
 use Rattle.trace_replay.specs.Reading.{bad_line, lines_of}
 use Rattle.net_model.specs.declared.limits.TheConstants.{MAX_TEXT_BYTES}
+use Rattle.command_inputs.specs.declared.judge.BothIntents.{BothIntents}
 use Rattle.command_output.specs.declared.refusal.Refusal.{Refusal}
 use Rattle.command_output.specs.declared.refusal.Refusal.TheVariants as refusals
 
@@ -50,6 +51,19 @@ intent_by read = refused_as (λ fault. refusals.Intent fault) read
 abbrev pub intent_in : Network → List ℕ → Result Intent Refusal
 intent_in net text =
     if nat_lt MAX_TEXT_BYTES (length text) then Err (refusals.TooBig MAX_TEXT_BYTES) else intent_by (intent_of_text net text)
+
+-- the intent that a text gives in an old network, and then in a new one, or the first fault
+
+abbrev pub both_by : Intent → Result Intent Refusal → Result BothIntents Refusal
+both_by before (Ok after) = Ok (record { before = before; after = after })
+both_by before (Err refusal) = Err refusal
+
+abbrev pub both_behind : Result Intent Refusal → Result Intent Refusal → Result BothIntents Refusal
+both_behind (Ok before) after = both_by before after
+both_behind (Err refusal) after = Err refusal
+
+abbrev pub intents_in : Network → Network → List ℕ → Result BothIntents Refusal
+intents_in old new text = both_behind (intent_in old text) (intent_in new text)
 
 -- the certificate that a text spells for legs in a network, or its first bad line
 

@@ -2,7 +2,7 @@
 
 ghost use Rattle.std.specs.Prelude.{◌≡◌, ◌==◌, ◌<◌, IfOk, IfSome, length, map};
 ghost use Rattle.std.specs.List.{list_all, slice_split};
-ghost use Rattle.command_inputs.specs.Choices.{choices_after, choices_in, is_entry, items_of, numbers_up_to, picks_after, picks_seen, picks_with, schedule_in};
+ghost use Rattle.command_inputs.specs.Choices.{choices_after, choices_in, events_in, is_entry, items_of, numbers_up_to, picks_after, picks_seen, picks_with, schedule_in};
 ghost use Rattle.command_output.specs.Verbs.{words_of};
 
 use crate::limits::{MAX_CHOICES, MAX_SCHEDULE};
@@ -61,6 +61,14 @@ pub fn schedule_of(alloc: Global, text: &str) -> Result<Option<Vec<u32>>, AllocE
         return Ok(None);
     }
     Ok(Some(numbers))
+}
+
+/// The events of an update that a text gives, if it is 1 to 65,536 numbers joined by commas. (own
+/// rule)
+pub fn events_of(alloc: Global, text: &str) -> Result<Option<Vec<u32>>, AllocError>
+    ensures { IfOk result (λ events. items_of events ≡ events_in text.now) }
+{
+    numbers_of(alloc, text, MAX_SCHEDULE)
 }
 
 /// The choices that may follow the words of a command, if these are the words that follow them:

@@ -5,7 +5,7 @@ ghost use Rattle.intent_reader.specs.Rules.{IsIntent};
 ghost use Rattle.list_certificate.specs.Certs.{IsCert};
 ghost use Rattle.list_certificate.specs.Reading.{IsNetworkOf};
 ghost use Rattle.command_output.specs.Answers.{JudgesFile, JudgesText};
-ghost use Rattle.command_inputs.specs.Judgements.{network_in, node_in, intent_in, cert_in, trace_in};
+ghost use Rattle.command_inputs.specs.Judgements.{network_in, node_in, intent_in, intents_in, cert_in, trace_in};
 ghost use Rattle.trace_replay.specs.Reading.{IsTrace};
 
 use command_output::{Halt, Refusal};
@@ -90,6 +90,44 @@ pub fn intent_of_file<F: Files>(
 {
     let text = files.read(alloc, name, MAX_TEXT_BYTES)?;
     intent_of(alloc, net, text.as_slice())
+}
+
+/// An intent in an old description and in a new one. (own rule)
+#[derive(Debug, Drop)]
+pub struct BothIntents {
+    /// In the old one.
+    pub before: Intent,
+    /// In the new one.
+    pub after: Intent,
+}
+
+/// The intent that a text gives in an old network, and then that which it gives in a new one.
+#[tactic(auto, using(crate::proofs::Judging::boths))]
+fn intents_of(alloc: Global, old: &Net, new: &Net, text: &[u8]) -> Result<BothIntents, Halt>
+    ensures judged { JudgesText (intents_in old.now new.now) text.now result }
+    ensures keeps { IfOk result (λ both. IsIntent old.now both.before × IsIntent new.now both.after) }
+{
+    let before = intent_of_text(alloc, old, text)?;
+    let after = intent_of_text(alloc, new, text)?;
+    Ok(BothIntents { before, after })
+}
+
+/// The intent that the file of this name gives in an old network, and then in a new one; the file is
+/// read once. (own rule)
+#[tactic(auto, using(crate::proofs::Judging::files))]
+pub fn intents_of_file<F: Files>(
+    alloc: Global,
+    files: &mut F,
+    old: &Net,
+    new: &Net,
+    name: &str,
+) -> Result<BothIntents, Halt>
+    ensures judged { JudgesFile (intents_in old.now new.now) name.now result
+        (F.seen files.old) (F.seen files.new) }
+    ensures keeps { IfOk result (λ both. IsIntent old.now both.before × IsIntent new.now both.after) }
+{
+    let text = files.read(alloc, name, MAX_TEXT_BYTES)?;
+    intents_of(alloc, old, new, text.as_slice())
 }
 
 /// The certificate that the file of this name gives for legs in a network. (own rule)

@@ -15,12 +15,12 @@ mod limits;
 mod packets;
 mod sources;
 
-pub use choices::{Picks, choices_of_words, picks_of_words};
+pub use choices::{Picks, choices_of_words, events_of, picks_of_words};
 pub use frames::{Found, Frames, Puts, put_frames};
 pub use input_bytes::InputBytes;
 pub use judge::{
-    cert_of_file, intent_of_file, intent_of_text, network_of_file, network_of_text, node_of_name,
-    trace_of_file,
+    BothIntents, cert_of_file, intent_of_file, intent_of_text, intents_of_file, network_of_file,
+    network_of_text, node_of_name, trace_of_file,
 };
 pub use limits::{MAX_CHOICES, MAX_SCHEDULE};
 pub use packets::{Packets, packets_of_input, unread_of_frame};

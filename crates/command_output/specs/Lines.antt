@@ -1,5 +1,5 @@
 -- The lines on `err`.
-use Rattle.std.specs.Prelude.{ℕ, List, [], ◌∷◌, ◌++◌, codes, slice_get, string_bytes}
+use Rattle.std.specs.Prelude.{ℕ, ◌+◌, List, [], ◌∷◌, ◌++◌, codes, slice_get, string_bytes}
 use Rattle.std.specs.Fmt.{decimal}
 use Rattle.v6_addr.specs.Text.{prefix_text}
 use Rattle.pcap_io.specs.declared.fault.CaptureFault.{CaptureFault}
@@ -7,6 +7,9 @@ use Rattle.pcap_io.specs.declared.fault.CaptureFault.TheVariants as captures
 use Rattle.srv6_rules.specs.declared.sid.Reason.{Reason}
 use Rattle.srv6_rules.specs.Reasons.{reason_name}
 use Rattle.text_faults.specs.Faults.{kind_number, fault_text}
+use Rattle.text_faults.specs.Keys.{table_text}
+use Rattle.net_model.specs.declared.net.EntryId.{EntryId}
+use Rattle.net_model.specs.declared.net.EntryId.TheVariants as entries
 use Rattle.net_model.specs.Network.{Network}
 use Rattle.intent_reader.specs.Faults.{intent_fault_number, intent_fault_text}
 use Rattle.walk_rules.specs.declared.place.Ended.{Ended}
@@ -39,6 +42,13 @@ capture_text (captures.BadLink link) = codes "refused 14 BadLink " ++ decimal li
 capture_text captures.CutHead = codes "refused 15 CutHead"
 capture_text captures.FrameLimit = codes "refused 17 FrameLimit"
 
+-- an entry by its table's name and its number from 1 there; an address by its node's
+
+unfoldable pub entry_text : EntryId → List ℕ
+entry_text (entries.Route number) = codes "route " ++ decimal (number + 1)
+entry_text (entries.Sid number) = codes "sid " ++ decimal (number + 1)
+entry_text (entries.Address node) = codes "node " ++ decimal (node + 1)
+
 -- a refusal: its number, its name, and its fields
 unfoldable pub refusal_text : Refusal → List ℕ
 refusal_text (refusals.TooBig limit) = codes "refused 2 TooBig " ++ decimal limit
@@ -54,6 +64,9 @@ refusal_text (refusals.MixedBlock block prefix) = codes "refused 43 MixedBlock "
 refusal_text (refusals.Clash prefix first second) =
     codes "refused 44 Clash " ++ (prefix_text prefix ++ 32 ∷ (first ++ 32 ∷ second))
 refusal_text (refusals.BadCert line) = codes "refused 45 BadCert " ++ decimal line
+refusal_text (refusals.Conflict before after) =
+    codes "refused 47 Conflict " ++ (entry_text before.entry ++ 32 ∷ entry_text after.entry)
+refusal_text (refusals.Differs table item) = codes "refused 48 Differs " ++ (table_text table ++ 32 ∷ decimal item)
 refusal_text (refusals.NgBlock block) = codes "refused 49 NgBlock " ++ decimal block
 refusal_text (refusals.NgMagic block) = codes "refused 50 NgMagic " ++ decimal block
 refusal_text (refusals.NgVersion block) = codes "refused 51 NgVersion " ++ decimal block

@@ -8,6 +8,7 @@
 //! that writes bytes to a sink.
 #![tactic(auto)]
 
+mod entry_name;
 pub mod figures;
 mod halt;
 pub mod laws;
@@ -22,6 +23,7 @@ mod told;
 mod unread;
 mod verbs;
 
+pub use entry_name::EntryName;
 pub use halt::{Failure, Halt};
 pub use limits::{MAX_INPUT_BYTES, MOST_WAITING};
 pub use lines::{line_of_refusal, write_packet_line, write_unread_line};

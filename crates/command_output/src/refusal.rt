@@ -3,13 +3,14 @@
 ghost use Rattle.std.specs.Prelude.{◌≡◌};
 ghost use Rattle.command_output.specs.Halts.{flat_refusal};
 
+use crate::entry_name::EntryName;
 use crate::node_name::NodeName;
 use flat_networks::NotFlat;
 use intent_reader::IntentFault;
 use net_model::Net;
 use pcap_io::CaptureFault;
 use std::fmt;
-use text_faults::TextFault;
+use text_faults::{TableKind, TextFault};
 use v6_addr::Prefix;
 
 /// Why a command was refused; each has a number of its own in the line on `err`. (own rule)
@@ -74,6 +75,20 @@ pub enum Refusal {
         /// The first line that is outside the grammar or names no state, counted from 1; where
         /// there is none and the text ends too early, the line after the last.
         line: u32,
+    },
+    /// 47: an entry of an old description and one of a new one cannot both be there.
+    Conflict {
+        /// The entry of the old description.
+        before: EntryName,
+        /// The entry of the new one.
+        after: EntryName,
+    },
+    /// 48: an item of two descriptions is not equal in both.
+    Differs {
+        /// Its table.
+        table: TableKind,
+        /// Its place in the table, counted from 1.
+        item: u32,
     },
     /// 49: a block of a pcapng file has a length that doesn't fit.
     NgBlock {
@@ -168,6 +183,10 @@ impl fmt::Display for Refusal {
                 second,
             } => write!(f, "refused 44 Clash {prefix} {first} {second}"),
             Refusal::BadCert { line } => write!(f, "refused 45 BadCert {line}"),
+            Refusal::Conflict { before, after } => {
+                write!(f, "refused 47 Conflict {before} {after}")
+            }
+            Refusal::Differs { table, item } => write!(f, "refused 48 Differs {table} {item}"),
             Refusal::NgBlock { block } => write!(f, "refused 49 NgBlock {block}"),
             Refusal::NgMagic { block } => write!(f, "refused 50 NgMagic {block}"),
             Refusal::NgVersion { block } => write!(f, "refused 51 NgVersion {block}"),
