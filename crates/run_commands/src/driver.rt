@@ -24,9 +24,13 @@ use pkt_buf::PktBuf;
 use srx_edge::Sink;
 use std::alloc::Global;
 
-/// Writes the line of a packet that stays, in place of what the text held.
+/// Room for the longest line of a packet, so that no line asks for memory: it has a number of at most
+/// 10 digits, a reason, and a name of at most 32 bytes.
+const LINE_ROOM: usize = 128;
+
+/// Writes the line of a packet that stays, by a text whose bytes are replaced. (own rule)
 #[tactic(auto, using(command_output::proofs::PublicLaws::going))]
-fn put_stays<O: Sink, E: Sink>(
+pub fn put_stays<O: Sink, E: Sink>(
     line: &mut String,
     net: &Net,
     number: u32,
@@ -223,11 +227,12 @@ fn walk_by_schedule<N: Frames, W: Enters, O: Sink, E: Sink>(
 {
     if course.schedule.is_empty() {
         let buf = PktBuf::of(Vec::new(alloc));
+        let line = String::with_capacity(alloc, LINE_ROOM)?;
         let mut walking = Walking {
             course,
             enters,
             buf,
-            line: String::new(alloc),
+            line,
         };
         return put_frames(alloc, &mut walking, frames, pool, out, err);
     }
@@ -253,11 +258,12 @@ fn put_first<N: Frames, W: Enters, O: Sink, E: Sink>(
         (pooled pool.old (O.seen out.old) (E.seen err.old))
         (pooled pool.new (O.seen out.new) (E.seen err.new)) }
 {
+    let line = String::with_capacity(alloc, LINE_ROOM)?;
     put_head(alloc, pool, out, err)?;
     let mut staying = Staying {
         net: course.net,
         enters,
-        line: String::new(alloc),
+        line,
     };
     put_frames(alloc, &mut staying, frames, pool, out, err)?;
     Ok(())

@@ -18,8 +18,8 @@ pub mod show;
 mod silent;
 
 pub use course::Course;
-pub use driver::drive;
+pub use driver::{drive, put_stays};
 pub use enters::{Comes, Enters, Stays};
 pub use handed_on::refilled;
-pub use put_walk::staged;
+pub use put_walk::{put_head, put_sent, staged};
 pub use silent::Silent;

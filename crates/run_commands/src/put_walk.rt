@@ -32,7 +32,7 @@ use walk_rules::{Ended, MAX_STAGES, Outcome, Place, ended_by, next_place};
 
 /// Writes the capture's head. (own rule)
 #[tactic(auto, using(command_output::proofs::PublicLaws::going))]
-pub(crate) fn put_head<O: Sink, E: Sink>(
+pub fn put_head<O: Sink, E: Sink>(
     alloc: Global,
     pool: &mut Pool,
     out: &mut O,
@@ -50,7 +50,7 @@ pub(crate) fn put_head<O: Sink, E: Sink>(
 /// Writes what a stage sends: the packet on a link, with the link's number from 1 as microseconds, or
 /// the ICMPv6 error about what is dropped, with 0. (own rule)
 #[tactic(auto, using(crate::proofs::Walking::errors))]
-pub(crate) fn put_sent<O: Sink, E: Sink>(
+pub fn put_sent<O: Sink, E: Sink>(
     number: u32,
     outcome: &Outcome,
     packet: &[u8],

@@ -5,14 +5,19 @@ use Rattle.srx_edge.specs.Steps.{Whole}
 use Rattle.pcap_io.specs.Capture.{written_head_bytes}
 use Rattle.command_output.specs.Answers.{ending_of_failure}
 use Rattle.command_output.specs.Pieces.{ForOut, ForErr}
-use Rattle.command_output.proofs.PublicLaws.{goes_longer, goes_then}
+use Rattle.command_output.proofs.PublicLaws.{goes_kept, goes_longer, goes_then}
 use Rattle.run_commands.specs.Entry.{line_of_frame}
 use Rattle.run_commands.proofs.Scheduling.{lines_went}
 use Rattle.run_commands.proofs.driver.put_first.Goals as goal
 
+pub returns-in_err-line : goal.returns-in_err-line
+returns-in_err-line g c =
+    let p = err_from_is_err_and c.from_residual.result c.from_residual.ensures.1 in
+    rw (p.1, p.2) (goes_kept _ _)
+
 pub returns-in_err-put_head : goal.returns-in_err-put_head
 returns-in_err-put_head g c =
-    let p = err_from_is_err_and c.from_residual.result c.from_residual.ensures.1 in
+    let p = err_from_is_err_and c.from_residual-in_err-put_head.result c.from_residual-in_err-put_head.ensures.1 in
     let lines = flat_map (line_of_frame c.args.course.now.net.now (g.W.Enters.entry c.args.enters.now)) (g.N.Frames.seen c.args.frames.now).frames in
     rw (p.1, p.2) (goes_longer c.in_err-put_head.field-0.0 (ForOut written_head_bytes ∷ []) (ForErr lines ∷ []) _ _ c.in_err-put_head.ensures)
 

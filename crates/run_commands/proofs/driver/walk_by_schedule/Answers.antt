@@ -15,7 +15,12 @@ returns-then-is_empty-clause-wrote g c =
     (pooled c.args.pool.now (g.O.Sink.seen c.args.out.now) (g.E.Sink.seen c.args.err.now))
     (pooled c.put_frames.new.pool (g.O.Sink.seen c.put_frames.new.out) (g.E.Sink.seen c.put_frames.new.err)) c.put_frames.ensures.wrote
 
+pub returns-in_err-line-clause-wrote : goal.returns-in_err-line-clause-wrote
+returns-in_err-line-clause-wrote g c =
+    let p = err_from_is_err_and c.from_residual.result c.from_residual.ensures.1 in
+    rw (p.1, p.2) (goes_kept _ _)
+
 pub returns-in_err-entered-clause-wrote : goal.returns-in_err-entered-clause-wrote
 returns-in_err-entered-clause-wrote g c =
-    let p = err_from_is_err_and c.from_residual.result c.from_residual.ensures.1 in
+    let p = err_from_is_err_and c.from_residual-in_err-entered.result c.from_residual-in_err-entered.ensures.1 in
     rw (p.1, p.2) (goes_kept _ _)
