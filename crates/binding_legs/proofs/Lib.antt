@@ -1,3 +1,4 @@
 pub mod Ways
 pub mod StartRows
 pub mod Starts
+pub mod PublicLaws

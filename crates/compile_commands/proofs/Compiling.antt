@@ -16,9 +16,10 @@ use Rattle.list_pack.proofs.PublicLaws.{flat-lists, legal-flat}
 use Rattle.path_compiler.specs.declared.compiled.Compiled.{Compiled}
 use Rattle.path_compiler.specs.declared.compiled.CompileFault.{CompileFault}
 use Rattle.path_compiler.specs.declared.compiled.CompileFault.TheVariants as faults
-use Rattle.path_compiler.specs.Compiled.{CompileAnswers, IsFound, NoLessHandsOver}
-use Rattle.leg_table.specs.Realizes.{ListRealizes, ListExecutes}
-use Rattle.leg_table.specs.Value.{legs_value}
+use Rattle.path_compiler.specs.Compiled.{IsFound}
+use Rattle.own_hands.specs.Realizes.{OwnListExecutes, OwnListRealizes}
+use Rattle.intent_legs.specs.Legs.{binding_legs_value}
+use Rattle.intent_legs.specs.Answers.{IntentAnswers, NoneLessFor}
 use Rattle.compile_commands.specs.declared.compile.Answer.{Answer}
 use Rattle.command_output.specs.declared.halt.Failure.TheVariants as failures
 use Rattle.command_output.specs.declared.halt.Halt.{Halt}
@@ -43,46 +44,46 @@ report-is net c values lines numbers are is counts =
 
 -- a list that was found in a flat network has values
 values-of : (net : Network) (intent : Intent) (c : Compiled) → IsNetwork net → net.hidden ≡ [] → flatness_of net ≡ Ok tt
-    → IsFound (legs_value net intent) net (ListRealizes net intent) (ListExecutes net intent) intent.reduced c → HasValues net c
+    → IsFound (binding_legs_value net intent) net (OwnListRealizes net intent) (OwnListExecutes net intent) intent.reduced c → HasValues net c
 values-of net intent c network whole is_flat found =
     let legal = found.chosen.whole.legal in
     let flat : IsFlat net = (flatness_ok net whole).0 (subst (λ (r : Result (Unit {0}) NotFlat). IsOk r) (sym is_flat) refl) in
     (legal, legal-flat net c.list (flat-lists net network flat) legal)
 
-pub values_kept : (net : Network) (intent : Intent) (c : Compiled) → IsNetwork net → CompileAnswers net intent (Ok c) → HasValues net c
+pub values_kept : (net : Network) (intent : Intent) (c : Compiled) → IsNetwork net → IntentAnswers net intent (Ok c) → HasValues net c
 values_kept net intent c network answers = values-of net intent c network answers.whole answers.flat answers.found
 
-pub values_long : (net : Network) (intent : Intent) (c : Compiled) → IsNetwork net → CompileAnswers net intent (Err (faults.TooLong c))
+pub values_long : (net : Network) (intent : Intent) (c : Compiled) → IsNetwork net → IntentAnswers net intent (Err (faults.TooLong c))
     → HasValues net c
 values_long net intent c network answers = values-of net intent c network answers.whole answers.flat answers.found
 
-pub values_over : (net : Network) (intent : Intent) (c : Compiled) → IsNetwork net → CompileAnswers net intent (Err (faults.HopLimit c))
+pub values_over : (net : Network) (intent : Intent) (c : Compiled) → IsNetwork net → IntentAnswers net intent (Err (faults.HopLimit c))
     → HasValues net c
 values_over net intent c network answers = values-of net intent c network answers.whole answers.flat answers.found
 
 -- the SIDs of what was found are SIDs of the network
 
-pub knows_kept : (net : Network) (intent : Intent) (c : Compiled) → Keeps net → CompileAnswers net intent (Ok c)
+pub knows_kept : (net : Network) (intent : Intent) (c : Compiled) → Keeps net → IntentAnswers net intent (Ok c)
     → KnowsStates net c.solution
 knows_kept net intent c keeps answers = knows_states net intent keeps c.solution answers.found.solution
 
-pub knows_long : (net : Network) (intent : Intent) (c : Compiled) → Keeps net → CompileAnswers net intent (Err (faults.TooLong c))
+pub knows_long : (net : Network) (intent : Intent) (c : Compiled) → Keeps net → IntentAnswers net intent (Err (faults.TooLong c))
     → KnowsStates net c.solution
 knows_long net intent c keeps answers = knows_states net intent keeps c.solution answers.found.solution
 
-pub knows_over : (net : Network) (intent : Intent) (c : Compiled) → Keeps net → CompileAnswers net intent (Err (faults.HopLimit c))
+pub knows_over : (net : Network) (intent : Intent) (c : Compiled) → Keeps net → IntentAnswers net intent (Err (faults.HopLimit c))
     → KnowsStates net c.solution
 knows_over net intent c keeps answers = knows_states net intent keeps c.solution answers.found.solution
 
 pub knows_none_in : (net : Network) (intent : Intent) (compiled : Result Compiled CompileFault) (s : Solution) → Keeps net
-    → CompileAnswers net intent compiled → compiled ≡ Err (faults.NoList s) → KnowsStates net s
+    → IntentAnswers net intent compiled → compiled ≡ Err (faults.NoList s) → KnowsStates net s
 knows_none_in net intent compiled s keeps answers is =
-    knows_states net intent keeps s (subst (CompileAnswers net intent) is answers).solution
+    knows_states net intent keeps s (subst (IntentAnswers net intent) is answers).solution
 
 pub ruleset valued = (values_kept, values_long, values_over, knows_kept, knows_long, knows_over)
 
 pub taken_gives : (net : Network) (intent : Intent) (compiled : Result Compiled CompileFault) (answer : Result Answer Halt)
-    → CompileAnswers net intent compiled → NoLessHandsOver net intent compiled → GivesAnswer net intent compiled answer
+    → IntentAnswers net intent compiled → NoneLessFor net intent compiled → GivesAnswer net intent compiled answer
     → GivesOf net intent answer
 taken_gives net intent compiled (Ok answer) answers none gives = ((compiled, answers, none, gives.0), gives.1)
 taken_gives net intent compiled (Err (halts.Refused refusal)) answers none gives = (compiled, answers, none, gives)

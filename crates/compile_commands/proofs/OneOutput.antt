@@ -3,12 +3,10 @@ use Rattle.std.proofs.Common.{◌≡◌, ◌≢◌, ℕ, List, Option, Some, Non
 use Rattle.std.specs.Prelude.{IsSomeAnd}
 use Rattle.net_model.specs.Network.{Network}
 use Rattle.intent_reader.specs.declared.intent.Intent.{Intent}
-use Rattle.leg_table.specs.Realizes.{ListRealizes, ListExecutes}
-use Rattle.leg_table.specs.Value.{legs_value}
 use Rattle.path_compiler.specs.declared.compiled.Compiled.{Compiled}
 use Rattle.path_compiler.specs.declared.compiled.CompileFault.{CompileFault}
 use Rattle.path_compiler.specs.declared.compiled.CompileFault.TheVariants as faults
-use Rattle.path_compiler.proofs.PublicLaws.{answers-same}
+use Rattle.intent_legs.proofs.PublicLaws.{one-answer-for}
 use Rattle.srx_edge.specs.Edge.{file_named}
 use Rattle.command_output.specs.declared.refusal.Refusal.{Refusal}
 use Rattle.command_output.specs.Pieces.{Output}
@@ -32,7 +30,7 @@ module _ (Wants : Wanted) (wants : WantsOne Wants) where
       → a ≡ b
   compiled-one net intent a b one two =
       let same : one.0 ≡ two.0
-      = answers-same (legs_value net intent) net (ListRealizes net intent) (ListExecutes net intent) intent one.0 two.0 one.1 two.1
+      = one-answer-for net intent one.0 two.0 one.1 two.1
       (some-memory net intent one.0 a one.3) (some-memory net intent two.0 b two.3) in
       wants.one net intent two.0 a b (subst (λ (x : Result Compiled CompileFault). Wants net intent x a) same one.3) two.3
 

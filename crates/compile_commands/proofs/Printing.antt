@@ -33,16 +33,16 @@ use Rattle.list_certificate.specs.Reading.{read_of}
 use Rattle.list_certificate.specs.Spelling.{spelled}
 use Rattle.list_certificate.specs.Verdicts.{IsVerdict}
 use Rattle.list_certificate.proofs.PublicLaws.{one-verdict, solution-cert, what-is-read}
-use Rattle.leg_table.specs.Value.{legs_value}
-use Rattle.leg_table.proofs.FlatNets.{flat-facts}
-use Rattle.leg_table.proofs.PublicLaws.{legs-mean, strict-laws}
-use Rattle.leg_table.specs.Realizes.{ListRealizes, ListExecutes, ListHands}
+use Rattle.own_hands.specs.Realizes.{OwnListExecutes, OwnListRealizes}
+use Rattle.intent_legs.specs.Legs.{binding_legs_value}
+use Rattle.intent_legs.specs.Legs.{OwnListHands}
 use Rattle.path_compiler.specs.declared.compiled.Compiled.{Compiled}
 use Rattle.path_compiler.specs.declared.compiled.CompileFault.{CompileFault}
 use Rattle.path_compiler.specs.declared.compiled.CompileFault.TheVariants as faults
-use Rattle.path_compiler.specs.Checked.{Certifies, Says, SaysOfHanding}
-use Rattle.path_compiler.specs.Compiled.{CompileAnswers}
-use Rattle.path_compiler.proofs.PublicLaws.{certifies-answer, says-handing, says_lists}
+use Rattle.path_compiler.proofs.PublicLaws.{says_lists}
+use Rattle.intent_legs.specs.Answers.{IntentAnswers}
+use Rattle.intent_legs.specs.Verdicts.{CertifiesFor, SaysFor, SaysOfHandingFor}
+use Rattle.intent_legs.proofs.PublicLaws.{certifies-for, laws-for, means-for, says-handing-for}
 use Rattle.net_model.specs.declared.limits.TheConstants.{MAX_TEXT_BYTES}
 use Rattle.command_output.specs.declared.refusal.Refusal.{Refusal}
 use Rattle.command_output.specs.declared.refusal.Refusal.TheVariants as refusals
@@ -81,13 +81,13 @@ intent-of net text intent is = by (nat_lt MAX_TEXT_BYTES (length text)) (intent_
 
 module _ (net : Network) (intent : Intent) (network : IsNetwork net) (is_intent : IsIntent net intent) where
   abbrev v : LegsValue
-  v = legs_value net intent
+  v = binding_legs_value net intent
 
   flat-by : net.hidden ≡ [] → flatness_of net ≡ Ok tt → IsFlat net
   flat-by whole is = (flatness_ok net whole).0 (subst (λ (r : Result (Unit {0}) NotFlat). IsOk r) (sym is) refl)
 
   laws-of : net.hidden ≡ [] → flatness_of net ≡ Ok tt → KeepsLaws v
-  laws-of whole is = strict-laws net intent (keeps_from_network net network) (flat-facts net network (flat-by whole is)) is_intent
+  laws-of whole is = laws-for net intent network (flat-by whole is) is_intent
 
   -- the text is read as the certificate of the solution
   cert-read : (s : Solution) (comments : List (List ℕ)) (text : List ℕ) → KeepsLaws v → IsSolution v s → All IsComment comments
@@ -102,7 +102,7 @@ module _ (net : Network) (intent : Intent) (network : IsNetwork net) (is_intent 
 
   -- so the verdict is the one that it certifies
   told-by : (s : Solution) (comments : List (List ℕ)) (text : List ℕ) (verdict : Verdict) (output : Output) → net.hidden ≡ []
-      → flatness_of net ≡ Ok tt → IsSolution v s → Certifies net intent s verdict → All IsComment comments
+      → flatness_of net ≡ Ok tt → IsSolution v s → CertifiesFor net intent s verdict → All IsComment comments
       → text ≡ lines_text comments ++ spelled net s → length text ≤ MAX_TEXT_BYTES
       → FlatWants net intent (flatness_of net) (Some text) output → output ≡ told_of net verdict
   told-by s comments text verdict output whole flat is certifies all parts small wants =
@@ -118,17 +118,17 @@ module _ (net : Network) (intent : Intent) (network : IsNetwork net) (is_intent 
 
   -- and that verdict is wanted
   told-back : (s : Solution) (comments : List (List ℕ)) (text : List ℕ) (verdict : Verdict) (output : Output) → net.hidden ≡ []
-      → flatness_of net ≡ Ok tt → IsSolution v s → Certifies net intent s verdict → All IsComment comments
+      → flatness_of net ≡ Ok tt → IsSolution v s → CertifiesFor net intent s verdict → All IsComment comments
       → text ≡ lines_text comments ++ spelled net s → length text ≤ MAX_TEXT_BYTES
       → output ≡ told_of net verdict → FlatWants net intent (flatness_of net) (Some text) output
   told-back s comments text verdict output whole flat is certifies all parts small told =
       let laws = laws-of whole flat in
       let cert : Cert = certificate_of (1 + length comments) s in
       let judges : IsVerdict v cert verdict = certifies (1 + length comments) in
-      let says : Says net (ListRealizes net intent) (ListExecutes net intent) verdict
-      = says_lists v net (ListRealizes net intent) (ListExecutes net intent) (ListHands net intent)
-      (legs-mean net intent network (flat-by whole flat) is_intent) cert verdict laws judges in
-      let handing : SaysOfHanding net intent verdict = says-handing net intent network (flat-by whole flat) is_intent verdict says in
+      let says : SaysFor net intent verdict
+      = says_lists v net (OwnListRealizes net intent) (OwnListExecutes net intent) (OwnListHands net intent)
+      (means-for net intent network (flat-by whole flat) is_intent) cert verdict laws judges in
+      let handing : SaysOfHandingFor net intent verdict = says-handing-for net intent verdict network (flat-by whole flat) is_intent says in
       let wants : CertWants net intent (Ok cert) output = (verdict, record { is = judges; says = says; handing = handing }, told) in
       let read : FlatWants net intent (Ok tt) (Some text) output
       = subst (λ (r : Result Cert Refusal). CertWants net intent r output) (sym (cert-read s comments text laws is all parts small)) wants in
@@ -148,7 +148,7 @@ module _ (net : Network) (intent : Intent) (network : IsNetwork net) (is_intent 
     Checks = FlatWants net intent (flatness_of net) (Some (bytes_for_out old.pieces)) output
 
     list-confirmed : (c : Compiled) (told : List ℕ) (status : Status) → net.hidden ≡ [] → flatness_of net ≡ Ok tt → IsSolution v c.solution
-        → Certifies net intent c.solution (Least c.containers c.need) → HasValues net c
+        → CertifiesFor net intent c.solution (Least c.containers c.need) → HasValues net c
         → old ≡ reported (printed net (report_of net c) c.solution) told status
         → Checks ↔ (output ≡ told_of net (Least c.containers c.need))
     list-confirmed c told status whole flat is certifies has e =
@@ -161,7 +161,7 @@ module _ (net : Network) (intent : Intent) (network : IsNetwork net) (is_intent 
         )
 
     none-confirmed : (s : Solution) (told : List ℕ) (status : Status) → net.hidden ≡ [] → flatness_of net ≡ Ok tt → IsSolution v s
-        → Certifies net intent s NoList → old ≡ reported (printed net no_report s) told status → Checks ↔ (output ≡ told_of net NoList)
+        → CertifiesFor net intent s NoList → old ≡ reported (printed net no_report s) told status → Checks ↔ (output ≡ told_of net NoList)
     none-confirmed s told status whole flat is certifies e =
         let parts = out-is told no_report status s no_report_texts old e no-report-lines in
         let text : List ℕ = bytes_for_out old.pieces in (
@@ -169,23 +169,23 @@ module _ (net : Network) (intent : Intent) (network : IsNetwork net) (is_intent 
           told-back s no_report_texts text NoList output whole flat is certifies no-report-comments parts small,
         )
 
-    confirmed : (answer : Result Compiled CompileFault) → CompileAnswers net intent answer → AnswerWants net intent answer old
+    confirmed : (answer : Result Compiled CompileFault) → IntentAnswers net intent answer → AnswerWants net intent answer old
         → Checks ↔ ConfirmsAnswer net answer output
     confirmed (Ok c) answers e =
         list-confirmed c [] statuses.Done answers.whole answers.flat answers.found.solution
-        (certifies-answer net intent (Ok c) network is_intent answers) (values_kept net intent c network answers) e
+        (certifies-for net intent (Ok c) network is_intent answers) (values_kept net intent c network answers) e
     confirmed (Err (faults.NotFlat why)) answers e =
         let P : Result (Unit {0}) NotFlat → Type 0 = λ r. FlatWants net intent r (Some (bytes_for_out old.pieces)) output in
         (λ wants. subst P answers wants, λ told. subst P (sym answers) told)
     confirmed (Err (faults.NoList s)) answers e =
         none-confirmed s none_line statuses.NoAnswer answers.whole answers.flat answers.solution
-        (certifies-answer net intent (Err (faults.NoList s)) network is_intent answers) e
+        (certifies-for net intent (Err (faults.NoList s)) network is_intent answers) e
     confirmed (Err (faults.TooLong c)) answers e =
         list-confirmed c (too_long_line c.containers) statuses.NoAnswer answers.whole answers.flat answers.found.solution
-        (certifies-answer net intent (Err (faults.TooLong c)) network is_intent answers) (values_long net intent c network answers) e
+        (certifies-for net intent (Err (faults.TooLong c)) network is_intent answers) (values_long net intent c network answers) e
     confirmed (Err (faults.HopLimit c)) answers e =
         list-confirmed c (hop_limit_line c.need) statuses.NoAnswer answers.whole answers.flat answers.found.solution
-        (certifies-answer net intent (Err (faults.HopLimit c)) network is_intent answers) (values_over net intent c network answers) e
+        (certifies-for net intent (Err (faults.HopLimit c)) network is_intent answers) (values_over net intent c network answers) e
     confirmed (Err faults.NoMemory) answers e = absurd e
 
 -- by the judgements of the description and the intent

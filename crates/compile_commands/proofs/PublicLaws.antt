@@ -1,3 +1,4 @@
 -- The lemmas that crates above may cite.
 pub use Rattle.compile_commands.proofs.Compiling.{valued}
 pub use Rattle.compile_commands.proofs.OneOutput.{WantsOne, files-one, compile-one}
+pub use Rattle.intent_legs.proofs.PublicLaws.{one-answer-for}

@@ -13,7 +13,7 @@ use Rattle.list_certificate.specs.Spelling.{IsKnown, spelled}
 use Rattle.path_compiler.specs.declared.compiled.Compiled.{Compiled}
 use Rattle.path_compiler.specs.declared.compiled.CompileFault.{CompileFault}
 use Rattle.path_compiler.specs.declared.compiled.CompileFault.TheVariants as faults
-use Rattle.path_compiler.specs.Compiled.{CompileAnswers, NoLessHandsOver}
+use Rattle.intent_legs.specs.Answers.{IntentAnswers, NoneLessFor}
 use Rattle.srx_edge.specs.Edge.{file_named}
 use Rattle.compile_commands.specs.declared.compile.Answer.{Answer}
 use Rattle.command_output.specs.declared.halt.Failure.TheVariants as failures
@@ -104,14 +104,15 @@ AnswerWants net intent (Err (faults.HopLimit found)) output =
     output ≡ reported (printed net (report_of net found) found.solution) (hop_limit_line found.need) statuses.NoAnswer
 AnswerWants net intent (Err faults.NoMemory) output = ⊥
 
--- the description is judged, then the intent, and then any answer of the compiler will do; what is wanted of each answer is the command's
+-- the description is judged, then the intent, and then any answer of the compiler will do: a list is the least among all legal lists that
+-- realize the intent, those that execute binding SIDs among them; what is wanted of each answer is the command's
 
 abbrev pub Wanted : Type 1
 Wanted = Network → Intent → Result Compiled CompileFault → Output → Type 0
 
 abbrev pub CompiledWants : Wanted → Network → Intent → Output → Type 0
 CompiledWants Wants net intent output =
-    (answer : Result Compiled CompileFault) × CompileAnswers net intent answer × NoLessHandsOver net intent answer
+    (answer : Result Compiled CompileFault) × IntentAnswers net intent answer × NoneLessFor net intent answer
     × Wants net intent answer output
 
 abbrev pub IntentWants : Wanted → Network → Result Intent Refusal → Output → Type 0

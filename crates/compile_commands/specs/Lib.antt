@@ -1,3 +1,5 @@
 pub mod Check
 pub mod Compile
 pub mod Printed
+pub mod Strict
+pub mod Lists

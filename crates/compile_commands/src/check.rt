@@ -3,7 +3,7 @@
 
 ghost use Rattle.std.specs.Prelude.{◌≡◌, [], IfOk};
 ghost use Rattle.intent_reader.specs.Rules.{IsIntent};
-ghost use Rattle.leg_table.specs.Value.{legs_value};
+ghost use Rattle.intent_legs.specs.Legs.{binding_legs_value};
 ghost use Rattle.list_certificate.specs.Certs.{IsCert};
 ghost use Rattle.list_certificate.specs.Reading.{IsNetworkOf};
 ghost use Rattle.list_certificate.specs.Spelling.{IsKnown, state_text};
@@ -17,12 +17,11 @@ use command_output::{
     Halt, Judgement, Status, Text, Told, refusal_of_not_flat, two_words_after, write_all,
 };
 use flat_networks::compilable;
+use intent_legs::IntentLegs;
 use intent_reader::Intent;
-use leg_table::StrictLegs;
 use list_certificate::{Cert, Verdict, Why, append_state};
 use list_pack::State;
 use net_model::Net;
-use path_compiler::checked_over;
 use srx_edge::{Files, Sink};
 use std::alloc::{AllocError, Global};
 
@@ -142,35 +141,35 @@ fn status_of_verdict(verdict: Verdict) -> Status
     }
 }
 
-/// The legs of the strict steps of an intent, where the network is flat.
+/// The legs of an intent, where the network is flat.
 #[tactic(auto, using(crate::proofs::Checking::legs))]
-fn legs_of_flat<'a>(alloc: Global, net: &'a Net, intent: &'a Intent) -> Result<StrictLegs<'a>, Halt>
+fn legs_of_flat<'a>(alloc: Global, net: &'a Net, intent: &'a Intent) -> Result<IntentLegs<'a>, Halt>
     requires whole { net.now.hidden ≡ [] }
     requires intent { IsIntent net.now intent.now }
     ensures legs { LegsOf net.now intent.now result }
-    ensures known { IsNetworkOf net.now (legs_value net.now intent.now) }
+    ensures known { IsNetworkOf net.now (binding_legs_value net.now intent.now) }
 {
     net.keeps_rules();
     if let Err(why) = compilable(alloc, net) {
         return Err(Halt::Refused(refusal_of_not_flat(net, &why)));
     }
-    Ok(StrictLegs::build(alloc, net, intent)?)
+    Ok(IntentLegs::build(alloc, net, intent)?)
 }
 
-/// The judgement of a certificate over the legs of an intent's strict steps.
+/// The judgement of a certificate over the legs of an intent.
 #[tactic(auto, using(crate::proofs::Checking::judgements))]
 fn judgement_of_cert(
     alloc: Global,
     net: &Net,
-    legs: &StrictLegs<'_>,
+    legs: &IntentLegs<'_>,
     cert: &Cert,
 ) -> Result<Judgement, AllocError>
     requires net { legs.now.net ≡ net.now }
-    requires cert { IsCert (legs_value legs.now.net legs.now.intent) cert.now }
+    requires cert { IsCert (binding_legs_value legs.now.net legs.now.intent) cert.now }
     ensures { IfOk result (JudgesAs net.now legs.now.intent cert.now) }
 {
     legs.keeps_rules();
-    let verdict = checked_over(legs, cert);
+    let verdict = intent_legs::check(legs, cert);
     Ok(Judgement {
         line: line_of_verdict(alloc, net, verdict)?,
         status: status_of_verdict(verdict),
@@ -179,8 +178,9 @@ fn judgement_of_cert(
 
 /// Checks the certificate of a file for the intent of another in the network that a third
 /// describes. The description is judged, then the intent, then whether the network is flat, each
-/// before the next file is read; then the certificate is read over the legs of the intent's strict
-/// steps, and judged. What is written is made before any of it goes out. (own rule)
+/// before the next file is read; then the certificate is read over the legs of the intent, and
+/// judged: what is confirmed is the least among all legal lists that realize the intent, those that
+/// execute binding SIDs among them. What is written is made before any of it goes out. (own rule)
 pub fn check<F: Files, O: Sink>(
     alloc: Global,
     file: &str,

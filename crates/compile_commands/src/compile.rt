@@ -4,7 +4,7 @@ ghost use Rattle.std.specs.Prelude.{◌≡◌, [], IfOk, string_bytes};
 ghost use Rattle.std.specs.List.{flat_map};
 ghost use Rattle.net_model.specs.Keeps.{Keeps};
 ghost use Rattle.net_model.specs.Rules.{IsNetwork};
-ghost use Rattle.path_compiler.specs.Compiled.{CompileAnswers};
+ghost use Rattle.intent_legs.specs.Answers.{IntentAnswers};
 ghost use Rattle.command_output.specs.Answers.{CommandsUnread};
 ghost use Rattle.intent_reader.specs.Rules.{IsIntent};
 ghost use Rattle.compile_commands.specs.Compile.{HasValues, KnowsStates, compile_asked, compile_shape, compile_words, container_line, hop_limit_line, none_line, numbers_lines, printed, report_of, too_long_line};
@@ -192,7 +192,7 @@ impl Answer {
     ) -> Result<Answer, Halt>
         requires network { IsNetwork net.now }
         requires facts { Keeps net.now }
-        requires answers { CompileAnswers net.now intent.now compiled.now }
+        requires answers { IntentAnswers net.now intent.now compiled.now }
         ensures { GivesAnswer net.now intent.now compiled.now result }
     {
         match compiled {
@@ -222,14 +222,15 @@ impl Answer {
         ensures { GivesOf net.now intent.now result }
     {
         net.keeps_rules();
-        let compiled = path_compiler::compile(alloc, net, intent);
+        let compiled = intent_legs::compile(alloc, net, intent);
         Answer::of_compiled(alloc, net, intent, &compiled)
     }
 }
 
 /// Compiles the intent of a file in the network that another describes. The description is judged,
 /// then the intent, each before the next is read; what is written is made before any of it goes
-/// out. (own rule)
+/// out. A list is the least among all legal lists that realize the intent, those that execute
+/// binding SIDs among them. (own rule)
 pub fn compile<F: Files, O: Sink>(
     alloc: Global,
     file: &str,

@@ -1,10 +1,16 @@
 //! What `check` says of what `compile` printed, and that this is one.
 
-ghost use Rattle.std.specs.Prelude.{◌≡◌, ℕ, List};
+ghost use Rattle.std.specs.Prelude.{◌≡◌, ◌↔◌, ℕ, List, Option};
+ghost use Rattle.net_model.specs.Network.{Network};
+ghost use Rattle.flat_networks.specs.Flat.{flatness_of};
+ghost use Rattle.intent_reader.specs.declared.intent.Intent.{Intent};
+ghost use Rattle.intent_legs.specs.Kinds.{BindsNothing};
 ghost use Rattle.command_output.specs.Pieces.{Output};
 ghost use Rattle.command_output.specs.Shape.{Held};
-ghost use Rattle.compile_commands.specs.Compile.{compile_shape};
+ghost use Rattle.compile_commands.specs.Check.{FlatWants};
+ghost use Rattle.compile_commands.specs.Compile.{AnswerWants, CompiledWants, compile_shape};
 ghost use Rattle.compile_commands.specs.Printed.{CheckConfirmsCompile};
+ghost use Rattle.compile_commands.specs.Strict.{StrictlyCompiled, StrictlyJudged};
 
 use net_reader::networks_keep_the_rules;
 
@@ -20,10 +26,22 @@ pub fn check_confirms_what_compile_prints()
     networks_keep_the_rules();
 }
 
-/// With one description and one intent `compile` has one output, whatever the input is: one list, its
-/// numbers and one certificate, or one refusal. (own rule)
+/// With one description and one intent `compile` has one output, whatever the input is: one list, the
+/// least among all legal lists that realize the intent, those that execute binding SIDs among them,
+/// its numbers and one certificate, or one refusal. (own rule)
 pub fn compile_has_one_output()
     ensures { (file intent : List ℕ) (held : Held) (input other : List ℕ) (a b : Output)
         → (compile_shape file intent).wants held input a
         → (compile_shape file intent).wants held other b → a ≡ b }
+{}
+
+/// Where no SID of a network binds a policy, `compile` and `check` have the outputs that answers and
+/// verdicts over the strict steps of an intent give, and no others. (own rule)
+pub fn without_binding_sids_outputs_are_strict()
+    ensures compile { (net : Network) (intent : Intent) (output : Output) → BindsNothing net
+        → CompiledWants AnswerWants net intent output ↔ StrictlyCompiled net intent output }
+    ensures check { (net : Network) (intent : Intent) (cert : Option (List ℕ)) (output : Output)
+        → BindsNothing net
+        → FlatWants net intent (flatness_of net) cert output
+        ↔ StrictlyJudged net intent (flatness_of net) cert output }
 {}

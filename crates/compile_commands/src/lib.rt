@@ -7,5 +7,4 @@
 pub mod check;
 pub mod compile;
 pub mod laws;
-
-pub use compile::{line_of_hop_limit, line_of_none, line_of_too_long};
+pub mod lists;

@@ -27,7 +27,7 @@ use Rattle.generate_commands.specs.declared.summed.Summary.{Summary}
 use Rattle.command_output.specs.declared.told.Text.{Text}
 use Rattle.command_output.specs.declared.told.Told.{Told}
 use Rattle.command_output.specs.Answers.{CommandsOut, JudgesText, ending_of_failure}
-use Rattle.compile_commands.specs.Compile.{CompiledWants, IntentWants, NetworkWants, hop_limit_line, none_line, too_long_line}
+use Rattle.walk_commands.specs.Lists.{CompiledWants, IntentWants, NetworkWants, hop_limit_line, none_line, too_long_line}
 use Rattle.command_output.specs.Halts.{flat_refusal}
 use Rattle.generate_commands.specs.Gen.{GenWants, Generates, SumWants, gen_shape, summary_lines}
 use Rattle.walk_commands.specs.Walk.{no_list}

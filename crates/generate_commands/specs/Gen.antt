@@ -21,7 +21,7 @@ use Rattle.command_output.specs.declared.halt.Halt.{Halt}
 use Rattle.command_output.specs.declared.halt.Halt.TheVariants as halts
 use Rattle.command_output.specs.declared.status.Status.TheVariants as statuses
 use Rattle.generate_commands.specs.declared.summed.Summary.{Summary}
-use Rattle.compile_commands.specs.Compile.{NetworkWants, hop_limit_line, none_line, too_long_line}
+use Rattle.walk_commands.specs.Lists.{NetworkWants, hop_limit_line, none_line, too_long_line}
 use Rattle.command_output.specs.Halts.{flat_refusal}
 use Rattle.command_output.specs.Outputs.{refused, reported}
 use Rattle.walk_commands.specs.Walk.{no_list}

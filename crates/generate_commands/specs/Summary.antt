@@ -13,7 +13,7 @@ use Rattle.walk_rules.specs.Walk.{Stage, end_of}
 use Rattle.intent_reader.specs.declared.intent.Intent.{Intent}
 use Rattle.path_compiler.specs.declared.compiled.Compiled.{Compiled}
 use Rattle.path_compiler.specs.declared.compiled.CompileFault.{CompileFault}
-use Rattle.path_compiler.specs.Compiled.{CompileAnswers, IsCompiled, IsLeastOfAll, NoLessHandsOver}
+use Rattle.walk_commands.specs.Lists.{IntentAnswers, IsCompiledFor, IsLeastFor, NoneLessFor}
 use Rattle.run_commands.specs.declared.enters.Comes.{Comes}
 use Rattle.run_commands.specs.Entry.{Entry, comes_of, walk_of_comes}
 use Rattle.walk_commands.specs.declared.headend.Headend.{Headend}
@@ -90,5 +90,5 @@ summary_of net intent c packets =
 -- the summary of a list that the intent is compiled to, or the compiler's answer where there is none
 abbrev pub SummaryAnswers : Network → Intent → ℕ → Result Summary CompileFault → Type 0
 SummaryAnswers net intent packets (Ok s) =
-    (c : Compiled) × IsCompiled net intent c × IsLeastOfAll net intent c × (s ≡ summary_of net intent c packets)
-SummaryAnswers net intent packets (Err fault) = CompileAnswers net intent (Err fault) × NoLessHandsOver net intent (Err fault)
+    (c : Compiled) × IsCompiledFor net intent c × IsLeastFor net intent c × (s ≡ summary_of net intent c packets)
+SummaryAnswers net intent packets (Err fault) = IntentAnswers net intent (Err fault) × NoneLessFor net intent (Err fault)

@@ -6,7 +6,7 @@ ghost use Rattle.net_maker.specs.Intents.{intent_text};
 ghost use Rattle.net_maker.specs.Networks.{net_text};
 ghost use Rattle.intent_reader.specs.Rules.{IsIntent};
 ghost use Rattle.command_output.specs.Answers.{CommandsAlone};
-ghost use Rattle.compile_commands.specs.Compile.{CompiledWants, IntentWants};
+ghost use Rattle.walk_commands.specs.Lists.{CompiledWants, IntentWants};
 ghost use Rattle.generate_commands.specs.Gen.{Generates, GenWants, SumWants, gen_asked, gen_shape, gen_words, list_lines, made_in, network_lines, size_in, summary_lines, walks_lines};
 ghost use Rattle.command_inputs.specs.Judgements.{intent_in};
 ghost use Rattle.command_output.specs.Verbs.{words_of};
@@ -18,7 +18,6 @@ use command_inputs::{intent_of_text, network_of_text};
 use command_output::{
     Failure, Halt, Status, Text, Told, refusal_of_not_flat, two_words_after, write_all,
 };
-use compile_commands::{line_of_hop_limit, line_of_none, line_of_too_long};
 use intent_reader::Intent;
 use net_maker::{Size, write_intent, write_net};
 use net_model::Net;
@@ -26,6 +25,7 @@ use path_compiler::CompileFault;
 use srx_edge::Sink;
 use std::alloc::{AllocError, Global};
 use trace_replay::number_of_word;
+use walk_commands::lists::{line_of_hop_limit, line_of_none, line_of_too_long};
 
 /// The packets of which a summary tells. (own rule)
 pub const PACKETS: u32 = 1_000;

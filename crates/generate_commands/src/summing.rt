@@ -4,7 +4,7 @@ ghost use Rattle.std.specs.Prelude.{◌≡◌, ◌≤◌, ◌<◌, ◌∷◌, []
 ghost use Rattle.srv6_rules.specs.Policies.{IsPolicy};
 ghost use Rattle.walk_rules.specs.Relation.{IsPlace};
 ghost use Rattle.intent_reader.specs.Rules.{IsIntent};
-ghost use Rattle.path_compiler.specs.Compiled.{IsCompiled};
+ghost use Rattle.walk_commands.specs.Lists.{IsCompiledFor};
 ghost use Rattle.run_commands.specs.Entry.{AllEnterIn, walk_of_comes};
 ghost use Rattle.walk_commands.specs.Walk.{entry_at_headend};
 ghost use Rattle.generate_commands.specs.Summary.{SummaryAnswers, frames_in, has_left, is_send, left_in, summary_of, walks_of, walks_of_packet};
@@ -21,6 +21,7 @@ use pcap_io::{LentBody, LentFrame};
 use pkt_buf::PktBuf;
 use run_commands::{Comes, Enters, staged};
 use std::alloc::Global;
+use walk_commands::lists::least_list;
 use walk_commands::{Headend, headend_of};
 use walk_rules::{Ended, MAX_STAGES, Outcome, ended_by, next_place};
 
@@ -153,7 +154,7 @@ fn count_packets(
 }
 
 /// The summary of a list that the intent is compiled to.
-#[tactic(auto, using(compile_commands::proofs::PublicLaws::valued))]
+#[tactic(auto, using(walk_commands::proofs::PublicLaws::valued))]
 fn summary_of_list(
     alloc: Global,
     net: &Net,
@@ -162,7 +163,7 @@ fn summary_of_list(
     packets: u32,
 ) -> Result<Summary, NoMemory>
     requires intent { IsIntent net.now intent.now }
-    requires compiled { IsCompiled net.now intent.now compiled.now }
+    requires compiled { IsCompiledFor net.now intent.now compiled.now }
     requires packets { packets ≤ MAX_PACKETS }
     ensures { IfOk result (λ summary.
         summary ≡ summary_of net.now intent.now compiled.now packets) }
@@ -184,9 +185,10 @@ fn summary_of_list(
     })
 }
 
-/// Compiles an intent that keeps the rules in a network, and walks so many generated packets,
-/// numbered from 1, from its headend with the list, one after the other, as the command `walk`
-/// does with choices 0 and 1: what all that comes to in numbers. A packet that the headend drops,
+/// Compiles an intent that keeps the rules in a network, as `compile` does, to a list that may
+/// execute SIDs that bind policies, and walks so many generated packets, numbered from 1, from its
+/// headend with the list, one after the other, as the command `walk` does with choices 0 and 1:
+/// what all that comes to in numbers. A packet that the headend drops,
 /// or that is not of the intent's family, is counted in `packets` alone. The refusals are those of
 /// `compile`, and come where it gives them. (own rule)
 pub fn summary(
@@ -200,7 +202,7 @@ pub fn summary(
     requires packets { packets ≤ MAX_PACKETS }
     ensures { SummaryAnswers net.now intent.now packets result }
 {
-    let list = path_compiler::compile(alloc, net, intent)?;
+    let list = least_list(alloc, net, intent)?;
     match summary_of_list(alloc, net, intent, &list, packets) {
         Ok(summary) => Ok(summary),
         Err(NoMemory) => Err(CompileFault::NoMemory),

@@ -1,1 +1,5 @@
 pub mod Tables
+pub mod Alike
+pub mod Strict
+pub mod Answering
+pub mod PublicLaws

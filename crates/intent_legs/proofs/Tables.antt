@@ -2,8 +2,8 @@
 use Rattle.std.proofs.Common.{◌≡◌, ℕ, Option, sym, ap, subst, ◌∙◌}
 use Rattle.leg_table.specs.Leg.{finish_of, leg_of}
 use Rattle.leg_table.specs.Table.{LegTable}
-use Rattle.binding_starts.specs.Value.{binding_finish, binding_leg}
-use Rattle.start_laws.proofs.Strict.{finish-strict, leg-strict}
+use Rattle.binding_legs.specs.Legs.{binding_finish, binding_leg}
+use Rattle.binding_legs.proofs.PublicLaws.{finish-strict, leg-strict}
 use Rattle.intent_legs.specs.declared.legs.Kind.{Kind}
 use Rattle.intent_legs.specs.declared.legs.Kind.TheVariants as kinds
 use Rattle.intent_legs.specs.Kinds.{BindsNothing, SuitsKind, table_of}

@@ -3,8 +3,8 @@ use Rattle.std.specs.Prelude.{Result}
 use Rattle.net_model.specs.Network.{Network}
 use Rattle.intent_reader.specs.declared.intent.Intent.{Intent}
 use Rattle.own_hands.specs.Realizes.{OwnListExecutes, OwnListRealizes}
-use Rattle.binding_starts.specs.Value.{binding_legs_value}
-use Rattle.binding_meanings.specs.Hands.{OwnListHands}
+use Rattle.binding_legs.specs.Legs.{binding_legs_value}
+use Rattle.binding_legs.specs.Legs.{OwnListHands}
 use Rattle.path_compiler.specs.declared.compiled.Compiled.{Compiled}
 use Rattle.path_compiler.specs.declared.compiled.CompileFault.{CompileFault}
 use Rattle.path_compiler.specs.Compiled.{AnswersOver, IsKept, IsLeastOver, NoneLessOver}

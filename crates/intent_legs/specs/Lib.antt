@@ -1,2 +1,4 @@
 pub mod Kinds
 pub mod Answers
+pub mod Verdicts
+pub mod Legs

@@ -5,8 +5,8 @@ ghost use Rattle.intent_reader.specs.Rules.{IsIntent};
 ghost use Rattle.list_certificate.specs.Certs.{IsCert};
 ghost use Rattle.list_certificate.specs.Verdicts.{IsVerdict};
 ghost use Rattle.own_hands.specs.Realizes.{OwnListExecutes, OwnListRealizes};
-ghost use Rattle.binding_starts.specs.Value.{binding_legs_value};
-ghost use Rattle.binding_meanings.specs.Hands.{OwnListHands};
+ghost use Rattle.binding_legs.specs.Legs.{binding_legs_value};
+ghost use Rattle.binding_legs.specs.Legs.{OwnListHands};
 ghost use Rattle.path_compiler.specs.Checked.{Says, SaysOver};
 ghost use Rattle.intent_legs.specs.Answers.{IntentAnswers, NoneLessFor};
 

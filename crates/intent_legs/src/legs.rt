@@ -103,7 +103,7 @@ impl<'a> IntentLegs<'a> {
 }
 
 impl<'a> Legs for IntentLegs<'a> {
-    ghost use Rattle.binding_starts.specs.Value.{binding_legs_value};
+    ghost use Rattle.binding_legs.specs.Legs.{binding_legs_value};
 
     ghost seen = { λ t. binding_legs_value t.net t.intent };
 
@@ -150,7 +150,7 @@ impl<'a> Legs for IntentLegs<'a> {
 
 impl<'a> ListLegs for IntentLegs<'a> {
     ghost use Rattle.own_hands.specs.Realizes.{OwnListRealizes, OwnListExecutes};
-    ghost use Rattle.binding_meanings.specs.Hands.{OwnListHands};
+    ghost use Rattle.binding_legs.specs.Legs.{OwnListHands};
 
     ghost network = { λ t. t.net };
 

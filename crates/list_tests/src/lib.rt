@@ -8,6 +8,8 @@
 #[cfg(test)]
 mod grid;
 #[cfg(test)]
+mod intent_legs_tests;
+#[cfg(test)]
 mod leg_table_tests;
 #[cfg(test)]
 mod list_certificate_tests;

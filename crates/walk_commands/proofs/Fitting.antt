@@ -75,14 +75,14 @@ IsSmall len (V4 p) = ⊥
 IsSmall len (Unreadable bytes reason) = ⊥
 
 -- what goes on from a stage, where it binds no policy
-abbrev SmallAfter : Network → ℕ → Outcome → Content → Type 0
+abbrev pub SmallAfter : Network → ℕ → Outcome → Content → Type 0
 SmallAfter net len (outcomes.Again n how) after = is_binding net n ≡ false → IsSmall len after
 SmallAfter net len (outcomes.Hand n how family) after = Unit {0}
 SmallAfter net len (outcomes.Send link) after = IsSmall len after
 SmallAfter net len outcomes.Local after = Unit {0}
 SmallAfter net len (outcomes.Drop reason told) after = Unit {0}
 
-abbrev GaveSmall : Network → ℕ → Gave → Type 0
+abbrev pub GaveSmall : Network → ℕ → Gave → Type 0
 GaveSmall net len gave = SmallAfter net len gave.outcome gave.after
 
 lowered-small : (len : ℕ) (lower : Bool) (p : Packet) → IsSmall len (V6 p) → IsSmall len (V6 (lowered lower p))
@@ -108,7 +108,7 @@ sid-small net len node n s allow p (Exposed family bytes) there same h = tt
 sid-small net len node n s allow p (Delivered q) there same h = tt
 sid-small net len node n s allow p (Refused reason at) there same h = tt
 
-step-small : (net : Network) (len : ℕ) (place : Place) (content : Content) (choice : ℕ) → IsSmall len content
+pub step-small : (net : Network) (len : ℕ) (place : Place) (content : Content) (choice : ℕ) → IsSmall len content
     → GaveSmall net len (free_step_of net place content choice)
 step-small net len place (Unreadable bytes reason) choice h = absurd h
 step-small net len place (V4 p) choice h = absurd h
@@ -123,7 +123,7 @@ step-small net len place (V6 p) choice h =
           sid-small net len place.node n s allow p (at_sid s allow p) there refl h;
     })
 
-own-small : (len : ℕ) (content : Content) → IsSmall len content → own_len content ≤ len
+pub own-small : (len : ℕ) (content : Content) → IsSmall len content → own_len content ≤ len
 own-small len (V6 p) h = omega (arith, h, length-spelling p)
 own-small len (V4 p) h = absurd h
 own-small len (Unreadable bytes reason) h = absurd h
@@ -131,12 +131,12 @@ own-small len (Unreadable bytes reason) h = absurd h
 -- ---- the walk
 
 -- what is handed over later, after an execution
-carried-later : (net : Network) (len m : ℕ) (b : Bool) (es : List Event)
+pub carried-later : (net : Network) (len m : ℕ) (b : Bool) (es : List Event)
     → All (Carried net len) ((if b then Executed m ∷ [] else []) ++ es) → All (Carried net len) es
 carried-later net len m true es all = All-tail (Carried net len) (Executed m) es all
 carried-later net len m false es all = all
 
-behind-some : (f : Handed → Handed) (o : Option Handed) (h : Handed) → option_map f o ≡ Some h
+pub behind-some : (f : Handed → Handed) (o : Option Handed) (h : Handed) → option_map f o ≡ Some h
     → (later : Handed) × (o ≡ Some later) × (f later ≡ h)
 behind-some f None h e = absurd (cc e)
 behind-some f (Some later) h e = (later, refl, same_Some (f later) h e)

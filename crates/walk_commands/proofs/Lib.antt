@@ -1,3 +1,5 @@
+pub mod FirstHands
+pub mod PlainSmalls
 pub mod HandingOver
 pub mod Fitting
 pub mod HeadendSteps

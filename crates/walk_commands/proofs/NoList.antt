@@ -3,13 +3,11 @@ use Rattle.std.proofs.Common.{◌≡◌, ◌≢◌, ℕ, List, [], ◌∷◌, Op
 use Rattle.std.specs.Prelude.{IsSomeAnd}
 use Rattle.net_model.specs.Network.{Network}
 use Rattle.intent_reader.specs.declared.intent.Intent.{Intent}
-use Rattle.leg_table.specs.Realizes.{ListRealizes, ListExecutes}
-use Rattle.leg_table.specs.Value.{legs_value}
 use Rattle.path_compiler.specs.declared.compiled.Compiled.{Compiled}
 use Rattle.path_compiler.specs.declared.compiled.CompileFault.{CompileFault}
 use Rattle.path_compiler.specs.declared.compiled.CompileFault.TheVariants as faults
-use Rattle.path_compiler.specs.Compiled.{CompileAnswers, IsCompiled}
-use Rattle.path_compiler.proofs.PublicLaws.{answers-same}
+use Rattle.compile_commands.specs.Lists.{IntentAnswers, IsCompiledFor}
+use Rattle.compile_commands.proofs.PublicLaws.{one-answer-for}
 use Rattle.command_output.specs.declared.refusal.Refusal.{Refusal}
 use Rattle.command_output.specs.declared.status.Status.{Status}
 use Rattle.command_output.specs.declared.status.Status.TheVariants as statuses
@@ -49,21 +47,16 @@ module _ (net : Network) (intent : Intent) where
   abbrev IsWant : Result Compiled CompileFault → Type 0
   IsWant answer = answer ≡ Err faults.NoMemory
 
-  one-answer : (a b : Result Compiled CompileFault) → CompileAnswers net intent a → CompileAnswers net intent b
-      → (IsWant a → ⊥) → (IsWant b → ⊥) → a ≡ b
-  one-answer a b one other some also =
-      answers-same (legs_value net intent) net (ListRealizes net intent) (ListExecutes net intent) intent a b one other some also
-
   found-or-not : (c : Compiled) (fault : CompileFault) (answer : Result Compiled CompileFault) → answer ≡ Ok c → answer ≡ Err fault → ⊥
   found-or-not c fault answer found not = cc
 
-  other-answer : (c : Compiled) (fault : CompileFault) → IsCompiled net intent c → CompileAnswers net intent (Err fault)
+  other-answer : (c : Compiled) (fault : CompileFault) → IsCompiledFor net intent c → IntentAnswers net intent (Err fault)
       → (IsWant (Err fault) → ⊥) → ⊥
   other-answer c fault is answers some =
-      found-or-not c fault (Ok c) refl (one-answer (Ok c) (Err fault) is answers (λ e. cc) some)
+      found-or-not c fault (Ok c) refl (one-answer-for net intent (Ok c) (Err fault) is answers (λ e. cc) some)
 
-  by-answer : (c : Compiled) (answer : Result Compiled CompileFault) (output : Output) → IsCompiled net intent c
-      → output.status ≢ statuses.Done → CompileAnswers net intent answer → WalkWants [] [] (96 ∷ []) net intent answer output → ⊥
+  by-answer : (c : Compiled) (answer : Result Compiled CompileFault) (output : Output) → IsCompiledFor net intent c
+      → output.status ≢ statuses.Done → IntentAnswers net intent answer → WalkWants [] [] (96 ∷ []) net intent answer output → ⊥
   by-answer c (Ok d) output is early answers wants =
       let whole : (walk_output net (headend_of net intent d) [] [] (96 ∷ [])).status ≡ statuses.Done = refl in
       early (ap (λ (o : Output). o.status) wants.0 ∙ whole)

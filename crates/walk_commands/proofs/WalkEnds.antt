@@ -7,6 +7,7 @@ use Rattle.srx_edge.specs.Sources.{SourceSeen}
 use Rattle.srx_edge.specs.Sinks.{SinkSeen}
 use Rattle.srx_edge.specs.Steps.{How}
 use Rattle.net_model.specs.Network.{Network}
+use Rattle.net_model.specs.Rules.{IsNetwork}
 use Rattle.intent_reader.specs.declared.intent.Intent.{Intent}
 use Rattle.walk_commands.specs.declared.headend.Headend.{Headend}
 use Rattle.walk_commands.specs.declared.start.Start.TheVariants as starts
@@ -219,8 +220,8 @@ module _ (file intent choices schedule : List ℕ) where
           (unread-early f.told s (early-intent (no_list_always net value (no_list (bytes_of_text line)) (λ done. cc) h))))
           (λ done. cc (sym status ∙ done))
 
-      module _ (headend : Headend) (begins : StartsAs net value (Ok (starts.List headend))) (byte : value.hop_limit < 2 ^ 8)
-          (some : 0 < length choices) where
+      module _ (headend : Headend) (begins : StartsAs net value (Ok (starts.List headend))) (network : IsNetwork net)
+          (byte : value.hop_limit < 2 ^ 8) (some : 0 < length choices) where
         -- so the input is read
         has-list : (told : Option Held) → IfSome told (DescriptionIs (Ok net)) → IfSome told (IntentIs net (Ok value))
             → IfSome told (ReadsInput file intent)
@@ -256,7 +257,7 @@ module _ (file intent choices schedule : List ℕ) where
               begins.2,
               (
                 w input h ∙ ap (λ (h : Headend). walk_output net h choices schedule input) begins.3,
-                λ inner is. walks_keep net value begins.0 choices inner byte begins.1 some is,
+                walks_keep net value begins.0 choices network byte begins.1 some,
               ),
             ))
 

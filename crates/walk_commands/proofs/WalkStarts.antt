@@ -12,7 +12,7 @@ use Rattle.list_places.specs.Lists.{IsLegal}
 use Rattle.list_pack.specs.declared.types.Container.{Container}
 use Rattle.list_pack.specs.SidLists.{list_in, list_values}
 use Rattle.path_compiler.specs.declared.compiled.Compiled.{Compiled}
-use Rattle.path_compiler.specs.Compiled.{IsCompiled}
+use Rattle.compile_commands.specs.Lists.{IsCompiledFor}
 use Rattle.run_commands.specs.Entry.{AllEnterIn, EntersIn}
 use Rattle.walk_commands.specs.declared.headend.Headend.{Headend}
 use Rattle.walk_commands.specs.Walk.{AtHeadend, NotRead, Dropped, Enters, at_headend, entry_at_headend, entry_of, headend_of, policy_of, segment_of}
@@ -60,7 +60,7 @@ pub values-count : (net : Network) (list : List Container) → length (list_valu
 values-count net list = length-map (list_in net list) _ ∙ length-map list _
 
 -- a compiled list makes a policy
-list_fits : (net : Network) (intent : Intent) (c : Compiled) → IsIntent net intent → IsCompiled net intent c
+list_fits : (net : Network) (intent : Intent) (c : Compiled) → IsIntent net intent → IsCompiledFor net intent c
     → IsPolicy (policy_of net intent c)
 list_fits net intent c is compiled =
     let bounds = intent_bounds net intent is in
@@ -78,7 +78,7 @@ list_fits net intent c is compiled =
 
 -- ---- the headend with a list: what it puts in front of packets is a policy, and packets enter within the network
 
-pub headend_ready : (net : Network) (intent : Intent) (c : Compiled) (h : Headend) → IsIntent net intent → IsCompiled net intent c
+pub headend_ready : (net : Network) (intent : Intent) (c : Compiled) (h : Headend) → IsIntent net intent → IsCompiledFor net intent c
     → h ≡ headend_of net intent c → IsPolicy h.policy
 headend_ready net intent c h is compiled same =
     subst (λ (h : Headend). IsPolicy h.policy) (sym same) (list_fits net intent c is compiled)

@@ -1,2 +1,3 @@
 pub mod Headend
 pub mod Walk
+pub mod Lists

@@ -1,6 +1,6 @@
 -- The command `walk`: the inner packets of the input, encapsulated at the headend of the intent of a file with the list that
 -- the intent is compiled to, in the network that another file describes (RFC 8986 sections 5.1 and 5.2).
-use Rattle.std.specs.Prelude.{◌≡◌, ℕ, ◌+◌, ◌^◌, ◌<◌, ◌≤◌, true, false, IsTrue, if◌then◌else◌, List, [], ◌∷◌, codes, length, map, All, Option, Some, Result, Ok, Err, IsSomeAnd, ⊤, None}
+use Rattle.std.specs.Prelude.{◌≡◌, ℕ, ◌+◌, ◌≤◌, true, false, IsTrue, if◌then◌else◌, List, [], ◌∷◌, codes, length, map, All, Option, Some, Result, Ok, Err, IsSomeAnd, ⊤, None}
 use Rattle.v6_addr.specs.declared.address.Addr.{Addr}
 use Rattle.pcap_io.specs.declared.frame.Body.{Body}
 use Rattle.pcap_io.specs.declared.frame.Body.TheVariants as bodies
@@ -25,13 +25,16 @@ use Rattle.intent_reader.specs.declared.intent.Intent.{Intent}
 use Rattle.intent_reader.specs.declared.intent.Step.{Step}
 use Rattle.intent_reader.specs.declared.intent.Step.TheVariants.{Links, Function}
 use Rattle.list_pack.specs.SidLists.{list_values}
-use Rattle.leg_table.specs.Realizes.{headend_place, IsInner, content_lowered}
+use Rattle.leg_table.specs.Realizes.{headend_place, IsInner, ListRealizes, content_lowered}
 use Rattle.leg_table.specs.Tasks.{matches}
 use Rattle.leg_table.specs.Trace.{Handed, handed_over}
+use Rattle.own_hands.specs.Counting.{handed_at_depth}
+use Rattle.own_hands.specs.Small.{IsSmall}
 use Rattle.path_compiler.specs.declared.compiled.Compiled.{Compiled}
 use Rattle.path_compiler.specs.declared.compiled.CompileFault.{CompileFault}
 use Rattle.path_compiler.specs.declared.compiled.CompileFault.TheVariants as faults
-use Rattle.path_compiler.specs.Compiled.{IsCompiled, IsLeastOfAll}
+use Rattle.compile_commands.specs.Lists.{IsCompiledFor, IsLeastFor}
+use Rattle.compile_commands.specs.Lists.{BindsNothing}
 use Rattle.packet_walk.specs.Schedule.{Coming}
 use Rattle.srx_edge.specs.Edge.{file_named}
 use Rattle.walk_commands.specs.declared.headend.Headend.{Headend}
@@ -186,21 +189,35 @@ pub record IsEncapsulated (net : Network) (intent : Intent) (c : Compiled) (inne
   pub small : c.header + length (bytes_of inner) ≤ most_len
   pub goes_over : All (GoesOver net (c.header + length (bytes_of inner))) intent.steps
 
--- it enters, its walk's trace up to the first hand-over is the intent's steps, and what is handed over is the inner packet
--- with its hop limit or TTL lowered by one
+-- it enters, its walk's trace up to its own hand-over is the intent's steps, and what is handed over there is the inner packet with
+-- its hop limit or TTL lowered by one; the own hand-over is the first at depth 0, where the depth is counted by outcomes
 pub record KeepsTo (net : Network) (intent : Intent) (c : Compiled) (choices : List ℕ) (inner : Content) : Type 0 where
   pub outer : Content
   pub enters : of_content (policy_of net intent c) inner ≡ Enters outer
   pub handed : Handed
-  pub first : handed_over net (walk_at_headend net intent choices outer) ≡ Some handed
+  pub own : handed_at_depth net 0 (walk_at_headend net intent choices outer) ≡ Some handed
   pub steps : IsTrue (matches intent.steps handed.trace)
   pub lowered : handed.content ≡ content_lowered inner
+
+-- and that is what its walk hands over first
+pub record KeepsToAtFirst (net : Network) (intent : Intent) (c : Compiled) (choices : List ℕ) (inner : Content) : Type 0 where
+  pub keeps : KeepsTo net intent c choices inner
+  pub first : handed_over net (walk_at_headend net intent choices keeps.outer) ≡ Some keeps.handed
+
+-- what the walks of a list keep to: every inner packet of the intent that may be encapsulated and is small keeps to the intent, also where
+-- the list executes SIDs that bind policies. Where it executes none, so does every inner packet that fits the links of the intent's steps,
+-- with the first hand-over of its walk; and so it is in a network in which no SID binds a policy
+pub record WalksKeep (net : Network) (intent : Intent) (c : Compiled) (choices : List ℕ) : Type 0 where
+  pub small : (inner : Content) → IsInner intent.inner inner → IsSmall net intent (list_values net c.list) inner intent.hop_limit
+      → KeepsTo net intent c choices inner
+  pub strict : ListRealizes net intent c.list c.need → (inner : Content) → IsEncapsulated net intent c inner
+      → KeepsToAtFirst net intent c choices inner
+  pub plain : BindsNothing net → (inner : Content) → IsEncapsulated net intent c inner → KeepsToAtFirst net intent c choices inner
 
 -- the output of a list, whose walks keep to the intent
 abbrev pub ListWants : Network → Intent → List ℕ → List ℕ → List ℕ → Compiled → Output → Type 0
 ListWants net intent choices schedule input c output =
-    (output ≡ walk_output net (headend_of net intent c) choices schedule input)
-    × ((inner : Content) → IsEncapsulated net intent c inner → KeepsTo net intent c choices inner)
+    (output ≡ walk_output net (headend_of net intent c) choices schedule input) × WalksKeep net intent c choices
 
 -- the output of an answer of the compiler; want of memory has none
 abbrev pub WalkWants : List ℕ → List ℕ → List ℕ → Network → Intent → Result Compiled CompileFault → Output → Type 0
@@ -215,7 +232,7 @@ WalkWants choices schedule input net intent (Err faults.NoMemory) output = ⊥
 
 abbrev pub HasList : Network → Result Intent Refusal → Type 0
 HasList net (Err refusal) = ⊥
-HasList net (Ok intent) = (c : Compiled) × IsCompiled net intent c
+HasList net (Ok intent) = (c : Compiled) × IsCompiledFor net intent c
 
 abbrev pub HasListIn : Result Network Refusal → Option (List ℕ) → Type 0
 HasListIn (Err refusal) intent = ⊥
@@ -239,17 +256,10 @@ walk_shape file intent choices schedule = record {
 -- how a walk starts, as its steps answer it: at the headend, with a list, or there is no list, or the refusal
 abbrev pub StartsAs : Network → Intent → Result Start Halt → Type 0
 StartsAs net intent (Ok (starts.List headend)) =
-    (c : Compiled) × IsCompiled net intent c × IsLeastOfAll net intent c × (headend ≡ headend_of net intent c)
+    (c : Compiled) × IsCompiledFor net intent c × IsLeastFor net intent c × (headend ≡ headend_of net intent c)
 StartsAs net intent (Ok (starts.NoList told)) =
     (choices schedule input : List ℕ) → CompiledWants (WalkWants choices schedule input) net intent (no_list (bytes_of_text told))
 StartsAs net intent (Err (halts.Refused refusal)) =
     (choices schedule input : List ℕ) → CompiledWants (WalkWants choices schedule input) net intent (refused refusal)
 StartsAs net intent (Err (halts.Failed failures.Fault)) = ⊥
 StartsAs net intent (Err (halts.Failed failures.NoMemory)) = ⊤
-
--- so it is for every intent and every list that it may be compiled to, whatever is chosen; a hop limit is a byte
-abbrev pub WalksKeepTo : Type 0
-WalksKeepTo =
-    (net : Network) (intent : Intent) (c : Compiled) (choices : List ℕ) (inner : Content)
-    → intent.hop_limit < 2 ^ 8 → IsCompiled net intent c → 0 < length choices → IsEncapsulated net intent c inner
-    → KeepsTo net intent c choices inner

@@ -1,7 +1,16 @@
 //! What walks from the headend keep to, and what a schedule changes of them.
 
-ghost use Rattle.std.specs.Prelude.{◌≡◌, ◌<◌, ℕ, All, List, length};
+ghost use Rattle.std.specs.Prelude.{◌≡◌, ◌<◌, ◌^◌, ℕ, All, List, length};
+ghost use Rattle.srv6_rules.specs.Packet.{Content, IsSpellable};
 ghost use Rattle.net_model.specs.Network.{Network};
+ghost use Rattle.net_model.specs.Rules.{IsNetwork};
+ghost use Rattle.intent_reader.specs.declared.intent.Intent.{Intent};
+ghost use Rattle.list_pack.specs.SidLists.{list_values};
+ghost use Rattle.leg_table.specs.Realizes.{IsInner, ListRealizes, encapsulated_for};
+ghost use Rattle.own_hands.specs.Small.{IsSmall};
+ghost use Rattle.path_compiler.specs.declared.compiled.Compiled.{Compiled};
+ghost use Rattle.compile_commands.specs.Lists.{IsCompiledFor};
+ghost use Rattle.compile_commands.specs.Lists.{BindsNothing};
 ghost use Rattle.packet_walk.specs.Schedule.{scheduled, steps_of};
 ghost use Rattle.command_inputs.specs.declared.packets.Packets.{Packets};
 ghost use Rattle.command_inputs.specs.Packets.{reading_of};
@@ -10,16 +19,39 @@ ghost use Rattle.run_commands.specs.Scheduled.{frames_sent, line_of_walk, lines_
 ghost use Rattle.command_output.specs.Pieces.{Output};
 ghost use Rattle.command_output.specs.Shape.{Held};
 ghost use Rattle.walk_commands.specs.declared.headend.Headend.{Headend};
-ghost use Rattle.walk_commands.specs.Walk.{WalksKeepTo, comings_at_headend, walk_shape};
+ghost use Rattle.walk_commands.specs.Walk.{IsEncapsulated, KeepsTo, KeepsToAtFirst, comings_at_headend, walk_shape};
 
-/// An inner packet of the intent's family whose hop limit or TTL is at least 2, and whose outer
-/// packet is not too big and no longer than the MTU of each link of each step, enters at the
-/// headend. Its walk, which `walk` writes, crosses and
-/// executes exactly the intent's steps, in order, up to where it first hands a packet over,
-/// whatever is chosen; and that is the inner packet with its hop limit or TTL lowered by one (with
-/// IPv4 the checksum that follows too) and nothing else changed. (RFC 8986 sections 5.1 and 5.2)
+/// An inner packet of the intent's family whose hop limit or TTL is at least 2, and that is small,
+/// enters at the headend. It is small where bytes spell it with its first header, the payload of
+/// each header that a binding SID pushes in front of it fits, each packet fits the link that it is
+/// sent on, with all headers in front, and there are fewer stages than a walk may have. Its walk,
+/// which `walk` writes, crosses and executes exactly the intent's steps, in order, up to its own
+/// hand-over, whatever is chosen: the first that takes off no header of a binding SID. What is
+/// handed over there is the inner packet with its hop limit or TTL lowered by one (with IPv4 the
+/// checksum that follows too) and nothing else changed. Where the list realizes the intent without
+/// SIDs that bind policies, it is so, with the first hand-over of the walk, of every such packet
+/// whose outer packet is not too big and no longer than the MTU of each link of each step. In a
+/// network in which no SID binds a policy every list does so, and that packet is small, where bytes
+/// spell it with its first header. (RFC 8986 sections 4.13, 4.14, 4.16.3, 5.1 and 5.2)
 pub fn a_walk_keeps_to_the_intent()
-    ensures { WalksKeepTo }
+    ensures small { (net : Network) (intent : Intent) (c : Compiled) (choices : List ℕ) →
+        (inner : Content) → IsNetwork net → IsCompiledFor net intent c → 0 < length choices →
+        IsInner intent.inner inner →
+        IsSmall net intent (list_values net c.list) inner intent.hop_limit →
+        KeepsTo net intent c choices inner }
+    ensures strict { (net : Network) (intent : Intent) (c : Compiled) (choices : List ℕ) →
+        (inner : Content) → ListRealizes net intent c.list c.need → intent.hop_limit < 2 ^ 8 →
+        IsCompiledFor net intent c → 0 < length choices → IsEncapsulated net intent c inner →
+        KeepsToAtFirst net intent c choices inner }
+    ensures plain { (net : Network) (intent : Intent) (c : Compiled) (choices : List ℕ) →
+        (inner : Content) → BindsNothing net → intent.hop_limit < 2 ^ 8 →
+        IsCompiledFor net intent c → 0 < length choices → IsEncapsulated net intent c inner →
+        KeepsToAtFirst net intent c choices inner }
+    ensures fits { (net : Network) (intent : Intent) (c : Compiled) (inner : Content) →
+        BindsNothing net → intent.hop_limit < 2 ^ 8 → IsCompiledFor net intent c →
+        IsEncapsulated net intent c inner →
+        IsSpellable (encapsulated_for intent (list_values net c.list) inner intent.hop_limit) →
+        IsSmall net intent (list_values net c.list) inner intent.hop_limit }
 {}
 
 /// Whatever the schedule, the frames of a packet that the headend encapsulates are those of its own

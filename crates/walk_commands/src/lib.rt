@@ -6,6 +6,7 @@
 pub mod headend;
 mod inner;
 pub mod laws;
+pub mod lists;
 pub mod start;
 pub mod walk;
 

@@ -8,7 +8,7 @@ ghost use Rattle.walk_commands.specs.Walk.{StartsAs, headend_of, policy_of};
 use crate::headend::Headend;
 use base::{NoMemory, Seq};
 use command_output::{Failure, Halt, Text, refusal_of_not_flat};
-use compile_commands::{line_of_hop_limit, line_of_none, line_of_too_long};
+use compile_commands::lists::{least_list, line_of_hop_limit, line_of_none, line_of_too_long};
 use intent_reader::Intent;
 use list_pack::values;
 use net_model::Net;
@@ -65,7 +65,8 @@ pub fn headend_of(
     })
 }
 
-/// How a walk starts for an intent: with the list that it is compiled to, if there is one.
+/// How a walk starts for an intent: with the list that it is compiled to, binding SIDs among its
+/// SIDs or not, if there is one.
 #[tactic(auto, using(compile_commands::proofs::PublicLaws::valued))]
 pub(crate) fn start_of_intent(alloc: Global, net: &Net, intent: &Intent) -> Result<Start, Halt>
     requires whole { net.now.hidden ≡ [] }
@@ -73,7 +74,7 @@ pub(crate) fn start_of_intent(alloc: Global, net: &Net, intent: &Intent) -> Resu
     ensures { StartsAs net.now intent.now result }
 {
     net.keeps_rules();
-    match path_compiler::compile(alloc, net, intent) {
+    match least_list(alloc, net, intent) {
         Ok(list) => Ok(Start::List(headend_of(alloc, net, intent, &list)?)),
         Err(CompileFault::NotFlat(why)) => Err(Halt::Refused(refusal_of_not_flat(net, &why))),
         Err(CompileFault::NoList { .. }) => Ok(Start::NoList(line_of_none())),

@@ -48,8 +48,10 @@ pub fn walk_of_words(alloc: Global, words: &[String]) -> Result<Option<WalkWords
 
 /// Walks the inner packets of the input, in the order of a schedule as `run` does, from the
 /// headend of the intent of a file, encapsulated with the list that the intent is compiled to in
-/// the network that another file describes. Decision d of each packet, counted in its sends from
-/// 0, takes the choice at d modulo the number of choices. The description is judged, then the
+/// the network that another file describes; the list may execute SIDs that bind policies. Each
+/// inner packet that is small crosses and executes exactly the intent's steps up to its own
+/// hand-over, as the law `a_walk_keeps_to_the_intent` says. Decision d of each packet, counted in
+/// its sends from 0, takes the choice at d modulo the number of choices. The description is judged, then the
 /// intent, each before the next is read; where there is no list nothing is written but a line, and
 /// the input is not read. Packets that are not read or that the headend drops have their lines
 /// before the first stage of any packet, by their numbers. What comes after the last frame of a
@@ -82,6 +84,7 @@ pub fn walk<F: Files, S: Source, O: Sink, E: Sink>(
             });
         }
     };
+    net.keeps_rules();
     hop_limit_fits(intent.hop_limit);
     let packets = packets_of_input(alloc, input)?;
     let course = Course {

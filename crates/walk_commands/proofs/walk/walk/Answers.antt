@@ -38,7 +38,7 @@ returns-in_err-packets g c =
     rw (p.1, p.2) (walk_halted_at_input c.args.file.now c.args.intent.now c.args.choices.now c.args.schedule.now _ _ _ _ _
     (g.O.Sink.seen c.args.out.now) (g.E.Sink.seen c.args.err.now)
     c.in_ok-net.net c.in_ok-net.ensures.judged c.in_ok-intent.intent c.in_ok-intent.ensures.judged
-    c.in-List.headend (rw c.in-List.is at c.in_ok-start.ensures) c.hop_limit_fits.ensures
+    c.in-List.headend (rw c.in-List.is at c.in_ok-start.ensures) c.keeps_rules.ensures.network c.hop_limit_fits.ensures
     c.requires
     c.in_err-packets.field-0.0 c.in_err-packets.ensures.judged)
 
@@ -58,7 +58,7 @@ returns-in_err-refusal g c =
     rw (p.1, p.2) (walk_halted_at_pieces c.args.file.now c.args.intent.now c.args.choices.now c.args.schedule.now _ _ _ _ _
     (g.O.Sink.seen c.args.out.now) (g.E.Sink.seen c.args.err.now)
     c.in_ok-net.net c.in_ok-net.ensures.judged c.in_ok-intent.intent c.in_ok-intent.ensures.judged
-    c.in-List.headend (rw c.in-List.is at c.in_ok-start.ensures) c.hop_limit_fits.ensures
+    c.in-List.headend (rw c.in-List.is at c.in_ok-start.ensures) c.keeps_rules.ensures.network c.hop_limit_fits.ensures
     c.requires
     c.in_ok-packets.packets c.in_ok-packets.ensures.judged
     (g.O.Sink.seen c.drive.new.out) (g.E.Sink.seen c.drive.new.err)
@@ -68,7 +68,7 @@ pub returns-in-Some : goal.returns-in-Some
 returns-in-Some g c = walk_refused c.args.file.now c.args.intent.now c.args.choices.now c.args.schedule.now _ _ _ _ _
     (g.O.Sink.seen c.args.out.now) (g.E.Sink.seen c.args.err.now)
     c.in_ok-net.net c.in_ok-net.ensures.judged c.in_ok-intent.intent c.in_ok-intent.ensures.judged
-    c.in-List.headend (rw c.in-List.is at c.in_ok-start.ensures) c.hop_limit_fits.ensures
+    c.in-List.headend (rw c.in-List.is at c.in_ok-start.ensures) c.keeps_rules.ensures.network c.hop_limit_fits.ensures
     c.requires
     c.in_ok-packets.packets c.in_ok-packets.ensures.judged
     (g.O.Sink.seen c.drive.new.out) (g.E.Sink.seen c.drive.new.err)
@@ -78,7 +78,7 @@ pub returns : goal.returns
 returns g c = walk_done c.args.file.now c.args.intent.now c.args.choices.now c.args.schedule.now _ _ _ _ _
     (g.O.Sink.seen c.args.out.now) (g.E.Sink.seen c.args.err.now)
     c.in_ok-net.net c.in_ok-net.ensures.judged c.in_ok-intent.intent c.in_ok-intent.ensures.judged
-    c.in-List.headend (rw c.in-List.is at c.in_ok-start.ensures) c.hop_limit_fits.ensures
+    c.in-List.headend (rw c.in-List.is at c.in_ok-start.ensures) c.keeps_rules.ensures.network c.hop_limit_fits.ensures
     c.requires
     c.in_ok-packets.packets c.in_ok-packets.ensures.judged
     (g.O.Sink.seen c.drive.new.out) (g.E.Sink.seen c.drive.new.err)

@@ -1,6 +1,6 @@
 use Rattle.leg_table.proofs.FlatNets.{flat-facts}
 use Rattle.leg_table.proofs.PublicLaws.{strict-laws}
-use Rattle.start_laws.proofs.LegLaws.{binding-laws}
+use Rattle.binding_legs.proofs.PublicLaws.{binding-laws}
 use Rattle.intent_legs.proofs.legs.IntentLegsLegs.steps.Goals as goal
 
 pub returns-clause-laws : goal.returns-clause-laws

@@ -1,7 +1,7 @@
 use Rattle.leg_table.proofs.FlatNets.{flat-facts}
 use Rattle.leg_table.proofs.PublicLaws.{strict-laws}
-use Rattle.start_laws.proofs.LegLaws.{binding-laws}
-use Rattle.binding_meanings.proofs.Means.{binding-means}
+use Rattle.binding_legs.proofs.PublicLaws.{binding-laws}
+use Rattle.binding_legs.proofs.PublicLaws.{binding-means}
 use Rattle.intent_legs.proofs.legs.IntentLegsListLegs.keeps_meaning.Goals as goal
 
 pub returns : goal.returns

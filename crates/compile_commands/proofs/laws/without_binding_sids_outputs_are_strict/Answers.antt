@@ -1,0 +1,9 @@
+use Rattle.flat_networks.specs.Flat.{flatness_of}
+use Rattle.compile_commands.proofs.Strict.{compiled-strict, judged-strict}
+use Rattle.compile_commands.proofs.laws.without_binding_sids_outputs_are_strict.Goals as goal
+
+pub returns-clause-compile : goal.returns-clause-compile
+returns-clause-compile c net intent output none = compiled-strict net intent none output
+
+pub returns-clause-check : goal.returns-clause-check
+returns-clause-check c net intent cert output none = judged-strict net intent none (flatness_of net) cert output

@@ -1,0 +1,41 @@
+-- What is wanted of `compile` and of `check` where no SID of the network binds a policy: what answers and verdicts over the strict steps of
+-- the intent want.
+use Rattle.std.specs.Prelude.{◌≡◌, List, Option, Result, Ok, Err, IsSomeAnd, ℕ}
+use Rattle.net_model.specs.Network.{Network}
+use Rattle.flat_networks.specs.declared.not_flat.NotFlat.{NotFlat}
+use Rattle.intent_reader.specs.declared.intent.Intent.{Intent}
+use Rattle.list_certificate.specs.declared.types.Cert.{Cert}
+use Rattle.list_certificate.specs.declared.types.Verdict.{Verdict}
+use Rattle.list_certificate.specs.Verdicts.{IsVerdict}
+use Rattle.leg_table.specs.Realizes.{ListRealizes, ListExecutes}
+use Rattle.leg_table.specs.Value.{legs_value}
+use Rattle.path_compiler.specs.declared.compiled.Compiled.{Compiled}
+use Rattle.path_compiler.specs.declared.compiled.CompileFault.{CompileFault}
+use Rattle.path_compiler.specs.Checked.{Says, SaysOfHanding}
+use Rattle.path_compiler.specs.Compiled.{CompileAnswers, NoLessHandsOver}
+use Rattle.command_output.specs.declared.refusal.Refusal.{Refusal}
+use Rattle.command_output.specs.Halts.{flat_refusal}
+use Rattle.command_output.specs.Outputs.{refused}
+use Rattle.command_output.specs.Pieces.{Output}
+use Rattle.command_inputs.specs.Judgements.{cert_in}
+use Rattle.compile_commands.specs.Check.{told_of}
+use Rattle.compile_commands.specs.Compile.{AnswerWants}
+
+abbrev pub StrictlyCompiled : Network → Intent → Output → Type 0
+StrictlyCompiled net intent output =
+    (answer : Result Compiled CompileFault) × CompileAnswers net intent answer × NoLessHandsOver net intent answer
+    × AnswerWants net intent answer output
+
+pub record IsStrictlyChecked (net : Network) (intent : Intent) (cert : Cert) (verdict : Verdict) : Type 0 where
+  pub is : IsVerdict (legs_value net intent) cert verdict
+  pub says : Says net (ListRealizes net intent) (ListExecutes net intent) verdict
+  pub handing : SaysOfHanding net intent verdict
+
+abbrev pub StrictCert : Network → Intent → Result Cert Refusal → Output → Type 0
+StrictCert net intent (Err refusal) output = output ≡ refused refusal
+StrictCert net intent (Ok cert) output = (verdict : Verdict) × IsStrictlyChecked net intent cert verdict × (output ≡ told_of net verdict)
+
+abbrev pub StrictlyJudged : Network → Intent → Result (Unit {0}) NotFlat → Option (List ℕ) → Output → Type 0
+StrictlyJudged net intent (Err why) cert output = output ≡ refused (flat_refusal net why)
+StrictlyJudged net intent (Ok flat) cert output =
+    IsSomeAnd cert (λ text. StrictCert net intent (cert_in net (legs_value net intent) text) output)

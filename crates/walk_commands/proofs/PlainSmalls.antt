@@ -1,0 +1,156 @@
+-- Where no SID binds a policy, a packet that fits the links of the intent's steps is small: on no way is it longer than at the headend, it is
+-- sent on links of the steps alone, and each stage before its hand-over lowers its hop limit, or sends what was submitted.
+use Rattle.std.proofs.Common.{◌≡◌, ℕ, zero, suc, ◌+◌, ◌≤◌, List, [], ◌∷◌, length, map, Option, Some, None, refl, sym, ap, ◌∙◌, subst, arith}
+use Rattle.std.specs.Prelude.{All}
+use Rattle.std.proofs.lemmas.List.{length-map}
+use Rattle.std.proofs.lemmas.List.Elements.{All-head, All-tail}
+use Rattle.srv6_rules.specs.Packet.{Content, V6, V4, Unreadable}
+use Rattle.net_model.specs.Network.{Network}
+use Rattle.walk_rules.specs.declared.place.Place.{Place}
+use Rattle.walk_rules.specs.declared.place.Outcome.{Outcome}
+use Rattle.walk_rules.specs.declared.place.Outcome.TheVariants as outcomes
+use Rattle.walk_rules.specs.Treatment.{Gave, free_step_of, own_len}
+use Rattle.walk_rules.specs.Walk.{Stage, decisions, free_walk_of, next_place, walk_by}
+use Rattle.leg_table.specs.Trace.{Crossed, Handed, after_events, after_execution, behind_stage, handed_first, handed_over, is_titled, through_hand}
+use Rattle.deep_stages.specs.Layers.{PushFits, spelled_content}
+use Rattle.deep_stages.specs.Stages.{over}
+use Rattle.deep_stages.specs.Walks.{DeepStage, alone, behind_own, deep_walk, through_own}
+use Rattle.deep_stages.proofs.PublicLaws.{alone-walk}
+use Rattle.own_hands.specs.Small.{FitAll, SentFits}
+use Rattle.compile_commands.specs.Lists.{BindsNothing}
+use Rattle.walk_commands.proofs.Fitting.{Carried, IsSmall, SmallAfter, behind-some, carried-later, own-small, step-small}
+use Rattle.walk_commands.proofs.FirstHands.{binds-nothing}
+
+-- ---- stages without headers in front
+
+behind-alone : (o : Outcome) (ss : List Stage) → behind_own o [] (map alone ss) ≡ map alone (behind_stage o ss)
+behind-alone (outcomes.Again n how) ss = refl
+behind-alone (outcomes.Hand n how family) ss = refl
+behind-alone (outcomes.Send link) ss = refl
+behind-alone outcomes.Local ss = refl
+behind-alone (outcomes.Drop reason error) ss = refl
+
+through-alone : (ss : List Stage) → through_own (map alone ss) ≡ map alone (through_hand ss)
+through-alone [] = refl
+through-alone (s ∷ ss) =
+    ap (λ (later : List DeepStage). alone s ∷ behind_own s.gave.outcome [] later) (through-alone ss)
+    ∙ ap (λ (later : List DeepStage). alone s ∷ later) (behind-alone s.gave.outcome (through_hand ss))
+
+same-own : (content : Content) → own_len (spelled_content content []) ≡ own_len content
+same-own (V6 p) = refl
+same-own (V4 p) = refl
+same-own (Unreadable bytes reason) = refl
+
+no-push : (gave : Gave) → PushFits [] (over [] gave)
+no-push gave less = absurd (omega (arith, less))
+
+module _ (net : Network) (none : BindsNothing net) (len : ℕ) (pick : ℕ → ℕ) where
+  abbrev walk : ℕ → Option Place → Content → ℕ → List Stage
+  walk fuel place content taken = free_walk_of fuel net place content pick taken
+
+  -- the stages after one
+  abbrev after : ℕ → Place → Gave → ℕ → Outcome → List Stage
+  after fuel place gave taken o = walk fuel (next_place net place o) gave.after (taken + decisions o)
+
+  -- ---- each packet fits its link
+
+  abbrev Fitting : List Stage → Type 0
+  Fitting ss = FitAll net (map alone ss)
+
+  -- of a walk that hands over along links that carry so many bytes, as many stages as there may be
+  abbrev FitsAfter : ℕ → ℕ → Type 0
+  FitsAfter fuel n = (place : Option Place) (content : Content) (taken : ℕ) (h : Handed)
+      → handed_over net (walk fuel place content taken) ≡ Some h → All (Carried net len) h.trace → IsSmall len content
+      → Fitting (through_hand (walk n place content taken))
+
+  module _ (fuel n : ℕ) (fits : FitsAfter fuel n) (place : Place) (content : Content) (gave : Gave) (taken : ℕ) (h : Handed)
+      (carries : All (Carried net len) h.trace) (small : IsSmall len content) where
+    abbrev Fit : Outcome → Type 0
+    Fit o = SentFits net (spelled_content content []) o × Fitting (behind_stage o (through_hand (after n place gave taken o)))
+
+    -- a stage that goes on
+    stage-fits : (o : Outcome) → SmallAfter net len o gave.after
+        → handed_first net gave o (handed_over net (after fuel place gave taken o)) ≡ Some h → Fit o
+    stage-fits (outcomes.Hand m how family) less e = (tt, tt)
+    stage-fits outcomes.Local less e = absurd (cc e)
+    stage-fits (outcomes.Drop reason told) less e = absurd (cc e)
+    stage-fits (outcomes.Again m how) less e =
+        let got = behind-some (after_execution net m) (handed_over net (after fuel place gave taken (outcomes.Again m how))) h e in
+        let trace = subst (All (Carried net len)) (sym (ap (λ (x : Handed). x.trace) got.2)) carries in (
+          tt,
+          fits (next_place net place (outcomes.Again m how)) gave.after (taken + 0) got.0 got.1
+              (carried-later net len m (is_titled net m) got.0.trace trace) (less (none m)),
+        )
+    stage-fits (outcomes.Send link) less e =
+        let f : Handed → Handed = after_events (Crossed link ∷ []) in
+        let got = behind-some f (handed_over net (after fuel place gave taken (outcomes.Send link))) h e in
+        let trace : All (Carried net len) (Crossed link ∷ got.0.trace) =
+        subst (All (Carried net len)) (sym (ap (λ (x : Handed). x.trace) got.2)) carries in
+        let carried = All-head (Carried net len) (Crossed link) got.0.trace trace in
+        let own = own-small len content small in
+        let same = same-own content in (
+          omega (arith, carried, own, same),
+          fits (next_place net place (outcomes.Send link)) gave.after (taken + 1) got.0 got.1
+              (All-tail (Carried net len) (Crossed link) got.0.trace trace) less,
+        )
+
+  fits-from : (fuel n : ℕ) → FitsAfter fuel n
+  unfolding walk_by
+  fits-from fuel zero place content taken h e carries small = tt
+  fits-from zero (suc n) place content taken h e carries small = absurd (cc e)
+  fits-from (suc fuel) (suc n) None content taken h e carries small = tt
+  fits-from (suc fuel) (suc n) (Some place) content taken h e carries small =
+      let gave : Gave = free_step_of net place content (pick taken) in
+      let rest = stage-fits fuel n (fits-from fuel n) place content gave taken h carries small gave.outcome
+      (step-small net len place content (pick taken) small) e in
+      (no-push gave, rest.0, rest.1)
+
+  -- ---- there are as few stages as hand over
+
+  abbrev FewAfter : ℕ → ℕ → Type 0
+  FewAfter n fuel = (place : Option Place) (content : Content) (taken : ℕ) (h : Handed)
+      → handed_over net (walk n place content taken) ≡ Some h → length (through_hand (walk fuel place content taken)) ≤ n
+
+  module _ (n fuel : ℕ) (few : FewAfter n fuel) (place : Place) (gave : Gave) (taken : ℕ) (h : Handed) where
+    stage-few : (o : Outcome) → handed_first net gave o (handed_over net (after n place gave taken o)) ≡ Some h
+        → length (behind_stage o (through_hand (after fuel place gave taken o))) ≤ n
+    stage-few (outcomes.Hand m how family) e = omega arith
+    stage-few outcomes.Local e = absurd (cc e)
+    stage-few (outcomes.Drop reason told) e = absurd (cc e)
+    stage-few (outcomes.Again m how) e =
+        let got = behind-some (after_execution net m) (handed_over net (after n place gave taken (outcomes.Again m how))) h e in
+        few (next_place net place (outcomes.Again m how)) gave.after (taken + 0) got.0 got.1
+    stage-few (outcomes.Send link) e =
+        let got = behind-some (after_events (Crossed link ∷ [])) (handed_over net (after n place gave taken (outcomes.Send link))) h e in
+        few (next_place net place (outcomes.Send link)) gave.after (taken + 1) got.0 got.1
+
+  few-from : (n fuel : ℕ) → FewAfter n fuel
+  unfolding walk_by
+  few-from n zero place content taken h e = omega arith
+  few-from zero (suc fuel) place content taken h e = absurd (cc e)
+  few-from (suc n) (suc fuel) None content taken h e = omega arith
+  few-from (suc n) (suc fuel) (Some place) content taken h e =
+      let gave : Gave = free_step_of net place content (pick taken) in
+      let rest = stage-few n fuel (few-from n fuel) place gave taken h gave.outcome e in
+      omega (arith, rest)
+
+  -- ---- stages over values
+
+  stages-alone : (fuel : ℕ) (place : Option Place) (content : Content) (taken : ℕ)
+      → through_own (deep_walk fuel net place content [] pick taken) ≡ map alone (through_hand (walk fuel place content taken))
+  stages-alone fuel place content taken =
+      ap through_own (alone-walk fuel net place content pick taken (binds-nothing net none)) ∙ through-alone (walk fuel place content taken)
+
+  module _ (place : Option Place) (content : Content) (taken hand : ℕ) (h : Handed)
+      (first : handed_over net (walk hand place content taken) ≡ Some h) where
+    pub plain-fits : All (Carried net len) h.trace → IsSmall len content → (fuel : ℕ)
+        → FitAll net (through_own (deep_walk fuel net place content [] pick taken))
+    plain-fits carries small fuel =
+        subst (FitAll net) (sym (stages-alone fuel place content taken)) (fits-from hand fuel place content taken h first carries small)
+
+    pub plain-few : (fuel : ℕ) → length (through_own (deep_walk fuel net place content [] pick taken)) ≤ hand
+    plain-few fuel =
+        let few = few-from hand fuel place content taken h first in
+        let same : length (through_own (deep_walk fuel net place content [] pick taken)) ≡ length (through_hand (walk fuel place content taken))
+        = ap length (stages-alone fuel place content taken) ∙ length-map (through_hand (walk fuel place content taken)) alone in
+        omega (arith, same, few)
