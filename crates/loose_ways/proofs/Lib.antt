@@ -4,3 +4,5 @@ pub mod Bridge
 pub mod Making
 pub mod Numbering
 pub mod Nodes
+pub mod Starting
+pub mod Reaching

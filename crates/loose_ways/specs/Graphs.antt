@@ -1,5 +1,5 @@
 -- The graph of the places to which a packet comes on its way to one destination, with the steps that it has still to take. (own rule)
-use Rattle.std.specs.Prelude.{◌≡◌, ℕ, zero, suc, ◌+◌, ◌*◌, ◌<◌, Bool, true, List, [], ◌∷◌, ◌++◌, map, length, Option, Some, None}
+use Rattle.std.specs.Prelude.{◌≡◌, ℕ, zero, suc, ◌+◌, ◌-◌, ◌*◌, ◌<◌, Bool, true, List, [], ◌∷◌, ◌++◌, map, drop, length, Option, Some, None}
 use Rattle.srv6_rules.specs.declared.sid.Family.TheVariants as families
 use Rattle.net_model.specs.Network.{Network}
 use Rattle.walk_rules.specs.declared.place.How.TheVariants.{Arrived}
@@ -10,7 +10,9 @@ use Rattle.step_traces.specs.Traces.{Crossed, left_behind}
 use Rattle.loose_graph.specs.declared.spots.Spot.{Spot}
 use Rattle.loose_graph.specs.declared.spots.Spot.TheVariants as spots
 use Rattle.loose_graph.specs.declared.spots.Start.{Start}
+use Rattle.loose_graph.specs.declared.spots.Found.{Found}
 use Rattle.loose_graph.specs.Walks.{spot_at}
+use Rattle.loose_graph.specs.Finding.{found_from}
 use Rattle.loose_ways.specs.Stops.{ends_in}
 
 -- how spots and answers are numbered: the spot of a node with so many steps left; one at which every packet is lost; the answer of a
@@ -89,6 +91,12 @@ numbers_of net count = record {
 
 abbrev pub graph_in : Network → ℕ → List Step → List Spot
 graph_in net destination steps = rows_of net (numbers_of net (length steps)) destination steps
+
+-- what all choices come to from a place in front of it, where so many of the steps are left
+abbrev pub found_in : Network → ℕ → List Step → ℕ → Place → Option Found
+found_in net destination steps left place =
+    found_from (graph_in net destination steps)
+    (start_at net (numbers_of net (length steps)) (drop (length steps - left) steps) place destination)
 
 -- ---- while it is made
 

@@ -1,5 +1,5 @@
 -- Where a packet is first executed, along steps of which one may be to reach a node. (own rule)
-use Rattle.std.specs.Prelude.{ℕ, ◌-◌, List, [], ◌∷◌, length, slice_get, Option, Some, None}
+use Rattle.std.specs.Prelude.{◌≡◌, ℕ, ◌-◌, ◌≤◌, List, [], ◌∷◌, length, slice_get, Option, Some, None}
 use Rattle.std.specs.Option.{option_and_then}
 use Rattle.srv6_rules.specs.Packet.{Content, V6, V4, Unreadable}
 use Rattle.net_model.specs.Network.{Network}
@@ -56,6 +56,14 @@ coming_at net destination code stop = coming_by code stop (way_of net stop.stage
 -- to which SID stages come first, with so many steps left
 abbrev pub coming : Network → ℕ → (ℕ → ℕ → ℕ) → List Step → List Stage → Option Coming
 coming net destination code ts ss = option_and_then (coming_at net destination code) (first_stop (ends_in net) ts ss)
+
+-- stages come first to SID n, with so many steps left, and there the hop limit can be lowered so many times more
+pub record ComesTo (net : Network) (destination : ℕ) (ts : List Step) (n left lowers : ℕ) (ss : List Stage) : Type 0 where
+  pub stop : Stop
+  pub first : first_stop (ends_in net) ts ss ≡ Some stop
+  pub into : way_of net stop.stage.place destination ≡ Into n
+  pub steps : length stop.left ≡ left
+  pub room : lowers ≤ room_of stop.stage.before
 
 -- so does a walk over a graph, where it stops
 abbrev pub coming_of : End → Coming

@@ -33,7 +33,7 @@ fn number_behind(size: u32, lost: u32, behind: Option<usize>, end: Option<u32>) 
 
 /// the spot behind a link
 #[tactic(auto, using(crate::proofs::Numbering::small_product))]
-fn next_spot(net: &Net, count: u32, left: &[Step], link: u32) -> u32
+pub(crate) fn next_spot(net: &Net, count: u32, left: &[Step], link: u32) -> u32
     requires count { count ≤ 48 }
     requires few { length left.now ≤ count }
     ensures { result ≡ graphs.next_spot net.now (graphs.numbers_of net.now count) left.now link }

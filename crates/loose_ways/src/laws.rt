@@ -1,6 +1,6 @@
 //! Laws about the definitions, each the contract of a function that does nothing.
 
-ghost use Rattle.std.specs.Prelude.{◌≡◌, ◌-◌, ◌+◌, ◌<◌, ◌≤◌, ◌↔◌, List, ℕ, length, Some};
+ghost use Rattle.std.specs.Prelude.{◌≡◌, ◌-◌, ◌+◌, ◌*◌, ◌<◌, ◌≤◌, ◌↔◌, List, ℕ, drop, length, Some};
 ghost use Rattle.std.specs.Option.{option_map};
 ghost use Rattle.srv6_rules.specs.Packet.{Packet, V6};
 ghost use Rattle.srv6_rules.specs.declared.sid.Family.{Family};
@@ -15,8 +15,8 @@ ghost use Rattle.loose_graph.specs.declared.spots.Found.{Found};
 ghost use Rattle.loose_graph.specs.declared.spots.Start.{Start};
 ghost use Rattle.loose_graph.specs.Walks.{walk_from};
 ghost use Rattle.loose_graph.specs.Finding.{found_at, found_from};
-ghost use Rattle.loose_ways.specs.Stops.{answer_of_coming, coming, coming_of};
-ghost use Rattle.loose_ways.specs.Graphs.{IsGraph, IsLeft, Numbers, graph_in, numbers_of, start_at};
+ghost use Rattle.loose_ways.specs.Stops.{ComesTo, answer_of_coming, coming, coming_of};
+ghost use Rattle.loose_ways.specs.Graphs.{IsGraph, IsLeft, Numbers, found_in, graph_in, numbers_of, start_at};
 
 /// The stages of a packet's walk come to a SID, with so many steps left and so much of the hop limit,
 /// exactly where the walk over the graph comes to that answer with that room, under the same choices.
@@ -44,6 +44,20 @@ pub fn all_choices_come_where_the_graph_finds()
         (free_walk_of fuel net (Some place) (V6 p) (choice_at choices) 0)) ≡ Some answer)
         ↔ ((f : Found) × (found_from graph (start_at net numbers ts place p.destination) ≡ Some f)
         × (f.answer ≡ answer) × (f.most ≤ p.hop_limit - 1)) }
+{}
+
+/// Under every row of choices the stages of a packet's walk come first to SID n with so many steps
+/// left, and leave its hop limit so high that it can be lowered so many times more there, exactly
+/// where that SID with those steps is found from its place, and the greatest number of lowerings over
+/// all choices and those at the SID are together at most the hop limit less one (own rule).
+pub fn all_choices_come_to_a_sid_that_is_found()
+    ensures { (net : Network) (steps : List Step) (left : ℕ) (place : Place) (p : Packet)
+        → (fuel n rest lowers : ℕ) → Keeps net → length steps ≤ 48 → rest < 64
+        → IsPlace net place → place.family ≡ Family.V6 → p.hop_limit + 1 < fuel
+        → ((pick : ℕ → ℕ) → ComesTo net p.destination (drop (length steps - left) steps) n rest
+        lowers (free_walk_of fuel net (Some place) (V6 p) pick 0))
+        ↔ ((f : Found) × (found_in net p.destination steps left place ≡ Some f)
+        × (f.answer ≡ n * 64 + rest) × (f.most + lowers ≤ p.hop_limit - 1)) }
 {}
 
 /// The graph of rows, one of nodes for each number of steps left, is such a graph (own rule).

@@ -1,0 +1,5 @@
+//! Tests of `loose_graph`.
+#![tactic(auto)]
+
+#[cfg(test)]
+mod finding_tests;

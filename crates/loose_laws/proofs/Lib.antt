@@ -1,0 +1,4 @@
+pub mod Standing
+pub mod Positions
+pub mod LegLaws
+pub mod Links

@@ -1,0 +1,225 @@
+-- The SIDs of a position: which they are, in which order, and how many.
+use Rattle.std.proofs.Common.{◌≡◌, ℕ, zero, suc, ◌<◌, ◌≤◌, ◌⊎◌, inl, inr, Bool, true, false, if◌then◌else◌, List, [], ◌∷◌, length, Option, Some, None, slice_get, Contains, refl, sym, ◌∙◌, ap, subst, arith}
+use Rattle.std.proofs.lemmas.Bool.{false≢true, and_parts, and_from, cases_order, both_ways}
+use Rattle.std.proofs.lemmas.Option.{slice_get_within}
+use Rattle.v6_addr.specs.Address.{PrefixValue}
+use Rattle.srv6_rules.specs.declared.sid.SidEntry.{SidEntry}
+use Rattle.net_model.specs.Network.{Network}
+use Rattle.net_model.specs.Keeps.{Keeps}
+use Rattle.intent_reader.specs.declared.intent.Intent.{Intent}
+use Rattle.list_pack.specs.Order.{lex_before}
+use Rattle.list_pack.specs.Value.{ascends}
+use Rattle.list_pack.proofs.Orders.{head-less, head-not, head-same}
+use Rattle.step_traces.specs.declared.steps.Step.{Step}
+use Rattle.leg_table.specs.Table.{node_by, node_of, shape_by, shape_of}
+use Rattle.leg_table.proofs.Positions.{contains-first, contains-later, contains-cases}
+use Rattle.loose_meanings.specs.Sids.{is_sid_at, sid_suits, step_before}
+use Rattle.loose_meanings.specs.Steps.{node_at}
+use Rattle.loose_laws.specs.Value.{comes_before, loose_legs_value, placed, sids_below, sids_of}
+
+-- ---- an order in which of two that differ one comes first
+
+-- of two keys one comes first, or they are the same
+pub keys-apart : (a b c d e f : ℕ) → lex_before (a ∷ b ∷ c ∷ []) (d ∷ e ∷ f ∷ []) ≡ false
+    → ((a ≡ d) × (b ≡ e) × (c ≡ f)) ⊎ (lex_before (d ∷ e ∷ f ∷ []) (a ∷ b ∷ c ∷ []) ≡ true)
+keys-apart a b c d e f h = first (head-not a d (b ∷ c ∷ []) (e ∷ f ∷ []) h)
+  where
+    third : a ≡ d → b ≡ e → (f < c) ⊎ ((c ≡ f) × (lex_before [] [] ≡ false))
+        → ((a ≡ d) × (b ≡ e) × (c ≡ f)) ⊎ (lex_before (d ∷ e ∷ f ∷ []) (a ∷ b ∷ c ∷ []) ≡ true)
+    third x y (inl less) =
+        inr (head-same d a (e ∷ f ∷ []) (b ∷ c ∷ []) (sym x) (head-same e b (f ∷ []) (c ∷ []) (sym y) (head-less f c [] [] less)))
+    third x y (inr same) = inl (x, y, same.0)
+
+    second : a ≡ d → (e < b) ⊎ ((b ≡ e) × (lex_before (c ∷ []) (f ∷ []) ≡ false))
+        → ((a ≡ d) × (b ≡ e) × (c ≡ f)) ⊎ (lex_before (d ∷ e ∷ f ∷ []) (a ∷ b ∷ c ∷ []) ≡ true)
+    second x (inl less) = inr (head-same d a (e ∷ f ∷ []) (b ∷ c ∷ []) (sym x) (head-less e b (f ∷ []) (c ∷ []) less))
+    second x (inr same) = third x same.0 (head-not c f [] [] same.1)
+
+    first : (d < a) ⊎ ((a ≡ d) × (lex_before (b ∷ c ∷ []) (e ∷ f ∷ []) ≡ false))
+        → ((a ≡ d) × (b ≡ e) × (c ≡ f)) ⊎ (lex_before (d ∷ e ∷ f ∷ []) (a ∷ b ∷ c ∷ []) ≡ true)
+    first (inl less) = inr (head-less d a (e ∷ f ∷ []) (b ∷ c ∷ []) less)
+    first (inr same) = second same.0 (head-not b e (c ∷ []) (f ∷ []) same.1)
+
+same_prefix : (p q : PrefixValue) → p.value ≡ q.value → p.len ≡ q.len → p ≡ q
+same_prefix p q e f = ap (λ (v : ℕ). record p { value = v }) e ∙ ap (λ (l : ℕ). record p { value = q.value; len = l }) f
+
+module _ (net : Network) (keeps : Keeps net) (intent : Intent) (steps : List Step) where
+  abbrev in_order : List ℕ → Bool
+  in_order = ascends (loose_legs_value net intent steps)
+
+  apart : (n m : ℕ) (s t : SidEntry) → slice_get net.sids n ≡ Some s → slice_get net.sids m ≡ Some t → (n ≡ m → ⊥)
+      → comes_before net n m ≡ false → comes_before net m n ≡ true
+  apart n m s t is_s is_t differ h =
+      by_case (keys-apart (shape_of net n).prefix.value (shape_of net n).prefix.len (node_of net n) (shape_of net m).prefix.value
+      (shape_of net m).prefix.len (node_of net m) h)
+    where
+      shape-s : (shape_of net n).prefix ≡ s.prefix
+      shape-s = ap (λ (o : Option SidEntry). (shape_by net.blocks o).prefix) is_s
+
+      shape-t : (shape_of net m).prefix ≡ t.prefix
+      shape-t = ap (λ (o : Option SidEntry). (shape_by net.blocks o).prefix) is_t
+
+      by_case : (((shape_of net n).prefix.value ≡ (shape_of net m).prefix.value) × ((shape_of net n).prefix.len ≡ (shape_of net m).prefix.len)
+          × (node_of net n ≡ node_of net m)) ⊎ (comes_before net m n ≡ true) → comes_before net m n ≡ true
+      by_case (inr less) = less
+      by_case (inl same) =
+          let prefix : s.prefix ≡ t.prefix
+          = sym shape-s ∙ same_prefix (shape_of net n).prefix (shape_of net m).prefix same.0 same.1 ∙ shape-t in
+          let node : s.node ≡ t.node = sym (ap node_by is_s) ∙ same.2 ∙ ap node_by is_t in
+          absurd (differ (keeps.sid_prefix n m s t is_s is_t node prefix))
+
+  placed-contains : (n : ℕ) (xs : List ℕ) (m : ℕ) → Contains (placed net n xs) m → (n ≡ m) ⊎ Contains xs m
+  placed-contains n [] m h = contains-cases n m [] h
+  placed-contains n (x ∷ xs) m h = by_test (comes_before net n x) (λ h. placed-contains n xs m h) h
+    where
+      by_test : (t : Bool) → (Contains (placed net n xs) m → (n ≡ m) ⊎ Contains xs m)
+          → Contains (if t then n ∷ x ∷ xs else x ∷ placed net n xs) m → (n ≡ m) ⊎ Contains (x ∷ xs) m
+      by_test true later h = contains-cases n m (x ∷ xs) h
+      by_test false later h = by_first (contains-cases x m (placed net n xs) h)
+        where
+          by_rest : (n ≡ m) ⊎ Contains xs m → (n ≡ m) ⊎ Contains (x ∷ xs) m
+          by_rest (inl e) = inl e
+          by_rest (inr k) = inr (contains-later x m xs k)
+
+          by_first : (x ≡ m) ⊎ Contains (placed net n xs) m → (n ≡ m) ⊎ Contains (x ∷ xs) m
+          by_first (inl e) = inr (subst (λ (y : ℕ). Contains (x ∷ xs) y) e (contains-first x xs))
+          by_first (inr k) = by_rest (later k)
+
+  placed-itself : (n : ℕ) (xs : List ℕ) → Contains (placed net n xs) n
+  placed-itself n [] = contains-first n []
+  placed-itself n (x ∷ xs) = by_test (comes_before net n x) (placed-itself n xs)
+    where
+      by_test : (t : Bool) → Contains (placed net n xs) n → Contains (if t then n ∷ x ∷ xs else x ∷ placed net n xs) n
+      by_test true later = contains-first n (x ∷ xs)
+      by_test false later = contains-later x n (placed net n xs) later
+
+  placed-others : (n : ℕ) (xs : List ℕ) (m : ℕ) → Contains xs m → Contains (placed net n xs) m
+  placed-others n [] m h = contains-later n m [] h
+  placed-others n (x ∷ xs) m h = by_test (comes_before net n x) (λ h. placed-others n xs m h)
+    where
+      by_test : (t : Bool) → (Contains xs m → Contains (placed net n xs) m) → Contains (if t then n ∷ x ∷ xs else x ∷ placed net n xs) m
+      by_test true later = contains-later n m (x ∷ xs) h
+      by_test false later = by_first (contains-cases x m xs h)
+        where
+          by_first : (x ≡ m) ⊎ Contains xs m → Contains (x ∷ placed net n xs) m
+          by_first (inl e) = subst (λ (y : ℕ). Contains (x ∷ placed net n xs) y) e (contains-first x (placed net n xs))
+          by_first (inr k) = contains-later x m (placed net n xs) (later k)
+
+  placed-length : (n : ℕ) (xs : List ℕ) → length (placed net n xs) ≡ suc (length xs)
+  placed-length n [] = refl
+  placed-length n (x ∷ xs) = by_test (comes_before net n x) (placed-length n xs)
+    where
+      by_test : (t : Bool) → length (placed net n xs) ≡ suc (length xs)
+          → length (if t then n ∷ x ∷ xs else x ∷ placed net n xs) ≡ suc (suc (length xs))
+      by_test true e = refl
+      by_test false e = ap suc e
+
+  -- a number put into its place keeps the order, where it is before or after each other
+  placed-order : (n : ℕ) (xs : List ℕ) → in_order xs ≡ true
+      → ((m : ℕ) → Contains xs m → comes_before net n m ≡ false → comes_before net m n ≡ true)
+      → in_order (placed net n xs) ≡ true
+  placed-order n [] order other = refl
+  placed-order n (m ∷ []) order other = by_test (comes_before net n m) refl
+    where
+      by_test : (t : Bool) → comes_before net n m ≡ t → in_order (if t then n ∷ m ∷ [] else m ∷ n ∷ []) ≡ true
+      by_test true e = and_from (comes_before net n m) true e refl
+      by_test false e = and_from (comes_before net m n) true (other m (contains-first m []) e) refl
+  placed-order n (m ∷ k ∷ ks) order other =
+      by_test (comes_before net n m) refl (placed-order n (k ∷ ks) parts.1 (λ j there. other j (contains-later m j (k ∷ ks) there)))
+    where
+      parts : (comes_before net m k ≡ true) × (in_order (k ∷ ks) ≡ true)
+      parts = and_parts (comes_before net m k) (in_order (k ∷ ks)) order
+
+      by_test : (t : Bool) → comes_before net n m ≡ t → in_order (placed net n (k ∷ ks)) ≡ true
+          → in_order (if t then n ∷ m ∷ k ∷ ks else m ∷ placed net n (k ∷ ks)) ≡ true
+      by_test true e later = and_from (comes_before net n m) (in_order (m ∷ k ∷ ks)) e order
+      by_test false e later = by_next (comes_before net n k) later
+        where
+          by_next : (u : Bool) → in_order (if u then n ∷ k ∷ ks else k ∷ placed net n ks) ≡ true
+              → in_order (m ∷ (if u then n ∷ k ∷ ks else k ∷ placed net n ks)) ≡ true
+          by_next true later =
+              and_from (comes_before net m n) (in_order (n ∷ k ∷ ks)) (other m (contains-first m (k ∷ ks)) e) later
+          by_next false later = and_from (comes_before net m k) (in_order (k ∷ placed net n ks)) parts.0 later
+
+  -- ---- the SIDs of a position
+
+  module _ (position : ℕ) where
+    pub sid-there : (n : ℕ) → is_sid_at net intent steps position n ≡ true → (s : SidEntry) × (slice_get net.sids n ≡ Some s)
+    sid-there n h = by_sid (slice_get net.sids n) refl h
+      where
+        by_sid : (o : Option SidEntry) → slice_get net.sids n ≡ o
+            → sid_suits n (slice_get steps position) (node_at net intent steps position)
+            (step_before steps position) o ≡ true
+            → (s : SidEntry) × (slice_get net.sids n ≡ Some s)
+        by_sid None e h = absurd (false≢true h)
+        by_sid (Some s) e h = (s, e)
+
+    record IsRow (k : ℕ) (xs : List ℕ) : Type 0 where
+      in_row : (m : ℕ) → Contains xs m → (m < k) × (is_sid_at net intent steps position m ≡ true)
+      of_row : (m : ℕ) → m < k → is_sid_at net intent steps position m ≡ true → Contains xs m
+      order : in_order xs ≡ true
+      few : length xs ≤ k
+
+    row-next : (k : ℕ) (xs : List ℕ) (t : Bool) → is_sid_at net intent steps position k ≡ t → IsRow k xs
+        → IsRow (suc k) (if t then placed net k xs else xs)
+    row-next k xs true e row =
+        record {
+          in_row = λ m h. in_it m (placed-contains k xs m h);
+          of_row = λ m below at. of_it m (cases_order m k) below at;
+          order = placed-order k xs row.order others;
+          few = (let len = placed-length k xs in let old = row.few in omega (arith, len, old));
+        }
+      where
+        others : (m : ℕ) → Contains xs m → comes_before net k m ≡ false → comes_before net m k ≡ true
+        others m there before =
+            let old = row.in_row m there in
+            let s = sid-there k e in
+            let t = sid-there m old.1 in
+            apart k m s.0 t.0 s.1 t.1 (λ same. absurd (omega (arith, same, old.0))) before
+
+        in_it : (m : ℕ) → (k ≡ m) ⊎ Contains xs m → (m < suc k) × (is_sid_at net intent steps position m ≡ true)
+        in_it m (inl same) = (omega arith, subst (λ (j : ℕ). is_sid_at net intent steps position j ≡ true) same e)
+        in_it m (inr there) = let old = row.in_row m there in (omega (arith, old.0), old.1)
+
+        of_it : (m : ℕ) → ((m ≡ k) ⊎ ((m < k) ⊎ (k < m))) → m < suc k → is_sid_at net intent steps position m ≡ true
+            → Contains (placed net k xs) m
+        of_it m (inl same) below at = subst (λ (j : ℕ). Contains (placed net k xs) j) (sym same) (placed-itself k xs)
+        of_it m (inr (inl lower)) below at = placed-others k xs m (row.of_row m lower at)
+        of_it m (inr (inr above)) below at = absurd (omega arith)
+    row-next k xs false e row =
+        record {
+          in_row = λ m h. let old = row.in_row m h in (omega (arith, old.0), old.1);
+          of_row = λ m below at. of_it m (cases_order m k) below at;
+          order = row.order;
+          few = (let old = row.few in omega (arith, old));
+        }
+      where
+        of_it : (m : ℕ) → ((m ≡ k) ⊎ ((m < k) ⊎ (k < m))) → m < suc k → is_sid_at net intent steps position m ≡ true → Contains xs m
+        of_it m (inl same) below at =
+            absurd (both_ways _ e (subst (λ (j : ℕ). is_sid_at net intent steps position j ≡ true) same at))
+        of_it m (inr (inl lower)) below at = row.of_row m lower at
+        of_it m (inr (inr above)) below at = absurd (omega arith)
+
+    row-is : (k : ℕ) → IsRow k (sids_below net intent steps position k)
+    unfolding sids_below
+    row-is zero =
+        record {
+          in_row = λ m h. absurd (omega (arith, h.1));
+          of_row = λ m below at. absurd (omega arith);
+          order = refl;
+          few = omega arith;
+        }
+    row-is (suc k) =
+        row-next k (sids_below net intent steps position k) (is_sid_at net intent steps position k) refl (row-is k)
+
+    pub sid-contained : (n : ℕ) → is_sid_at net intent steps position n ≡ true → Contains (sids_of net intent steps position) n
+    sid-contained n at = let s = sid-there n at in (row-is (length net.sids)).of_row n (slice_get_within net.sids n s.0 s.1) at
+
+    pub sids-ordered : in_order (sids_of net intent steps position) ≡ true
+    sids-ordered = (row-is (length net.sids)).order
+
+    pub sids-few : length (sids_of net intent steps position) ≤ length net.sids
+    sids-few = (row-is (length net.sids)).few
+
+    pub contained-sid : (n : ℕ) → Contains (sids_of net intent steps position) n → is_sid_at net intent steps position n ≡ true
+    contained-sid n h = ((row-is (length net.sids)).in_row n h).1

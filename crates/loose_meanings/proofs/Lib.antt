@@ -1,0 +1,5 @@
+pub mod Stops
+pub mod Tests
+pub mod Always
+pub mod Sames
+pub mod Meaning

@@ -1,0 +1,4 @@
+pub mod Steps
+pub mod Sids
+pub mod Legs
+pub mod Sentences

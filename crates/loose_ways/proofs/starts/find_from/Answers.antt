@@ -1,0 +1,20 @@
+use Rattle.std.proofs.Common.{◌-◌, length, refl}
+use Rattle.std.proofs.lemmas.List.{take_rest}
+use Rattle.walk_rules.specs.Way.{way_in}
+use Rattle.loose_ways.proofs.Numbering.{into-there}
+use Rattle.loose_ways.proofs.Starting.{from-place, graph-low}
+use Rattle.loose_ways.proofs.starts.find_from.Goals as goal
+
+pub find_by-requires-clause-low : goal.find_by-requires-clause-low
+find_by-requires-clause-low c =
+    graph-low c.args.net.now c.keeps_rules.ensures.facts c.args.destination.value c.args.steps.now c.requires.few c.args.table.now c.requires.found
+
+pub find_by-requires-clause-there : goal.find_by-requires-clause-there
+find_by-requires-clause-there c =
+    into-there c.args.net.now c.args.place.now c.args.destination.value (way_in c.way_of-way.result) c.way_of-way.ensures.value
+
+pub returns : goal.returns
+returns c =
+    from-place c.args.net.now c.args.destination.value c.args.steps.now c.args.left c.args.place.now c.args.table.now
+    (way_in c.way_of-way.result) _ _ c.find_by.result c.requires.found c.way_of-way.ensures.value
+    (take_rest c.args.steps.now (length c.args.steps.now - c.args.left)) refl c.find_by.ensures
