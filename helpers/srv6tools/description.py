@@ -114,7 +114,7 @@ class Sid:
     @property
     def goes_on(self) -> bool:
         """Whether a list may go on behind it."""
-        return self.behaviour in ("End", "End.X", "End.T")
+        return self.behaviour in ("End", "End.X", "End.T") or self.binds
 
     @property
     def binds(self) -> bool:

@@ -41,6 +41,15 @@ class Intent:
         """The family of the inner packets, 6 or 4."""
         return 6 if self.inner == "ipv6" else 4
 
+    def executes(self, title: str | None, position: int) -> int | None:
+        """The steps done once a SID with this title, or none, is executed behind so many; None
+        where the title isn't the next step's.
+        """
+        if title is None:
+            return position
+        fits = position < len(self.steps) and self.steps[position].function == title
+        return position + 1 if fits else None
+
 
 def read_intent(path: str | Path) -> Intent:
     """The intent of a file."""

@@ -7,56 +7,90 @@ from dataclasses import dataclass
 from .command import Fault, Parser, Status, run_tool, tool_name
 from .description import MOST_MTU, Network, read_network
 from .intent import Intent, read_intent
+from .legs import Legs
 from .program import run_program
-from .report import Report, report_of
+from .pushed_headers import Stage
+from .report import PathStep, Report, certificate_in, report_of
 
 SAY = tool_name("srv6-say")
 MOST_NAMES = 4  # links that one line names
 LEAST_BYTES = {6: 40, 4: 20}  # of a packet: its header
 UNASKED = 1280  # bytes that an IPv6 node may send without a look at the path (RFC 8200 section 5)
 DESCRIPTION = """\
-Prints `largest-inner N` for the list of `srv6 compile NET INTENT`: the header in front and a
+Prints `largest-inner N` for the list of `srv6 compile NET INTENT`: the headers in front and a
 packet inside of at most N bytes are within the MTU of each link of each step, whichever equal next
-hop is chosen. The next line says which links have the least MTU. A longer packet is dropped where
-its bytes there are more than the MTU of the link taken; behind a SID that took the routing header
-out it may still pass. Where no packet passes, or there is no list, the status is 3."""
+hop is chosen; where SIDs of the list bind policies, with the headers that they push. The next line
+says which links leave the least room. A longer packet is dropped where its bytes there are more
+than the MTU of the link taken; behind a SID that took the routing header out it may still pass.
+Where no packet passes, or there is no list, the status is 3."""
+
+
+@dataclass(frozen=True, slots=True)
+class Pushed:
+    """The bytes of the headers that are pushed along a list, by the step that is done under them,
+    from 1, and the most at once, also where none is done.
+    """
+
+    by_step: dict[int, int]
+    most: int
 
 
 @dataclass(frozen=True, slots=True)
 class Least:
-    """The least MTU of an intent's steps, and the links that have it."""
+    """The least that links of an intent's steps carry beside pushed headers, and the links."""
 
-    mtu: int
+    room: int
     links: tuple[tuple[str, int], ...] = ()  # each with the first of its steps, from 1
+    pushed: int = 0  # the most bytes of pushed headers at once
 
     def __str__(self) -> str:
+        if not self.links and not self.pushed:
+            return f"no step has links, and a packet has at most {self.room} bytes"
         if not self.links:
-            return f"no step has links, and a packet has at most {self.mtu} bytes"
+            return f"a packet has at most {MOST_MTU} bytes, {self.pushed} of pushed headers"
         names = [f"{name} (step {number})" for name, number in self.links[:MOST_NAMES]]
         more = len(self.links) - len(names)
         listed = ", ".join(names) + (f" and {more} more" if more else "")
-        return f"the least MTU of the steps' links is {self.mtu}: {listed}"
+        if self.pushed:
+            return f"beside pushed headers the steps' links carry at least {self.room}: {listed}"
+        return f"the least MTU of the steps' links is {self.room}: {listed}"
 
 
-def least_of(net: Network, intent: Intent) -> Least:
-    """The least MTU of all links of all steps."""
-    found: dict[str, int] = {}
+def pushed_along(net: Network, intent: Intent, path: Sequence[PathStep]) -> Pushed:
+    """The headers that SIDs of a list push."""
+    found = Pushed({}, 0)
+    if not any(sid.binds for sid in net.sids):
+        return found
+    legs, most = Legs(net, intent), 0
+    for leg in legs.along([step.prefix for step in path]):
+        for stage in legs.headers.stages(leg.position, leg.sid) if leg.sid.binds else ():
+            if isinstance(stage, Stage) and stage.header:
+                most = max(most, stage.header.length)
+                if stage.sid is None:
+                    found.by_step[stage.position] = stage.header.length
+    return Pushed(found.by_step, most)
+
+
+def least_of(net: Network, intent: Intent, pushed: Pushed) -> Least:
+    """The least that any link of any step carries beside pushed headers, in bytes."""
+    rooms: dict[str, tuple[int, int]] = {}
     for step in intent.steps:
         for name in step.links:
             if name not in net.links:
                 raise Fault(f"{intent.path}: step {step.number}: no link is called {name!r}")
-            found.setdefault(name, step.number)
-    if not found:
-        return Least(MOST_MTU)
-    mtu = min(net.links[name].mtu for name in found)
-    narrow = ((name, step) for name, step in found.items() if net.links[name].mtu == mtu)
-    return Least(mtu, tuple(narrow))
+            room = net.links[name].mtu - pushed.by_step.get(step.number, 0)
+            rooms[name] = min(rooms.get(name, (room, step.number)), (room, step.number))
+    least = min((room for room, _ in rooms.values()), default=MOST_MTU)
+    if not rooms or MOST_MTU - pushed.most < least:
+        return Least(MOST_MTU - pushed.most, (), pushed.most)
+    narrow = ((name, step) for name, (room, step) in rooms.items() if room == least)
+    return Least(least, tuple(narrow), pushed.most)
 
 
-def lines_of(net: Network, intent: Intent, report: Report) -> Iterator[str]:
+def lines_of(net: Network, intent: Intent, report: Report, pushed: Pushed) -> Iterator[str]:
     """What is said of a list."""
-    least = least_of(net, intent)
-    most = least.mtu - report.header
+    least = least_of(net, intent, pushed)
+    most = least.room - report.header
     if most < LEAST_BYTES[intent.family]:
         raise Fault(
             f"no {intent.inner} packet passes: the header takes {report.header} bytes, and {least}",
@@ -64,30 +98,35 @@ def lines_of(net: Network, intent: Intent, report: Report) -> Iterator[str]:
         )
     yield f"largest-inner {most}"
     yield f"the header takes {report.header} bytes, and {least}"
+    for step, size in sorted(pushed.by_step.items()):
+        yield f"over the links of step {step} pushed headers take {size} bytes"
     if intent.family == 6 and most < UNASKED:
         wanted = UNASKED + report.header
+        beside = ", and what pushed headers take there" if pushed.by_step else ""
         yield (
             f"IPv6 nodes send packets of {UNASKED} bytes without a look at the path (RFC 8200"
-            f" section 5); for these each link needs an MTU of {wanted}"
+            f" section 5); for these each link needs an MTU of {wanted}{beside}"
         )
 
 
-def report_for(net: str, intent: str) -> Report:
-    """The report of `srv6 compile`; a fault where it has no list."""
+def compiled(net: str, intent: str) -> tuple[Report, list[PathStep]]:
+    """The report of `srv6 compile` and the path behind it; a fault where it has no list."""
     answer = run_program(["compile", net, intent])
     if answer.status != Status.DONE:
         said = (answer.err.splitlines() or [f"status {answer.status}"])[-1]
         status = Status(answer.status) if answer.status in list(Status) else Status.OUTSIDE_FAULT
         raise Fault(f"srv6 compile {net} {intent}: {said} (`{SAY} compile ..` says more)", status)
-    report = report_of(answer.out.decode("latin-1").splitlines(), "srv6 compile")
+    text = answer.out.decode("latin-1")
+    report = report_of(text.splitlines(), "srv6 compile")
     if not report.has_list:
         raise Fault("the intent has no list", Status.NO_ANSWER)
-    return report
+    return report, certificate_in(text).path
 
 
 def _work(words: argparse.Namespace) -> int:
-    report = report_for(words.net, words.intent)
-    lines = list(lines_of(read_network(words.net), read_intent(words.intent), report))
+    report, path = compiled(words.net, words.intent)
+    net, intent = read_network(words.net), read_intent(words.intent)
+    lines = list(lines_of(net, intent, report, pushed_along(net, intent, path)))
     print("\n".join(lines))
     return Status.DONE
 

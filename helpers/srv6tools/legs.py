@@ -6,34 +6,16 @@ the room of containers. That the description and the intent keep their rules, an
 is flat, is taken for granted.
 """
 
-import enum
-from collections.abc import Iterator
-from dataclasses import dataclass
+import itertools
+from collections.abc import Iterator, Sequence
 from typing import NamedTuple
 
 from .command import Fault
-from .description import Network, Node, Sid
+from .description import Network, Sid
 from .intent import Intent, Step
 from .items import Prefix
-
-
-class Via(NamedTuple):
-    """Equal next hops: the links, and the route's prefix; None of those of a SID."""
-
-    links: tuple[str, ...]
-    prefix: Prefix | None
-
-
-class Stop(enum.Enum):
-    """Why a ride ends before it comes to the SID."""
-
-    NOTHING = "a look-up finds nothing"
-    MULTICAST = "the destination is multicast"
-    ADDRESS = "a look-up finds the node's address"
-    OTHER = "a look-up finds another SID"
-    LINKS = "a link is none of the next step"
-    FUNCTION = "links are met, and the next step is a function"
-    NO_STEP = "links are met, and no step is left"
+from .places import Halt, Place, Tables, arrival, halt_at, place_behind
+from .pushed_headers import HeaderWalks, Lost, Start
 
 
 class Ride(NamedTuple):
@@ -44,10 +26,7 @@ class Ride(NamedTuple):
     position: int
     lowered: int
     sid: Sid | None  # the SID that is found
-    stop: Stop | None = None  # else why there is none
-    node: str = ""  # where it stops
-    table: int = 0  # the table of the look-up there
-    via: Via | None = None  # the links there
+    halt: Halt | None = None  # else why there is none
 
 
 class Leg(NamedTuple):
@@ -61,57 +40,21 @@ class Leg(NamedTuple):
     is_last: bool
 
 
-@dataclass(frozen=True, slots=True)
-class Place:
-    """Where a packet is behind a SID or at the headend: a table of a node, or links."""
-
-    node: str
-    table: int
-    via: Via | None
-
-
-class Table:
-    """A table of a node: the longest prefix that holds an address decides."""
-
-    def __init__(self) -> None:
-        # by bits behind the prefix, and by those of the prefix
-        self._rows: dict[int, dict[int, tuple[int, Sid | Node | Via]]] = {}
-        self._shifts: list[int] = []
-
-    def enter(self, prefix: Prefix, rank: int, entry: Sid | Node | Via) -> None:
-        """Of equal prefixes the one with the greater rank holds."""
-        shift = 128 - prefix.prefixlen
-        rows = self._rows.setdefault(shift, {})
-        key = int(prefix.network_address) >> shift
-        if key not in rows or rows[key][0] < rank:
-            rows[key] = rank, entry
-        self._shifts = sorted(self._rows)
-
-    def look_up(self, address: int) -> Sid | Node | Via | None:
-        """The entry for an address."""
-        for shift in self._shifts:
-            if found := self._rows[shift].get(address >> shift):
-                return found[1]
-        return None
-
-
-MULTICAST = range(0xFF << 120, 1 << 128)
-
-
 class Legs:
     """The legs and finishes of a network along an intent."""
 
     def __init__(self, net: Network, intent: Intent):
         self.net, self.intent, self.steps = net, intent, intent.steps
         self.stands = _stands(net, intent)  # by position the node where the walk stands
-        self._tables = _tables(net)
+        self._tables = Tables(net)
+        self.headers = HeaderWalks(net, intent, self.stands, self._tables)
         self._by_node: dict[str, list[Sid]] = {}
         numbers = {name: number for number, name in enumerate(net.nodes)}
         self.sids = sorted(net.sids, key=lambda sid: (sid.prefix, numbers[sid.node]))
         for sid in self.sids:
             self._by_node.setdefault(sid.node, []).append(sid)
         self._arrivals: dict[tuple[int, int], Ride] = {}
-        self._legs: dict[tuple[int, Place], list[Leg]] = {}
+        self._legs: dict[Start, list[Leg]] = {}
         nodes = [frozenset(self.stands[position:]) for position in range(len(self.stands))]
         self._ahead = [[sid for sid in self.sids if sid.node in ahead] for ahead in nodes]
 
@@ -125,84 +68,83 @@ class Legs:
         """
         return self._ahead[position]
 
-    def place(self, sid: Sid | None) -> Place:
-        """Where a packet is behind a SID; at the headend where there is none."""
+    def start(self, position: int, sid: Sid | None) -> Start | Lost:
+        """From where a packet goes on that executed a SID last, or none, with so many steps done;
+        or where the header is lost that the SID pushes.
+        """
         if sid is None:
-            return Place(self.intent.headend, 0, None)
-        if sid.behaviour == "End.X":
-            return Place(sid.node, 0, Via(sid.links or (), None))
-        return Place(sid.node, (sid.table or 0) if sid.behaviour == "End.T" else 0, None)
+            return Start(position, Place(self.intent.headend, 0, None, False))
+        if sid.binds:
+            return self.headers.end(position, sid)
+        return Start(position, place_behind(sid))
 
-    def ride(self, position: int, place: Place, sid: Sid) -> Ride:
+    def ride(self, start: Start, sid: Sid) -> Ride:
         """The way of a packet to the first address of a SID's prefix."""
-        address = int(sid.prefix.network_address)
-        if place.via:
-            found, table = place.via, 0
-        else:
-            found, table = self._look_up(place.node, place.table, address)
-        return self._on(position, place.node, table, found, address)
+        return self._on(start.position, start.place, int(sid.prefix.network_address))
 
-    def _look_up(self, node: str, table: int, address: int) -> tuple[Sid | Node | Via | None, int]:
-        rows = self._tables.get((node, table))
-        return (rows.look_up(address) if rows and address not in MULTICAST else None), table
-
-    def _on(
-        self, position: int, node: str, table: int, found: Sid | Node | Via | None, address: int
-    ) -> Ride:
-        """The way on from what a look-up found, or from links that are taken."""
+    def _on(self, position: int, place: Place, address: int) -> Ride:
+        found = self._tables.found_at(place, address)
         if isinstance(found, Sid):
             return Ride(position, 0, found)
-        stop = self._stop(position, found, address)
-        if stop:
-            via = found if isinstance(found, Via) else None
-            return Ride(position, 0, None, stop, node, table, via)
-        return self._arrive(position + 1, address)
+        if halt := halt_at(place, found, address, self.steps[position : position + 1]):
+            return Ride(position, 0, None, halt)
+        ride = self._arrive(position + 1, address)
+        return ride._replace(lowered=ride.lowered + 1) if place.lowers else ride
 
     def _arrive(self, position: int, address: int) -> Ride:
-        """The way on from where the walk stands, where the packet has come over a link; the node
-        lowers.
-        """
+        """The way on from where the walk stands, where the packet has come over a link."""
         key = position, address
         if key not in self._arrivals:
-            node = self.stands[position]
-            found, table = self._look_up(node, 0, address)
-            ride = self._on(position, node, table, found, address)
-            lowered = ride.lowered + (ride.position > position)
-            self._arrivals[key] = ride._replace(lowered=lowered)
+            self._arrivals[key] = self._on(position, arrival(self.stands[position]), address)
         return self._arrivals[key]
-
-    def _stop(self, position: int, found: Node | Via | None, address: int) -> Stop | None:
-        if found is None:
-            return Stop.MULTICAST if address in MULTICAST else Stop.NOTHING
-        if isinstance(found, Node):
-            return Stop.ADDRESS
-        if position == len(self.steps):
-            return Stop.NO_STEP
-        step = self.steps[position]
-        if step.function:
-            return Stop.FUNCTION
-        return None if set(found.links) <= set(step.links) else Stop.LINKS
 
     def executes(self, sid: Sid, position: int) -> int | None:
         """The steps done once a SID is executed behind so many; None where its title isn't the
         next step's.
         """
-        if sid.title is None:
-            return position
-        fits = position < len(self.steps) and self.steps[position].function == sid.title
-        return position + 1 if fits else None
+        return self.intent.executes(sid.title, position)
 
     def legs(self, position: int, sid: Sid | None) -> list[Leg]:
         """The legs and finishes from behind a SID, or from the headend, in the order of the SIDs.
         """
-        place = self.place(sid)
-        if (position, place) not in self._legs:
-            self._legs[position, place] = list(self._find(position, place))
-        return self._legs[position, place]
+        start = self.start(position, sid)
+        if isinstance(start, Lost):
+            return []
+        if start not in self._legs:
+            self._legs[start] = list(self._find(start))
+        return self._legs[start]
 
-    def _find(self, position: int, place: Place) -> Iterator[Leg]:
-        for sid in self._ahead[position]:
-            ride = self.ride(position, place, sid)
+    def along(self, prefixes: Sequence[Prefix]) -> Iterator[Leg]:
+        """The legs of a list and its finish, by the prefixes of its SIDs."""
+        position, sid = 0, None
+        for number, prefix in enumerate(prefixes, 1):
+            for leg in self.legs(position, sid):
+                if (leg.sid.prefix, leg.is_last) == (prefix, number == len(prefixes)):
+                    break
+            else:
+                raise Fault(f"no leg leads to {prefix}, SID {number} of the list")
+            yield leg
+            position, sid = leg.position, leg.sid
+
+    def executed_first(self, prefixes: Sequence[Prefix]) -> Iterator[Sid]:
+        """The SIDs of a list, and those on headers that they push, that are executed before a link
+        is crossed.
+        """
+        position = 0
+        for leg in self.along(prefixes):
+            if any(step.links for step in self.steps[position : leg.position]):
+                return
+            yield leg.sid
+            position = leg.position
+            stages = self.headers.stages(position, leg.sid) if leg.sid.binds else iter(())
+            for stage in itertools.islice(stages, 1, None):
+                if isinstance(stage, Lost) or stage.sid is None:
+                    return
+                yield stage.sid
+
+    def _find(self, start: Start) -> Iterator[Leg]:
+        for sid in self._ahead[start.position]:
+            ride = self.ride(start, sid)
             if ride.sid is not sid or (to := self.executes(sid, ride.position)) is None:
                 continue
             if sid.goes_on:
@@ -228,23 +170,6 @@ def _end_of(net: Network, intent: Intent, step: Step) -> str:
     if end is None:
         raise Fault(f"{intent.path}: step {step.number}: {step.links[0]} leaves the network")
     return end
-
-
-def _tables(net: Network) -> dict[tuple[str, int], Table]:
-    """The tables of IPv6 of all nodes."""
-    tables: dict[tuple[str, int], Table] = {}
-
-    def enter(node: str, table: int, prefix: Prefix, rank: int, entry: Sid | Node | Via) -> None:
-        tables.setdefault((node, table), Table()).enter(prefix, rank, entry)
-
-    for sid in net.sids:
-        enter(sid.node, 0, sid.prefix, 2, sid)
-    for node in net.nodes.values():
-        enter(node.name, 0, node.prefix, 1, node)
-    for route in net.routes:
-        if route.prefix.version == 6:
-            enter(route.node, route.table, route.prefix, 0, Via(route.via, route.prefix))
-    return tables
 
 
 def unit_at(prefix: Prefix, bit: int) -> int:
@@ -337,8 +262,11 @@ class Edges:
 
     def like(self, position: int, sid: Sid | None, room: int) -> tuple:
         """What the edges of a state depend on: states that are alike in it have the same ones."""
+        start = self._legs.start(position, sid)
+        if isinstance(start, Lost):
+            return ()
         form = (sid.csid, self._rooms.block(sid), self._rooms.nested(sid)) if sid else None
-        return position, self._legs.place(sid), form, room
+        return start, form, room
 
     def of(self, position: int, sid: Sid | None, room: int) -> list[Edge]:
         """The edges of a state, in the order of the SIDs, `new` before `stay`."""

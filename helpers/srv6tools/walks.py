@@ -16,6 +16,7 @@ from .command import Fault, Status, tool_name
 from .description import Link, Network
 from .err_lines import PacketLine, err_line_of
 from .intent import read_intent
+from .legs import Legs
 from .program import Answer, run_program
 from .report import certificate_in
 from .shown import Shown, shown_in
@@ -202,17 +203,15 @@ class _Entry:
         self.visits = {visit.inner: visit for visit in self._first}
 
     def _own_sids(self) -> tuple[str, ...]:
-        """The SIDs of the list that the headend itself executes."""
+        """The SIDs that the headend itself executes."""
         answer = run_program(["compile", self.net.path, self.intent])
         _refuse(f"srv6 compile {self.net.path} {self.intent}", answer.status, answer.err)
-        own = {sid.prefix for sid in self.net.sids if sid.node == self.headend}
-        others = {sid.prefix for sid in self.net.sids if sid.node != self.headend}
-        sids = []
-        for step in certificate_in(answer.out.decode("latin-1")).path:
-            if step.prefix not in own or step.prefix in others:
-                break
-            sids.append(str(step.prefix))
-        return tuple(sids)
+        path = certificate_in(answer.out.decode("latin-1")).path
+        if not path:
+            return ()
+        legs = Legs(self.net, read_intent(self.intent))
+        own = legs.executed_first([step.prefix for step in path])
+        return tuple(str(sid.prefix) for sid in own)
 
     def hops(self, choice: int) -> dict[Visit, Hop]:
         """The first hops of the packets under one choice."""

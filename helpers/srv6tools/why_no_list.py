@@ -4,13 +4,16 @@ import argparse
 import collections
 import functools
 from collections.abc import Iterator, Sequence
+from ipaddress import IPv6Address
 
 from .command import Fault, Parser, Status, progress, run_tool, tool_name
 from .description import Sid, read_network
 from .err_lines import NoAnswer, err_line_of
 from .intent import Step, read_intent
-from .legs import Edges, Legs, Place, Ride, Rooms, Stop
+from .legs import Edges, Legs, Rooms
+from .places import Halt, Stop
 from .program import run_program
+from .pushed_headers import Lost, Start
 
 SAY = tool_name("srv6-say")
 MOST_NAMES = 4  # SIDs that one line names
@@ -20,8 +23,9 @@ does, and for each SID there why no list goes on. What is found follows the rule
 (docs/FORMATS.md); that there is no list is what srv6 says. Where there is one, the status is
 3."""
 
-# The SIDs behind which a packet is at a place; None is the headend.
-Places = dict[Place | None, list[Sid | None]]
+# The SIDs behind which a packet goes on from a start, or which push a header that is lost. None is
+# the headend.
+Starts = dict[Start | Lost, list[Sid | None]]
 
 
 class Search:
@@ -50,10 +54,17 @@ class Search:
                     rooms.add(edge.room)
                     todo.append((edge.position, edge.sid, edge.room))
 
-    @property
-    def furthest(self) -> int:
-        """The most steps that are done where a SID is executed."""
-        return max(self.reached)
+    def furthest(self) -> tuple[int, Starts]:
+        """The most steps that are done where a SID is executed, or the header is taken off that it
+        pushes, and from where packets go on there.
+        """
+        starts: dict[int, Starts] = {}
+        for position, reached in self.reached.items():
+            for sid in sorted(reached, key=lambda sid: sid.number if sid else 0):
+                start = self.legs.start(position, sid)
+                done = position if isinstance(start, Lost) else start.position
+                starts.setdefault(done, {}).setdefault(start, []).append(sid)
+        return max(starts), starts[max(starts)]
 
 
 class Reasons:
@@ -61,7 +72,7 @@ class Reasons:
 
     def __init__(self, search: Search):
         self.search, self.legs = search, search.legs
-        self.position = search.furthest
+        self.position, self.starts = search.furthest()
 
     def step(self, position: int) -> str:
         """A step by the number of steps that are done before it."""
@@ -77,19 +88,18 @@ class Reasons:
             yield f"no list: no list does a step; the headend is {node}"
         if self.position < len(steps):
             yield f"what comes next is {self.step(self.position)}"
-        for sids in self._by_place().values():
+        for start, sids in self.starts.items():
             yield ""
-            yield f"from {self._names(sids)}:"
-            yield from self._from(sids[0])
+            if isinstance(start, Lost):
+                yield f"from {self._names(sids)}:"
+                yield f"  the header that the policy puts in front is lost: {self._why_lost(start)}"
+            else:
+                binds = sids[0] is not None and sids[0].binds
+                where = f", whose header is taken off at {start.place.node}" if binds else ""
+                yield f"from {self._names(sids)}{where}:"
+                yield from self._from(start, sids[0])
         yield ""
         yield from self._missing()
-
-    def _by_place(self) -> Places:
-        places: Places = {}
-        reached = self.search.reached[self.position]
-        for sid in sorted(reached, key=lambda sid: sid.number if sid else 0):
-            places.setdefault(self.legs.place(sid) if sid else None, []).append(sid)
-        return places
 
     def _names(self, sids: Sequence[Sid | None]) -> str:
         if sids[0] is None:
@@ -98,25 +108,27 @@ class Reasons:
         more = len(sids) - len(names)
         return ", ".join(names) + (f" and {more} more like these" if more else "")
 
-    def _from(self, sid: Sid | None) -> Iterator[str]:
+    def _from(self, start: Start, sid: Sid | None) -> Iterator[str]:
         """A line for each reason, with the SIDs that a packet doesn't come to for it."""
         reasons: dict[str, list[Sid]] = {}
         for to in self.legs.sids_ahead(self.position):
-            if why := self.why_not(sid, to):
+            if why := self.why_not(start, sid, to):
                 reasons.setdefault(why, []).append(to)
         if not reasons:
             yield "  there is no other SID at any node of the path from here on"
         for why, targets in reasons.items():
             yield f"  to {self._names(targets)}: {why}"
 
-    def why_not(self, sid: Sid | None, to: Sid) -> str:
+    def why_not(self, start: Start, sid: Sid | None, to: Sid) -> str:
         """Why no list goes on from a SID to another; nothing where one comes to it without a
         step.
         """
-        place = self.legs.place(sid)
-        ride = self.legs.ride(self.position, place, to)
+        ride = self.legs.ride(start, to)
+        if ride.halt:
+            return self._crossed(ride.position) + self._why_halted(ride.halt, ride.position)
         if ride.sid is not to:
-            return self._why_stopped(ride, place)
+            first = f"the packet comes to {ride.sid} at {ride.sid.node} first" if ride.sid else ""
+            return self._crossed(ride.position) + first
         done = self.legs.executes(to, ride.position)
         if done is None:
             return f"it is the function {to.title}, and {self._next(ride.position)}"
@@ -133,8 +145,6 @@ class Reasons:
 
     def _why_not_last(self, sid: Sid | None, to: Sid, done: int) -> str:
         family, inner = self.legs.intent.family, self.legs.intent.inner
-        if to.binds:
-            return f"{to.behaviour} binds a policy, and lists with such a SID aren't compared"
         if done < len(self.legs.steps):
             why = f"{to.behaviour} hands the packet over, and {self._next(done)}"
             return "" if to.goes_on else why
@@ -146,38 +156,44 @@ class Reasons:
         block = self.search.rooms.block(sid) if sid else None
         return f"the container of REPLACE-CSIDs is full there, and it is outside the block {block}"
 
-    def _why_stopped(self, ride: Ride, place: Place) -> str:
-        """Where a ride ends, and what is in its way there."""
-        crossed = f"it crosses {self._crossed(ride)}; " if ride.position > self.position else ""
-        own = place.via is not None and ride.position == self.position
-        at = f"{ride.node}, table {ride.table}," if ride.table else ride.node
-        links = ", ".join(ride.via.links) if ride.via else ""
-        sends = f"its links are {links}" if own else f"{at} sends over {links}"
-        if ride.via and ride.via.prefix and not own:
-            sends += f" (route {ride.via.prefix})"
-        match ride.stop:
-            case Stop.NOTHING:
-                return f"{crossed}{at} has no route to it"
-            case Stop.MULTICAST:
-                return f"{crossed}its address is multicast"
-            case Stop.ADDRESS:
-                return f"{crossed}it has the address of the node {ride.node}"
-            case Stop.NO_STEP:
-                return f"{crossed}{sends}, and all steps are done"
-            case Stop.FUNCTION:
-                return f"{crossed}{sends}, and what comes next is {self.step(ride.position)}"
-            case Stop.LINKS:
-                wanted = self.legs.steps[ride.position].links
-                off = [link for link in ride.via.links if link not in wanted] if ride.via else []
-                verb = "is no link" if len(off) == 1 else "are no links"
-                return f"{crossed}{sends}; {', '.join(off)} {verb} of {self.step(ride.position)}"
-        found = ride.sid
-        return f"{crossed}the packet comes to {found} at {found.node} first" if found else ""
+    def _why_lost(self, lost: Lost) -> str:
+        """Why a pushed header isn't taken off."""
+        if isinstance(lost.why, str):
+            return self._crossed(lost.position) + lost.why
+        why = self._why_halted(lost.why, lost.position)
+        return f"to {IPv6Address(lost.address)}, {self._crossed(lost.position)}{why}"
 
-    def _crossed(self, ride: Ride) -> str:
-        first, last = self.position + 1, ride.position
+    def _why_halted(self, halt: Halt, position: int) -> str:
+        """Where a packet goes no further, and what is in its way there."""
+        place, links = halt.place, ", ".join(halt.via.links) if halt.via else ""
+        at = f"{place.node}, table {place.table}," if place.table else place.node
+        sends = f"its links are {links}" if place.via else f"{at} sends over {links}"
+        if halt.via and halt.via.prefix:
+            sends += f" (route {halt.via.prefix})"
+        match halt.stop:
+            case Stop.NOTHING:
+                return f"{at} has no route to it"
+            case Stop.MULTICAST:
+                return "its address is multicast"
+            case Stop.ADDRESS:
+                return f"it has the address of the node {place.node}"
+            case Stop.NO_STEP:
+                return f"{sends}, and all steps are done"
+            case Stop.FUNCTION:
+                return f"{sends}, and what comes next is {self.step(position)}"
+            case Stop.LINKS:
+                wanted = self.legs.steps[position].links
+                off = [link for link in halt.via.links if link not in wanted] if halt.via else []
+                verb = "is no link" if len(off) == 1 else "are no links"
+                return f"{sends}; {', '.join(off)} {verb} of {self.step(position)}"
+
+    def _crossed(self, position: int) -> str:
+        """The steps that are crossed up to a position, where there are any."""
+        if position == self.position:
+            return ""
+        first, last = self.position + 1, position
         steps = f"step {first}" if first == last else f"steps {first} to {last}"
-        return f"{steps} to {self.legs.stands[last]}"
+        return f"it crosses {steps} to {self.legs.stands[last]}; "
 
     def _missing(self) -> Iterator[str]:
         """What the next step has at its node, be it enough or not."""

@@ -14,7 +14,9 @@ from srv6tools.program import Answer
 from support import EXAMPLES, ToolCase, bad_captures, bad_tomls, needs_program, needs_tool
 from support import run_here
 
-M1, M2, INTENT = (EXAMPLES / f"{name}.toml" for name in ("m1", "m2", "intent"))
+M1, M2, POLICY, INTENT = (
+    EXAMPLES / f"{name}.toml" for name in ("m1", "m2", "policy", "intent")
+)
 TO = "2001:db8:9::1"
 
 
@@ -202,6 +204,21 @@ class AllPaths(ToolCase):
         self.assertIn("over ce to 2001:db8:2::1, hop limit 62: left ce", out)
         self.assertIn("packet 2 enters at the headend A: 1 walk\n  A: dropped InnerHop", out)
         self.survives_closed_pipe("all-paths", M1, "B", given=to_d)
+
+    @needs_program
+    def test_policies_with_the_program(self):
+        inner = (EXAMPLES / "decap.bin").read_bytes()[40:]
+        out = run_here("all-paths", POLICY, INTENT, given=inner).out
+        two = "B executes fcbb:bb00:2::/48, fcbb:bb00:b001::/48 over bc1 to 2001:db8:c::1"
+        self.assertIn(f"{two}, hop limit 64", out)
+        self.assertIn("C executes 2001:db8:c::1/128 over cd to fcbb:bb00:4:f001::", out)
+        # At the headend the header executes a SID too, before it is sent.
+        segments = '["2001:db8:c::1"]'
+        text = POLICY.read_text().replace(segments, '["fcbb:bb00:2::", "2001:db8:c::1"]')
+        at_b = INTENT.read_text().replace('"A"', '"B"').replace('[[step]]\nlinks = ["ab"]\n', "")
+        net, intent = self.file("net.toml", text), self.file("intent.toml", at_b)
+        out = run_here("all-paths", net, intent, given=inner).out
+        self.assertIn("B executes fcbb:bb00:b001::/48, fcbb:bb00:2::/48 over bc1 to 2001", out)
 
     @needs_program
     def test_bad_captures(self):

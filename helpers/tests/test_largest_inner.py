@@ -2,12 +2,27 @@
 
 import unittest
 
+from srv6tools.program import run_program
 from support import EXAMPLES, HELPERS, ToolCase, bad_tomls, needs_program, run_here
 
-M2, INTENT = EXAMPLES / "m2.toml", EXAMPLES / "intent.toml"
+M2, POLICY, INTENT = (EXAMPLES / f"{name}.toml" for name in ("m2", "policy", "intent"))
 ROWS = HELPERS.parent / "crates" / "worked_rows" / "data" / "mtu"
 REPORT = "# container ::1\n# container ::2\n# containers 2\n# header 64\n# need 2\n"
 BC1 = 'name = "bc1"'
+# Of the list through the policy, which puts 40 bytes more in front over bc1.
+THROUGH_POLICY = """\
+# container fcbb:bb00:2:b001:4:f001::
+# containers 1
+# header 40
+# need 4
+srv6 certificate 1
+potential 0 - 0 1 4
+path new fcbb:bb00:2::/48
+path stay fcbb:bb00:b001::/48
+path stay fcbb:bb00:4::/48
+path stay fcbb:bb00:f001::/48
+end
+"""
 
 
 class LargestInner(ToolCase):
@@ -50,6 +65,29 @@ class LargestInner(ToolCase):
         self.assertEqual(first, "largest-inner 65511")
         self.assertIn("no step has links", second)
 
+    def test_pushed_headers(self):
+        net = POLICY.read_text().replace(BC1, f"{BC1}\nmtu = 1280")
+        first, second, third, fourth = self.said(net, THROUGH_POLICY)
+        self.assertEqual(first, "largest-inner 1200")
+        self.assertIn("beside pushed headers the steps' links carry at least 1240: bc1", second)
+        self.assertEqual(third, "over the links of step 2 pushed headers take 40 bytes")
+        self.assertIn("needs an MTU of 1320, and what pushed headers take there", fourth)
+        full = net.replace("Encaps.Red", "Encaps").replace("1280", "1500")
+        self.assertEqual(self.said(full, THROUGH_POLICY)[0], "largest-inner 1396")
+        both = full.replace('name = "ab"', 'name = "ab"\nmtu = 1400')
+        self.assertEqual(self.said(both, THROUGH_POLICY)[0], "largest-inner 1360")
+        self.assertEqual(self.said(POLICY.read_text(), THROUGH_POLICY)[0], "largest-inner 65495")
+
+    def test_a_header_that_is_taken_off_where_it_is_pushed(self):
+        own = 'node = "B"\nprefix = "2001:db8:c::1/128"\nbehaviour = "End"\n'
+        net = POLICY.read_text().replace(own.replace('"B"', '"C"'), own)
+        route = '[[route]]\nnode = "B"\nprefix = "2001:db8:c::1/128"\nvia = ["bc1"]\n'
+        net = net.replace(route, "")
+        via = 'prefix = "fcbb:bb00:4::/48"\nvia = ["bc1", "bc2"]'
+        first, second = self.said(net.replace(via, via.replace(', "bc2"', "")), THROUGH_POLICY)
+        self.assertEqual(first, "largest-inner 65495")
+        self.assertIn("a packet has at most 65575 bytes, 40 of pushed headers", second)
+
     def test_nothing_passes(self):
         net = self.file("net.toml", M2.read_text().replace(BC1, f"{BC1}\nmtu = 1280"))
         for header, status in ((1240, 0), (1241, 3), (2080, 3)):
@@ -80,6 +118,16 @@ class LargestInner(ToolCase):
             ran = run_here("largest-inner", ROWS / row / "net.toml", ROWS / row / "intent.toml")
             self.assertEqual((ran.status, ran.out.splitlines()[0]), (0, "largest-inner 1240"))
         self.survives_closed_pipe("largest-inner", M2, INTENT)
+
+    @needs_program
+    def test_pushed_headers_where_the_program_sends_and_drops(self):
+        net = self.file("net.toml", POLICY.read_text().replace(BC1, f"{BC1}\nmtu = 1280"))
+        self.assertEqual(run_here("largest-inner", net, INTENT).out.split()[1], "1200")
+        for size, line in ((1200, "left ce"), (1201, "dropped MtuExceeded at B")):
+            head = bytes.fromhex("60000000") + (size - 40).to_bytes(2, "big") + b"\x3b\x40"
+            packet = head + bytes.fromhex(f"{0x20010DB8 << 96 | 1:032x}{0x20010DB8 << 96 | 2:032x}")
+            answer = run_program(["walk", net, INTENT], packet + bytes(size - 40))
+            self.assertEqual(answer.err, f"packet 1: {line}\n")
 
 
 if __name__ == "__main__":

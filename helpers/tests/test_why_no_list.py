@@ -8,7 +8,7 @@ from srv6tools.legs import Legs
 from srv6tools.why_no_list import Reasons, Search
 from support import EXAMPLES, ToolCase, bad_tomls, needs_program, run_here
 
-M2, INTENT = EXAMPLES / "m2.toml", EXAMPLES / "intent.toml"
+M2, POLICY, INTENT = (EXAMPLES / f"{name}.toml" for name in ("m2", "policy", "intent"))
 NO_LIST = "no answer NoList\n"
 # What is replaced in the description and in the intent, and what is said then.
 CASES = (
@@ -20,6 +20,18 @@ CASES = (
     ('"fcbb:bb00:2::/48"\nvia', '"fc00::/48"\nvia', "", "", "A has no route to it"),
     ('"fcbb:bb00:4::/48"\nbehaviour', '"fc00:4::/48"\nbehaviour', "", "", "C has no route to it"),
     ('"C"\nprefix = "fcbb', '"C"\nprefix = "fc00', "", "", "crosses step 2 to C; C has no route"),
+)  # fmt: skip
+USD = 'behaviour = "End"\nflavours = ["usd"]'
+LOST = "the header that the policy puts in front is lost: "
+# The same in the network with a policy.
+POLICIES = (
+    ('1/128"\nvia = ["bc1"]', '1/128"\nvia = ["bc2"]',
+     LOST + "to 2001:db8:c::1, B sends over bc2 (route 2001:db8:c::1/128); bc2 is no link"),
+    (USD, 'behaviour = "End.DT4"\ntable = 0',
+     LOST + "it crosses step 2 to C; at 2001:db8:c::1/128 (End.DT4 table 0) no segment is left"),
+    (USD, 'behaviour = "End.DT6"\ntable = 7', "policy to-c), whose header is taken off at C:"),
+    (USD, 'behaviour = "End.DT6"\ntable = 7', "C, table 7, has no route to it"),
+    (USD, USD + '\ntitle = "exit"', "it comes to the function exit, which isn't the next step"),
 )  # fmt: skip
 
 
@@ -33,6 +45,12 @@ class WhyNoList(ToolCase):
                 net = self.file("net.toml", M2.read_text().replace(old, new, 1))
                 intent = self.file("intent.toml", INTENT.read_text().replace(old_step, new_step, 1))
                 self.assertIn(wants, self.said(net, intent))
+
+    def test_pushed_headers(self):
+        for old, new, wants in POLICIES:
+            with self.subTest(wants):
+                net = self.file("net.toml", POLICY.read_text().replace(old, new, 1))
+                self.assertIn(wants, self.said(net, INTENT))
 
     def test_full_container(self):
         text = (EXAMPLES / "csids.toml").read_text()
