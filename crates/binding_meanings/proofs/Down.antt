@@ -23,6 +23,7 @@ use Rattle.list_places.specs.Places.{Tunnel, active, behind_of, next_of, Along}
 use Rattle.list_places.proofs.PublicLaws.{along-hop, along-exposes, along-only}
 use Rattle.list_pack.specs.SidLists.{list_sid, IsSidPrefix}
 use Rattle.list_pack.specs.Value.{IsVia}
+use Rattle.leg_table.proofs.Options.{kept-from, kept-parts}
 use Rattle.leg_table.proofs.AllHands.{moved-goes}
 use Rattle.leg_table.proofs.FlatNets.{FlatFacts}
 use Rattle.leg_table.proofs.HopLimits.{onward-moves}
@@ -38,7 +39,7 @@ use Rattle.leg_table.specs.Ride.{Ride}
 use Rattle.leg_table.specs.Ride as rides
 use Rattle.leg_table.specs.Sids.{sid_address, sid_exposes, hands_over}
 use Rattle.leg_table.specs.Trace.{Handed, executed}
-use Rattle.leg_table.specs.Tasks.{left_after}
+use Rattle.leg_table.specs.Tasks.{left_after, matches}
 use Rattle.leg_table.specs.Value.{AnyWay}
 use Rattle.deep_walks.specs.Moves.{End, left_by, end_with}
 use Rattle.deep_walks.specs.Choices.{EndsWith, ForAllRows}
@@ -83,9 +84,10 @@ module _ (net : Network) (keeps : Keeps net) (intent : Intent) (is_intent : IsIn
     pub ends : EndsWith step_events (own_move (network_world net)) (drop position intent.steps) deep end
     pub none : end.left ≡ []
 
-  pub hands-one : (position : ℕ) (via : Option ℕ) (p : Packet) → AlwaysHands k via p (drop position intent.steps) → HandsOne position via p
-  hands-one position via p all =
+  pub hands-one : (position : ℕ) (via : Option ℕ) (p : Packet) → AlwaysHands k via p position → HandsOne position via p
+  hands-one position via p hands =
       let ts = drop position intent.steps in
+      let all = hands.1 in
       let zeros : ℕ → ℕ = λ n. 0 in
       let some = hand-on net (all zeros).1.0 (onward_of net intent via p) zeros 0 (all zeros).0 (all zeros).1.1 in
       let d : Deep Place Packet = some.0 in
@@ -98,7 +100,7 @@ module _ (net : Network) (keeps : Keeps net) (intent : Intent) (is_intent : IsIn
         got = g.0;
         left = [];
         gives = g.1;
-        along = ap (λ (h : Handed). left_by step_events ts h.trace) g.2 ∙ all-left ts a.0.trace a.2;
+        along = ap (λ (h : Handed). left_by step_events ts h.trace) g.2 ∙ all-left ts a.0.trace (kept-parts (matches ts a.0.trace) hands.0 a.2).0;
       } in
       let one = choices-one step_events (own_move (network_world net)) ts d
       ((choices-rows step_events (own_move (network_world net)) ts d).1 rows) in
@@ -110,15 +112,19 @@ module _ (net : Network) (keeps : Keeps net) (intent : Intent) (is_intent : IsIn
   pub one-hands : (j : ℕ) (via : Option ℕ) (p : Packet) (d : Deep Place Packet) → onward_of net intent via p ≡ Some d → GoesOnAs p d
       → (e : OwnEnd net keeps intent is_intent) → EndsWith step_events (own_move (network_world net)) (drop j intent.steps) d e
       → e.left ≡ []
-      → AlwaysHands k via p (drop j intent.steps)
-  one-hands j via p d from goes e ends none pick =
-      let one = one-each step_events (own_move (network_world net)) ends.0 (drop j intent.steps) d pick 0 e
-      (own-joined (network_world net) (drop j intent.steps) (joined-at net keeps intent is_intent j)) ends.1 in (
-        handed_of one.got,
-        (ends.0, ap (λ o. hand_on net ends.0 o pick 0) from ∙ hand-from net p d goes ends.0 pick 0 one.got one.gives),
-        left-all (drop j intent.steps) one.got.trace (one.along ∙ ap Some none),
-        none-barred net intent one.got.sids,
-      )
+      → AlwaysHands k via p j
+  one-hands j via p d from goes e ends none = (
+    [],
+    λ pick.
+        let one = one-each step_events (own_move (network_world net)) ends.0 (drop j intent.steps) d pick 0 e
+        (own-joined (network_world net) (drop j intent.steps) (joined-at net keeps intent is_intent j)) ends.1 in (
+          handed_of one.got,
+          (ends.0, ap (λ o. hand_on net ends.0 o pick 0) from ∙ hand-from net p d goes ends.0 pick 0 one.got one.gives),
+          kept-from (matches (drop j intent.steps) one.got.trace)
+              (left-all (drop j intent.steps) one.got.trace (one.along ∙ ap Some none)),
+          none-barred net intent one.got.sids,
+        ),
+  )
 
 -- ---- what becomes of the packet
 
@@ -255,7 +261,7 @@ module _ (net : Network) (network : IsNetwork net) (flat : IsFlat net) (facts : 
 
   pub leg-down : (x : lists.ListPlace) (q : PrefixValue) (position : ℕ) (via : Option ℕ) (hop : ℕ) (p : Packet)
       → position ≤ length intent.steps → IsVia (binding_legs_value net intent) position via → Along t x hop p → PlaceKeeps net x
-      → active x ≡ list_sid net q → IsSidPrefix net q → 0 < hop → AlwaysHands (binding_kind net intent) via p (drop position intent.steps)
+      → active x ≡ list_sid net q → IsSidPrefix net q → 0 < hop → AlwaysHands (binding_kind net intent) via p position
       → After x q position via hop p
   leg-down x q position via hop p within at along nests to named positive hands =
       let one = hands-one net keeps intent is_intent position via p hands in

@@ -17,7 +17,7 @@ use Rattle.walk_rules.specs.declared.place.Place.{Place}
 use Rattle.walk_rules.specs.Treatment.{allow_of, onward_from}
 use Rattle.walk_rules.specs.Way.{Way, Into, way_of}
 use Rattle.intent_reader.specs.declared.intent.Step.{Step}
-use Rattle.intent_reader.specs.declared.intent.Step.TheVariants.{Links, Function}
+use Rattle.intent_reader.specs.declared.intent.Step.TheVariants.{Links, Function, Reach}
 use Rattle.intent_reader.specs.declared.intent.Intent.{Intent}
 use Rattle.leg_table.specs.Leg.{place_behind}
 use Rattle.leg_table.specs.Tasks.{left_after, left_after_function}
@@ -178,6 +178,7 @@ module _ (net : Network) (n : ℕ) where
       by_title false e ts h = (ts, left-out e ts, same_Some _ _ h)
       by_title true e [] h = cc
       by_title true e (Links set ∷ ts) h = cc
+      by_title true e (Reach node ∷ ts) h = cc
       by_title true e (Function sid ∷ ts) h =
           let got = if-parts (sid == n) (Some (length ts)) left h in
           (ts, left-in e sid ts got.0, same_Some _ _ got.1)
@@ -197,6 +198,7 @@ module _ (net : Network) (n : ℕ) where
           )
       by_title true e [] h = cc
       by_title true e (Links set ∷ ts) h = cc
+      by_title true e (Reach node ∷ ts) h = cc
       by_title true e (Function sid ∷ ts) h =
           let got = function-parts sid ts (sid == n) refl h in (
             subst (LeftBy (Function sid ∷ ts)) got.1 (left-in e sid ts got.0),

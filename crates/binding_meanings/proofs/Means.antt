@@ -18,6 +18,7 @@ use Rattle.list_pack.specs.PathLists.{list_of}
 use Rattle.list_pack.specs.SidLists.{list_values}
 use Rattle.list_pack.specs.Meaning.{AreSidsOf, Means}
 use Rattle.list_pack.specs.Value.{KeepsLaws}
+use Rattle.leg_table.proofs.Options.{kept-from, kept-parts}
 use Rattle.leg_table.specs.Meant.{HandsInner, IsRealizing, IsExecuting, IsHanding}
 use Rattle.leg_table.specs.OneLeg.{LegKind, LegLaws, KindLaws, HandsOver}
 use Rattle.leg_table.specs.Realizes.{IsInner}
@@ -88,9 +89,10 @@ module _ (net : Network) (intent : Intent) (network : IsNetwork net) (flat : IsF
       }
 
   -- as many choices matter as there are steps
-  agree : (p : Packet) (pick other : ℕ → ℕ) (h : Handed) → ((d : ℕ) → d < length intent.steps → pick d ≡ other d)
-      → HandsOver k None p pick 0 h → matches intent.steps h.trace ≡ true → HandsOver k None p other 0 h
-  agree p pick other h same over met =
+  agree : (p : Packet) (pick other : ℕ → ℕ) (h : Handed) (marks : List ℕ) → ((d : ℕ) → d < length intent.steps → pick d ≡ other d)
+      → HandsOver k None p pick 0 h → k.kept 0 h.trace ≡ Some marks → HandsOver k None p other 0 h
+  agree p pick other h marks same over kept =
+      let met = (kept-parts (matches intent.steps h.trace) marks kept).0 in
       let some = hand-on net over.0 (onward_of net intent None p) pick 0 h over.1 in
       let goes = onward-goes net intent None p some.0 some.1 in
       let g = hand-parts net p some.0 goes over.0 pick 0 h (sym (ap (λ o. hand_on net over.0 o pick 0) some.1) ∙ over.1) in
@@ -125,43 +127,50 @@ module _ (net : Network) (intent : Intent) (network : IsNetwork net) (flat : IsF
   -- ---- realizing by the kind is realizing through binding SIDs
 
   abbrev to-kind : {segments : List ℕ} {inner : Content} {hop : ℕ} {choices : List ℕ} → OwnHandsOver net intent segments inner hop choices
-      → HandsInner k segments inner hop choices
+      → HandsInner k segments inner hop [] choices
   to-kind o =
       record {
         handed = o.handed;
         over = (o.fuel, o.own);
-        steps = o.steps;
+        steps = kept-from (matches intent.steps o.handed.trace) o.steps;
         content = o.content;
         allowed = none-barred net intent o.handed.sids;
       }
 
-  abbrev of-kind : {segments : List ℕ} {inner : Content} {hop : ℕ} {choices : List ℕ} → HandsInner k segments inner hop choices
+  abbrev of-kind : {segments : List ℕ} {inner : Content} {hop : ℕ} {marks choices : List ℕ} → HandsInner k segments inner hop marks choices
       → OwnHandsOver net intent segments inner hop choices
-  of-kind o = record { fuel = o.over.0; handed = o.handed; own = o.over.1; steps = o.steps; content = o.content }
+  of-kind {marks = marks} o =
+      record {
+        fuel = o.over.0;
+        handed = o.handed;
+        own = o.over.1;
+        steps = (kept-parts (matches intent.steps o.handed.trace) marks o.steps).0;
+        content = o.content;
+      }
 
   realizes-of : (list : List Container) (need : ℕ) → IsRealizing k list need → OwnListRealizes net intent list need
   realizes-of list need r =
       record {
-        reaches = λ inner ok hop above choices some. of-kind (r.reaches inner ok hop above choices some);
-        least = λ n reaches. r.least n (λ inner ok hop above choices some. to-kind (reaches inner ok hop above choices some));
+        reaches = λ inner ok hop above choices some. of-kind (r.reaches.1 inner ok hop above choices some);
+        least = λ n reaches. r.least n ([], λ inner ok hop above choices some. to-kind (reaches inner ok hop above choices some));
       }
 
   to-realizes : (list : List Container) (need : ℕ) → OwnListRealizes net intent list need → IsRealizing k list need
   to-realizes list need r =
       record {
-        reaches = λ inner ok hop above choices some. to-kind (r.reaches inner ok hop above choices some);
-        least = λ n reaches. r.least n (λ inner ok hop above choices some. of-kind (reaches inner ok hop above choices some));
+        reaches = ([], λ inner ok hop above choices some. to-kind (r.reaches inner ok hop above choices some));
+        least = λ n reaches. r.least n (λ inner ok hop above choices some. of-kind (reaches.1 inner ok hop above choices some));
       }
 
   executes-of : (list : List Container) (count : ℕ) → IsExecuting k list count → OwnListExecutes net intent list count
-  executes-of list count e = λ inner hop choices h. e inner hop choices (to-kind h)
+  executes-of list count e = λ inner hop choices h. e inner hop [] choices (to-kind h)
 
   to-executes : (list : List Container) (count : ℕ) → OwnListExecutes net intent list count → IsExecuting k list count
-  to-executes list count e = λ inner hop choices h. e inner hop choices (of-kind h)
+  to-executes list count e = λ inner hop marks choices h. e inner hop choices (of-kind h)
 
   to-handing : (list : List Container) (hop : ℕ) → OwnListHands net intent list hop → IsHanding k list hop
   to-handing list hop h =
-      record { positive = h.positive; inner = h.inner; always = λ choices some. to-kind (h.always choices some) }
+      record { positive = h.positive; inner = h.inner; marks = []; always = λ choices some. to-kind (h.always choices some) }
 
   -- so their paths are the legal lists that realize the intent
   pub binding-means : KeepsLaws (binding_legs_value net intent)

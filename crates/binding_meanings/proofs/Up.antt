@@ -1,5 +1,5 @@
 -- Up from a leg and from a finish: a packet whose hop limit is above what the way needs is taken along it, under every row of choices.
-use Rattle.std.proofs.Common.{◌≡◌, ℕ, ◌+◌, ◌-◌, ◌<◌, true, false, List, [], ◌∷◌, drop, length, Option, Some, None, slice_get, refl, sym, ap, ◌∙◌, subst, arith}
+use Rattle.std.proofs.Common.{◌++◌, ◌≡◌, ℕ, ◌+◌, ◌-◌, ◌<◌, true, false, List, [], ◌∷◌, drop, length, Option, Some, None, slice_get, refl, sym, ap, ◌∙◌, subst, arith}
 use Rattle.std.proofs.lemmas.List.Elements.{All-cons, All-nil}
 use Rattle.std.proofs.lemmas.Option.{same_Some}
 use Rattle.srv6_rules.specs.declared.sid.SidEntry.{SidEntry}
@@ -18,6 +18,7 @@ use Rattle.list_places.specs.Places.{Tunnel, active, next_of, form, stays_routed
 use Rattle.list_places.proofs.PublicLaws.{along-onward, along-next, along-exposed}
 use Rattle.list_pack.specs.declared.types.Leg.{Leg}
 use Rattle.list_pack.specs.SidLists.{list_sid}
+use Rattle.leg_table.proofs.Options.{kept-from, kept-same}
 use Rattle.leg_table.proofs.FlatNets.{FlatFacts}
 use Rattle.leg_table.specs.OneLeg.{LegKind, OnWay, IsTakenOn, HandsBy, after_leg, prefix_in}
 use Rattle.leg_table.specs.Ride.{Ride}
@@ -95,8 +96,9 @@ module _ (net : Network) (keeps : Keeps net) (facts : FlatFacts net) (intent : I
         allowed = refl;
         events = w.trace;
         leads = λ more.
-            leads-on (drop position intent.steps) us w.trace more w.along
-            ∙ ap (λ (vs : List Step). matches vs more) (us_rest ∙ ap (λ (j : ℕ). drop j intent.steps) ends);
+            kept-same (matches (drop position intent.steps) (w.trace ++ more)) (matches (drop leg.to intent.steps) more)
+            (leads-on (drop position intent.steps) us w.trace more w.along
+            ∙ ap (λ (vs : List Step). matches vs more) (us_rest ∙ ap (λ (j : ℕ). drop j intent.steps) ends));
         count = w.count;
         chosen = w.chosen;
         passes = λ fuel h is.
@@ -118,7 +120,7 @@ module _ (net : Network) (keeps : Keeps net) (facts : FlatFacts net) (intent : I
 
   pub finish-up : (x : lists.ListPlace) (position : ℕ) (via : Option ℕ) (next lowered : ℕ) (hop : ℕ) (p : Packet) (pick : ℕ → ℕ) (taken : ℕ)
       → t.inner ≡ intent.inner → binding_finish net intent position via next ≡ Some lowered → OnWay k t x hop p next
-      → next_of x ≡ None → lowered < hop → HandsBy k t position via p (next ∷ []) pick taken
+      → next_of x ≡ None → lowered < hop → HandsBy k t position via p (next ∷ []) [] pick taken
   finish-up x position via next lowered hop p pick taken family h on last high =
       let l = finish-parts net intent position via next lowered h in
       let r : Ride = l.way.ride in
@@ -147,7 +149,9 @@ module _ (net : Network) (keeps : Keeps net) (facts : FlatFacts net) (intent : I
           ap (λ o. hand_on net (w.count + 0) o pick taken) b.from
               ∙ hand-from net p b.deep b.goes (w.count + 0) pick taken _ (w.passes 0),
         );
-        meets = left-all (drop position intent.steps) w.trace (w.along ∙ ap Some (none-left behind.0 behind.2));
+        meets =
+            kept-from (matches (drop position intent.steps) w.trace)
+            (left-all (drop position intent.steps) w.trace (w.along ∙ ap Some (none-left behind.0 behind.2)));
         sids = refl;
         allowed = All-cons (λ (m : ℕ). k.barred m ≡ false) next [] refl (All-nil (λ (m : ℕ). k.barred m ≡ false));
         content = refl;

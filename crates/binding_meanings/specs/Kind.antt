@@ -12,6 +12,7 @@ use Rattle.intent_reader.specs.declared.intent.Intent.{Intent}
 use Rattle.leg_table.specs.Leg.{place_behind}
 use Rattle.leg_table.specs.OneLeg.{LegKind}
 use Rattle.leg_table.specs.Realizes.{headend_place}
+use Rattle.leg_table.specs.Value.{no_mark, strict_kept}
 use Rattle.leg_table.specs.Trace.{Handed}
 use Rattle.deep_stages.specs.Walks.{deep_walk}
 use Rattle.own_hands.specs.OwnHands.{handed_own}
@@ -54,6 +55,8 @@ binding_kind net intent =
       legs = binding_legs_value net intent;
       barred = λ n. false;
       hand = binding_hand net intent;
+      kept = strict_kept intent;
+      mark = no_mark;
     }
 
 -- the hop limit of the packet itself, below the header that may be in front of it

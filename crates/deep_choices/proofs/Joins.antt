@@ -16,7 +16,7 @@ use Rattle.walk_rules.specs.Treatment.{allow_of, lowered}
 use Rattle.walk_rules.specs.Walk.{far_end, arrival}
 use Rattle.intent_reader.specs.Rules.{node_after, stand_after}
 use Rattle.intent_reader.specs.declared.intent.Step.{Step}
-use Rattle.intent_reader.specs.declared.intent.Step.TheVariants.{Links, Function}
+use Rattle.intent_reader.specs.declared.intent.Step.TheVariants.{Links, Function, Reach}
 use Rattle.leg_table.proofs.Links.{far_end-is, link_ends, step_opens}
 use Rattle.deep_walks.specs.Moves.{is_in}
 use Rattle.deep_walks.specs.Deep.{LooksOn, IsJoined, AreJoined, Loses}
@@ -81,3 +81,6 @@ steps-joined net limit node (Links set ∷ ts) stands =
 steps-joined net limit node (Function sid ∷ ts) stands =
     let rest = rest-stands net (node_after net node (Function sid)) ts stands in
     (look-joined net (Function sid) (λ place k l mine yours. absurd (false≢true mine)) limit, steps-joined net limit rest.0 ts rest.1)
+steps-joined net limit node (Reach reached ∷ ts) stands =
+    let rest = rest-stands net (node_after net node (Reach reached)) ts stands in
+    (look-joined net (Reach reached) (λ place k l mine yours. absurd (false≢true mine)) limit, steps-joined net limit rest.0 ts rest.1)

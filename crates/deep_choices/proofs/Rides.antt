@@ -18,7 +18,7 @@ use Rattle.walk_rules.specs.Walk.{arrival}
 use Rattle.walk_rules.proofs.PublicLaws.{way-from}
 use Rattle.intent_reader.specs.Rules.{first_end, end_of_link}
 use Rattle.intent_reader.specs.declared.intent.Step.{Step}
-use Rattle.intent_reader.specs.declared.intent.Step.TheVariants.{Links, Function}
+use Rattle.intent_reader.specs.declared.intent.Step.TheVariants.{Links, Function, Reach}
 use Rattle.leg_table.specs.Ride.{Ride, one_if, more_lowered, all_in_step, ride_on, ride_over, ride_by, ride_end, with_hop_limit}
 use Rattle.leg_table.specs.Ride as rides
 use Rattle.leg_table.proofs.Links.{far_end-is}
@@ -45,6 +45,7 @@ lowered-is false p = sym (hop-same p)
 all-same : (t : Step) (first : ℕ) (rest : List ℕ) → all_in step_events t (first ∷ rest) ≡ all_in_step t (first ∷ rest)
 all-same (Links set) first rest = refl
 all-same (Function sid) first rest = refl
+all-same (Reach node) first rest = refl
 
 module _ (net : Network) (limit : ℕ) where
   abbrev End1 : Type 0

@@ -28,7 +28,7 @@ use Rattle.walk_rules.specs.Way.{Way, Away, Over, Own, Into, way_of, IsWayFrom}
 use Rattle.walk_rules.proofs.PublicLaws.{way-from, sid-how, exposed-how}
 use Rattle.intent_reader.specs.Rules.{end_of_link, node_after, function_node, stand_after}
 use Rattle.intent_reader.specs.declared.intent.Step.{Step}
-use Rattle.intent_reader.specs.declared.intent.Step.TheVariants.{Links, Function}
+use Rattle.intent_reader.specs.declared.intent.Step.TheVariants.{Links, Function, Reach}
 use Rattle.leg_table.specs.Trace.{Executed, executed, is_titled}
 use Rattle.leg_table.specs.Tasks.{has_link}
 use Rattle.leg_table.proofs.Links.{far_end-is, link_ends, step_opens}
@@ -130,6 +130,7 @@ module _ (net : Network) where
       → is_some (stand_after net node ts) ≡ true → ExecutedOn node ts us
   titled-on sid node [] us h stands = cc
   titled-on sid node (Links set ∷ ts) us h stands = cc
+  titled-on sid node (Reach reached ∷ ts) us h stands = cc
   titled-on sid node (Function n ∷ ts) us h stands =
       let a = then_parts (λ vs. left_by step_events vs []) (if n == sid then Some ts else None) us h in
       let same : ts ≡ us = same_Some _ _ (if_parts (n == sid) (Some ts) a.0 a.1).1 ∙ same_Some _ _ a.2 in
@@ -226,6 +227,7 @@ module _ (net : Network) where
         → StartsBehind net ts place.node e
     over-start k ih place above first rest p [] e is_head all is stands h = cc
     over-start k ih place above first rest p (Function sid ∷ ts) e is_head all is stands h = cc
+    over-start k ih place above first rest p (Reach reached ∷ ts) e is_head all is stands h = cc
     over-start k ih place above first rest p (Links set ∷ ts) e is_head all is stands h =
         let a = if_parts (all_in step_events (Links set) (first ∷ rest))
         (option_and_then (inside_end k ts) (arrives (leads net place) (inside_at p above) first)) e h in

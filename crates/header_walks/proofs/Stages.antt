@@ -18,7 +18,7 @@ use Rattle.walk_rules.specs.Walk.{arrival}
 use Rattle.walk_rules.specs.Way.{Over, Into}
 use Rattle.intent_reader.specs.Rules.{end_of_link, first_end}
 use Rattle.intent_reader.specs.declared.intent.Step.{Step}
-use Rattle.intent_reader.specs.declared.intent.Step.TheVariants.{Links, Function}
+use Rattle.intent_reader.specs.declared.intent.Step.TheVariants.{Links, Function, Reach}
 use Rattle.leg_table.specs.Ride.{all_in_step}
 use Rattle.leg_table.specs.Trace.{executed}
 use Rattle.leg_table.proofs.Links.{far_end-is}
@@ -38,6 +38,7 @@ end-none (Some e) = refl
 all-same : (t : Step) (first : ℕ) (rest : List ℕ) → all_in step_events t (first ∷ rest) ≡ all_in_step t (first ∷ rest)
 all-same (Links set) first rest = refl
 all-same (Function sid) first rest = refl
+all-same (Reach node) first rest = refl
 
 module _ (net : Network) (go : Walking) where
   -- ---- over links

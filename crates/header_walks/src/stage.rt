@@ -72,7 +72,7 @@ fn done_after(net: &Net, sid: u32, steps: &[Step], done: u32) -> Option<u32>
     }
     match steps.get(done as usize) {
         Some(Step::Function(n)) if *n == sid => Some(done + 1),
-        Some(Step::Function(_) | Step::Links(_)) | None => None,
+        Some(Step::Function(_) | Step::Links(_) | Step::Reach(_)) | None => None,
     }
 }
 
@@ -82,7 +82,7 @@ fn lie_in(links: &[u32], step: &Step) -> bool
 {
     match step {
         Step::Links(set) => are_among(links, set.as_slice()),
-        Step::Function(_) => false,
+        Step::Function(_) | Step::Reach(_) => false,
     }
 }
 

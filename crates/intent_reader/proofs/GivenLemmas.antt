@@ -32,6 +32,11 @@ pub tested : {F X : Type 0} (fact : X → Type 0) (b : Bool) (x : X) (fault : F)
 tested fact true x fault f = of_value fact x (f refl)
 tested fact false x fault f = of_fault fact fault
 
+pub tested_on : {F X : Type 0} (fact : X → Type 0) (b : Bool) (r : Result X F) (fault : F) → (b ≡ true → Holds fact r)
+    → Holds fact (cond b r (Err fault))
+tested_on fact true r fault f = f refl
+tested_on fact false r fault f = of_fault fact fault
+
 pub found : {F X : Type 0} (fault : F) (o : Option X) (x : X) → or_fault fault o ≡ Ok x → o ≡ Some x
 found {F = F} fault None x h = absurd (let no : ◌≡◌ {A = Result _ F} (Err fault) (Ok x) = h in cc)
 found fault (Some y) x h = ap Some (same_Ok y x h)

@@ -16,10 +16,10 @@ use Rattle.intent_reader.specs.declared.intent.Step.{Step}
 use Rattle.intent_reader.specs.declared.intent.Intent.{Intent}
 use Rattle.intent_reader.specs.declared.fault.IntentFault.TheVariants as faults
 use Rattle.intent_reader.specs.declared.fault.StepFault.TheVariants as kinds
-use Rattle.intent_reader.specs.Rules.{node_after, stand_after, ends_in_function, is_intent, IsIntent}
+use Rattle.intent_reader.specs.Rules.{node_after, stand_after, ends_in_function, is_within_loose_limit, is_intent, IsIntent}
 use Rattle.intent_reader.specs.Described.{InRange}
 use Rattle.intent_reader.specs.Judging.{step_named, astray, steps_from, intent_with, judged}
-use Rattle.intent_reader.proofs.GivenLemmas.{Holds, of_value, after, tested, found}
+use Rattle.intent_reader.proofs.GivenLemmas.{Holds, of_value, after, tested, tested_on, found}
 
 -- the walk over the steps from a node stands somewhere, and they are as many as were described
 record Walks (net : Network) (node : ℕ) (ds : List DescribedStep) (steps : List Step) : Type 0 where
@@ -44,15 +44,15 @@ both : (a b : Bool) → a ≡ true → b ≡ true → (a && b) ≡ true
 both a b e f = rw (e, f) refl
 
 keeps_all : (net : Network) (d : DescribedIntent) (headend : ℕ) (steps : List Step) → InRange d → headend < length net.nodes
-    → Walks net headend d.steps steps → ends_in_function steps ≡ true → IsIntent net (intent_with d headend steps)
+    → Walks net headend d.steps steps → ends_in_function steps ≡ true → is_within_loose_limit net steps ≡ true → IsIntent net (intent_with d headend steps)
 unfolding is_intent
-keeps_all net d headend steps range within walk last =
+keeps_all net d headend steps range within walk last few =
     let some : 1 ≤ length steps = omega (arith, range.some_steps, walk.count) in
     let most : length steps ≤ MAX_STEPS = omega (arith, range.most_steps, walk.count) in
     let label : d.flow_label < 2 ^ 20 = omega (arith, range.flow_label) in
     both _ _ (lt-ltb _ _ within) (both _ _ (le-leb _ _ range.hop_limit) (both _ _ (le-leb _ _ range.some_containers)
     (both _ _ (le-leb _ _ range.most_containers) (both _ _ (lt-ltb _ _ label) (both _ _ (le-leb _ _ some)
-    (both _ _ (le-leb _ _ most) (both _ _ walk.stands last)))))))
+    (both _ _ (le-leb _ _ most) (both _ _ walk.stands (both _ _ last few))))))))
 
 node_within : (net : Network) (name : List ℕ) (node : ℕ) → node_numbered name net.nodes ≡ Some node → node < length net.nodes
 node_within net name node h =
@@ -63,10 +63,11 @@ judged_holds : (net : Network) (d : DescribedIntent) → InRange d → Holds (Is
 judged_holds net d range =
     after (IsIntent net) (or_fault (faults.AtStep 0 kinds.UnknownName) (node_numbered d.headend net.nodes)) _ (λ headend e.
     after (IsIntent net) (steps_from net 1 headend d.steps) _ (λ steps f.
-    tested (IsIntent net) (ends_in_function steps) _ _ (λ last.
+    tested_on (IsIntent net) (ends_in_function steps) _ _ (λ last.
+    tested (IsIntent net) (is_within_loose_limit net steps) _ _ (λ few.
     keeps_all net d headend steps range
     (node_within net d.headend headend (found (faults.AtStep 0 kinds.UnknownName) (node_numbered d.headend net.nodes) headend e))
-    ((steps_walk net 1 headend d.steps).given steps f) last)))
+    ((steps_walk net 1 headend d.steps).given steps f) last few))))
 
 pub judged_keeps : (net : Network) (d : DescribedIntent) (i : Intent) → InRange d → judged net d ≡ Ok i → IsIntent net i
 judged_keeps net d i range h = (judged_holds net d range).given i h

@@ -1,5 +1,5 @@
 -- The facts of an intent that keeps the rules in its network.
-use Rattle.std.proofs.Common.{◌≡◌, ℕ, ◌-◌, ◌<◌, ◌≤◌, true, List, [], ◌∷◌, length, Option, Some, None, refl, sym, subst, arith}
+use Rattle.std.proofs.Common.{◌≡◌, ℕ, ◌-◌, ◌<◌, ◌≤◌, Bool, true, false, not, ◌||◌, List, [], ◌∷◌, length, Option, Some, None, refl, sym, subst, arith}
 use Rattle.std.specs.List.{Contains}
 use Rattle.std.specs.Option.{is_some}
 use Rattle.std.proofs.lemmas.Bool.{and_parts, leb-true, ltb-true}
@@ -7,15 +7,19 @@ use Rattle.std.proofs.lemmas.Option.{same_Some}
 use Rattle.net_model.specs.Network.{Network}
 use Rattle.net_model.specs.Keeps.{Keeps, EndsElsewhere}
 use Rattle.intent_reader.specs.declared.intent.Step.{Step}
-use Rattle.intent_reader.specs.declared.intent.Step.TheVariants.{Links, Function}
+use Rattle.intent_reader.specs.declared.intent.Step.TheVariants.{Links, Function, Reach}
 use Rattle.intent_reader.specs.declared.intent.Intent.{Intent}
-use Rattle.intent_reader.specs.Rules.{IsIntent, is_intent, node_after, stand_after}
+use Rattle.intent_reader.specs.Rules.{IsIntent, is_intent, has_reach, node_after, stand_after}
 use Rattle.intent_reader.specs.Keeps.{Leads, Steps, KeepsIntent}
 use Rattle.intent_reader.proofs.WalkLemmas.{last_is_function, step_means, then_some, stands_before, is_taken}
 
 there : {X : Type 0} (o : Option X) → is_some o ≡ true → (x : X) × (o ≡ Some x)
 there None h = cc
 there (Some x) h = (x, refl)
+
+other_of : (b c : Bool) → b ≡ true → (not b || c) ≡ true → c ≡ true
+other_of true c e h = h
+other_of false c e h = absurd (cc)
 
 pub keeps_from_intent : (net : Network) (i : Intent) → IsIntent net i → KeepsIntent net i
 unfolding is_intent
@@ -28,6 +32,7 @@ keeps_from_intent net i h =
     let at_first = and_parts _ _ at_label.1 in
     let at_count = and_parts _ _ at_first.1 in
     let at_walk = and_parts _ _ at_count.1 in
+    let at_last = and_parts _ _ at_walk.1 in
     let walk = there (stand_after net i.headend i.steps) at_walk.0 in
     let some_steps : 1 ≤ length i.steps = leb-true _ _ at_first.0 in
     record {
@@ -41,7 +46,8 @@ keeps_from_intent net i h =
       walk = walk;
       front = λ k. stands_before net i.headend i.steps walk.0 k walk.1;
       step = λ k s e. is_taken net i.headend i.steps walk.0 k s walk.1 e;
-      last = last_is_function i.steps (length i.steps - 1) (omega arith) at_walk.1;
+      loose = λ reaches. leb-true _ _ (other_of (has_reach i.steps) _ reaches at_last.1);
+      last = last_is_function i.steps (length i.steps - 1) (omega arith) at_last.0;
     }
 
 first_of : (set : List ℕ) → 0 < length set → (n : ℕ) × Contains set n
@@ -62,6 +68,7 @@ step_within net node (Links set) next keeps within step =
     let first = first_of set step.0.some in
     lead_within net node next first.0 keeps (step.1 first.0 first.1)
 step_within net node (Function sid) next keeps within step = subst (λ n. n < length net.nodes) (sym step.5) within
+step_within net node (Reach reached) next keeps within step = subst (λ n. n < length net.nodes) (sym step.2) step.0
 
 pub stays_within : (net : Network) (node : ℕ) (steps : List Step) (end : ℕ) → Keeps net → node < length net.nodes
     → stand_after net node steps ≡ Some end → end < length net.nodes

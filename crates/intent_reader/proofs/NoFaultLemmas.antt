@@ -13,17 +13,17 @@ use Rattle.net_words.specs.declared.step.DescribedStep.{DescribedStep}
 use Rattle.net_words.specs.declared.step.DescribedStep.TheVariants as described
 use Rattle.net_words.specs.declared.intent.DescribedIntent.{DescribedIntent}
 use Rattle.intent_reader.specs.declared.intent.Step.{Step}
-use Rattle.intent_reader.specs.declared.intent.Step.TheVariants.{Links, Function}
+use Rattle.intent_reader.specs.declared.intent.Step.TheVariants.{Links, Function, Reach}
 use Rattle.intent_reader.specs.declared.intent.Intent.{Intent}
 use Rattle.intent_reader.specs.declared.fault.IntentFault.TheVariants as faults
 use Rattle.intent_reader.specs.declared.fault.StepFault.TheVariants as kinds
 use Rattle.intent_reader.specs.Functions.{function_numbered}
 use Rattle.intent_reader.specs.Reading.{each_of}
-use Rattle.intent_reader.specs.Rules.{far_node, first_end, node_after, stand_after, ends_in_function, is_intent, IsIntent}
+use Rattle.intent_reader.specs.Rules.{far_node, first_end, node_after, stand_after, ends_in_function, is_within_loose_limit, is_intent, IsIntent}
 use Rattle.intent_reader.specs.Described.{InRange, all_some, step_by_names, intent_by_names}
 use Rattle.intent_reader.specs.Judging.{link_at, step_named, astray, steps_from, intent_with, judged}
 use Rattle.intent_reader.proofs.WalkLemmas.{then_some}
-use Rattle.intent_reader.proofs.GivenLemmas.{Holds, of_value, after, tested, found}
+use Rattle.intent_reader.proofs.GivenLemmas.{Holds, of_value, after, tested, tested_on, found}
 use Rattle.intent_reader.proofs.JudgingLemmas.{judged_keeps}
 
 -- ---- what is given is over the names' numbers
@@ -47,6 +47,10 @@ step_by net k (described.Function title) =
     let fact = λ (s : Step). step_by_names net (described.Function title) ≡ Some s in
     after fact (or_fault (faults.AtStep k kinds.NoFunction) (function_numbered title net)) _ (λ sid e.
     of_value fact (Function sid) (rw (found (faults.AtStep k kinds.NoFunction) (function_numbered title net) sid e) refl))
+step_by net k (described.Reach name) =
+    let fact = λ (s : Step). step_by_names net (described.Reach name) ≡ Some s in
+    after fact (or_fault (faults.AtStep k kinds.UnknownName) (node_numbered name net.nodes)) _ (λ node e.
+    of_value fact (Reach node) (rw (found (faults.AtStep k kinds.UnknownName) (node_numbered name net.nodes) node e) refl))
 
 steps_by : (net : Network) (k node : ℕ) (ds : List DescribedStep)
     → Holds (λ steps. all_some (step_by_names net) ds ≡ Some steps) (steps_from net k node ds)
@@ -63,8 +67,9 @@ judged_by net d =
     let fact = λ (i : Intent). intent_by_names net d ≡ Some i in
     after fact (or_fault (faults.AtStep 0 kinds.UnknownName) (node_numbered d.headend net.nodes)) _ (λ headend e.
     after fact (steps_from net 1 headend d.steps) _ (λ steps f.
-    tested fact (ends_in_function steps) (intent_with d headend steps) faults.NotFunctionLast (λ last.
-    rw (found (faults.AtStep 0 kinds.UnknownName) (node_numbered d.headend net.nodes) headend e, (steps_by net 1 headend d.steps).given steps f) refl)))
+    tested_on fact (ends_in_function steps) _ faults.NotFunctionLast (λ last.
+    tested fact (is_within_loose_limit net steps) (intent_with d headend steps) faults.LooseLimit (λ few.
+    rw (found (faults.AtStep 0 kinds.UnknownName) (node_numbered d.headend net.nodes) headend e, (steps_by net 1 headend d.steps).given steps f) refl))))
 
 -- ---- what keeps the rules is given
 
@@ -97,6 +102,9 @@ step_back net k node (described.Links names) s next h leads =
 step_back net k node (described.Function title) s next h leads =
     let over = mapped Function (function_numbered title net) s h in
     rw over.1 (ap Ok over.2)
+step_back net k node (described.Reach name) s next h leads =
+    let over = mapped Reach (node_numbered name net.nodes) s h in
+    rw over.1 (ap Ok over.2)
 
 stands_then : {X Y : Type 0} (f : X → Option Y) (o : Option X) → is_some (option_and_then f o) ≡ true
     → (x : X) × (o ≡ Some x) × (is_some (f x) ≡ true)
@@ -116,7 +124,7 @@ steps_back net k node (d ∷ ds) steps h stands =
     rw (step_back net k node d first.0 led.0 first.1 led.1, led.1, steps_back net (suc k) led.0 ds rest.0 rest.1 led.2) (ap Ok rest.2)
 
 walk_of : (net : Network) (i : Intent) → IsIntent net i
-    → (is_some (stand_after net i.headend i.steps) ≡ true) × (ends_in_function i.steps ≡ true)
+    → (is_some (stand_after net i.headend i.steps) ≡ true) × (ends_in_function i.steps ≡ true) × (is_within_loose_limit net i.steps ≡ true)
 unfolding is_intent
 walk_of net i h =
     let at_hops = (and_parts (nat_lt i.headend (length net.nodes)) _ h).1 in
@@ -126,7 +134,9 @@ walk_of net i h =
     let at_first = (and_parts (nat_lt i.flow_label (2 ^ 20)) _ at_label).1 in
     let at_count = (and_parts (nat_le 1 (length i.steps)) _ at_first).1 in
     let at_walk = (and_parts (nat_le (length i.steps) MAX_STEPS) _ at_count).1 in
-    and_parts _ _ at_walk
+    let walk = and_parts (is_some (stand_after net i.headend i.steps)) _ at_walk in
+    let last = and_parts (ends_in_function i.steps) _ walk.1 in
+    (walk.0, last.0, last.1)
 
 judged_back : (net : Network) (d : DescribedIntent) (i : Intent) → intent_by_names net d ≡ Some i → IsIntent net i → judged net d ≡ Ok i
 judged_back net d i h is =
@@ -134,7 +144,7 @@ judged_back net d i h is =
     let first = then_some (λ headend. option_map (intent_with d headend) all) (node_numbered d.headend net.nodes) i h in
     let rest = mapped (intent_with d first.0) all i first.2 in
     let walk = walk_of net (intent_with d first.0 rest.0) (subst (λ j. is_intent net j ≡ true) (sym rest.2) is) in
-    rw (first.1, steps_back net 1 first.0 d.steps rest.0 rest.1 walk.0, walk.1) (ap Ok rest.2)
+    rw (first.1, steps_back net 1 first.0 d.steps rest.0 rest.1 walk.0, walk.1, walk.2) (ap Ok rest.2)
 
 pub no_fault_is_keeping : (net : Network) (d : DescribedIntent) (i : Intent) → InRange d
     → (judged net d ≡ Ok i) ↔ ((intent_by_names net d ≡ Some i) × IsIntent net i)

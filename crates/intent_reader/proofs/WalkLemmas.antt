@@ -2,7 +2,7 @@
 use Rattle.std.proofs.Common.{◌≡◌, ℕ, zero, suc, ◌+◌, true, List, [], ◌∷◌, length, get_or, take, Option, Some, None, refl, sym, ap, subst, add-one, arith}
 use Rattle.std.specs.List.{slice_get, list_all}
 use Rattle.std.specs.Option.{option_and_then, is_some}
-use Rattle.std.proofs.lemmas.Bool.{and_parts, eqb-true}
+use Rattle.std.proofs.lemmas.Bool.{and_parts, eqb-true, eqb-false, ltb-true, not-true}
 use Rattle.std.proofs.lemmas.Option.{same_Some, cond_some}
 use Rattle.std.proofs.lemmas.List.Sums.{AllPass-from_list_all}
 use Rattle.std.proofs.lemmas.List.Elements.{All-contains}
@@ -12,8 +12,8 @@ use Rattle.net_model.specs.Network.{Network}
 use Rattle.net_model.specs.Keeps.{IsLinkSet}
 use Rattle.net_model.proofs.PublicLaws.{link_set_from}
 use Rattle.intent_reader.specs.declared.intent.Step.{Step}
-use Rattle.intent_reader.specs.declared.intent.Step.TheVariants.{Links, Function}
-use Rattle.intent_reader.specs.Rules.{end_of_link, is_at, ends_at, far_node, first_end, function_node, node_after, stand_after, is_function, ends_in_function}
+use Rattle.intent_reader.specs.declared.intent.Step.TheVariants.{Links, Function, Reach}
+use Rattle.intent_reader.specs.Rules.{end_of_link, is_at, ends_at, far_node, first_end, function_node, reached_node, node_after, stand_after, is_function, ends_in_function}
 use Rattle.intent_reader.specs.Keeps.{Leads, Steps, Stands, IsTaken}
 
 -- the last step
@@ -28,6 +28,7 @@ is_last (t ∷ u ∷ steps) (suc i) s h e = is_last (u ∷ steps) i s (omega ari
 a_function : (s : Step) → is_function s ≡ true → (sid : ℕ) × (s ≡ Function sid)
 a_function (Links set) h = cc
 a_function (Function sid) h = (sid, refl)
+a_function (Reach reached) h = cc
 
 pub last_is_function : (steps : List Step) (i : ℕ) → i + 1 ≡ length steps → ends_in_function steps ≡ true
     → (sid : ℕ) × (slice_get steps i ≡ Some (Function sid))
@@ -75,9 +76,16 @@ function_means node (Some s) next h =
     let titled = title_from s.title parts.1 in
     (s, titled.0, refl, eqb-true _ _ parts.0, titled.1, sym kept.1)
 
+reach_means : (net : Network) (node reached next : ℕ) → reached_node net node reached ≡ Some next → Steps net node (Reach reached) next
+reach_means net node reached next h =
+    let kept = cond_some _ reached next h in
+    let parts = and_parts _ _ kept.0 in
+    (ltb-true _ _ parts.0, eqb-false _ _ (not-true _ parts.1), sym kept.1)
+
 pub step_means : (net : Network) (node : ℕ) (s : Step) (next : ℕ) → node_after net node s ≡ Some next → Steps net node s next
 step_means net node (Links set) next h = links_mean net node set (first_end net set) next h
 step_means net node (Function sid) next h = function_means node (slice_get net.sids sid) next h
+step_means net node (Reach reached) next h = reach_means net node reached next h
 
 -- where the walk stands
 

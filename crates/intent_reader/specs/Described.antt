@@ -9,7 +9,7 @@ use Rattle.net_words.specs.declared.step.DescribedStep.{DescribedStep}
 use Rattle.net_words.specs.declared.step.DescribedStep.TheVariants as described
 use Rattle.net_words.specs.declared.intent.DescribedIntent.{DescribedIntent}
 use Rattle.intent_reader.specs.declared.intent.Step.{Step}
-use Rattle.intent_reader.specs.declared.intent.Step.TheVariants.{Links, Function}
+use Rattle.intent_reader.specs.declared.intent.Step.TheVariants.{Links, Function, Reach}
 use Rattle.intent_reader.specs.declared.intent.Intent.{Intent}
 use Rattle.intent_reader.specs.Functions.{function_numbered}
 use Rattle.intent_reader.specs.Judging.{intent_with}
@@ -32,6 +32,7 @@ all_some give (x ∷ xs) = option_and_then (λ y. option_map (λ ys. y ∷ ys) (
 abbrev pub step_by_names : Network → DescribedStep → Option Step
 step_by_names net (described.Links names) = option_map Links (all_some (λ name. link_numbered name net.links) names)
 step_by_names net (described.Function title) = option_map Function (function_numbered title net)
+step_by_names net (described.Reach name) = option_map Reach (node_numbered name net.nodes)
 
 -- the intent over the numbers of its names, if each is known
 abbrev pub intent_by_names : Network → DescribedIntent → Option Intent

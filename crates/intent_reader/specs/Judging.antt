@@ -1,6 +1,7 @@
 -- The intent in a network that a description gives, or its first fault (own rules): first the headend, then the steps in their
--- order, each from the node where the one before it ended, and last whether the last step is a function.
-use Rattle.std.specs.Prelude.{ℕ, suc, Bool, true, false, List, [], ◌∷◌, Result, Ok}
+-- order, each from the node where the one before it ended, then whether the last step is a function, and last whether the network has few
+-- SIDs where a step is to reach a node.
+use Rattle.std.specs.Prelude.{ℕ, suc, Bool, true, false, if◌then◌else◌, List, [], ◌∷◌, Result, Ok, Err}
 use Rattle.net_model.specs.Network.{Network}
 use Rattle.net_model.specs.Named.{node_numbered, link_numbered}
 use Rattle.net_model.specs.Rules.{are_distinct, same_number}
@@ -12,14 +13,14 @@ use Rattle.net_words.specs.declared.step.DescribedStep.TheVariants as described
 use Rattle.net_words.specs.declared.intent.DescribedIntent.{DescribedIntent}
 use Rattle.net_words.specs.Intent.{intent_in}
 use Rattle.intent_reader.specs.declared.intent.Step.{Step}
-use Rattle.intent_reader.specs.declared.intent.Step.TheVariants.{Links, Function}
+use Rattle.intent_reader.specs.declared.intent.Step.TheVariants.{Links, Function, Reach}
 use Rattle.intent_reader.specs.declared.intent.Intent.{Intent}
 use Rattle.intent_reader.specs.declared.fault.IntentFault.{IntentFault}
 use Rattle.intent_reader.specs.declared.fault.IntentFault.TheVariants as faults
 use Rattle.intent_reader.specs.declared.fault.StepFault.TheVariants as kinds
 use Rattle.intent_reader.specs.Functions.{function_numbered}
 use Rattle.intent_reader.specs.Reading.{checked, each_of, of_text}
-use Rattle.intent_reader.specs.Rules.{node_after, ends_in_function}
+use Rattle.intent_reader.specs.Rules.{node_after, ends_in_function, is_within_loose_limit}
 
 -- ---- steps; they are counted from 1, and k is a step's number
 
@@ -27,7 +28,7 @@ use Rattle.intent_reader.specs.Rules.{node_after, ends_in_function}
 abbrev pub link_at : Network → ℕ → List ℕ → Result ℕ IntentFault
 link_at net k name = or_fault (faults.AtStep k kinds.UnknownName) (link_numbered name net.links)
 
--- step k by its names: its links, each once, or the SID with its title
+-- step k by its names: its links, each once, the SID with its title, or the node that is to be reached
 abbrev pub step_named : Network → ℕ → DescribedStep → Result Step IntentFault
 step_named net k (described.Links names) = do
   set ← each_of (link_at net k) names
@@ -35,12 +36,16 @@ step_named net k (described.Links names) = do
 step_named net k (described.Function title) = do
   sid ← or_fault (faults.AtStep k kinds.NoFunction) (function_numbered title net)
   Ok (Function sid)
+step_named net k (described.Reach name) = do
+  node ← or_fault (faults.AtStep k kinds.UnknownName) (node_numbered name net.nodes)
+  Ok (Reach node)
 
--- step k doesn't lead on from the node where it stands: its links don't start there, end apart or leave the network, or its
--- SID isn't there
+-- step k doesn't lead on from the node where it stands: its links don't start there, end apart or leave the network, its SID isn't
+-- there, or it stands at the node that is to be reached
 abbrev pub astray : ℕ → Step → IntentFault
 astray k (Links set) = faults.AtStep k kinds.Broken
 astray k (Function sid) = faults.AtStep k kinds.NoFunction
+astray k (Reach reached) = faults.AtStep k kinds.Broken
 
 -- steps, the first of which has number k and stands at the node; each later one stands where the one before it ended
 abbrev pub steps_from : Network → ℕ → ℕ → List DescribedStep → Result (List Step) IntentFault
@@ -72,12 +77,17 @@ intent_with d headend steps = record {
   steps = steps;
 }
 
+-- the last step is a function, and a step is to reach a node only where the network has few SIDs
+abbrev pub judged_last : Network → Intent → Result Intent IntentFault
+judged_last net i =
+    if ends_in_function i.steps then checked faults.LooseLimit (is_within_loose_limit net i.steps) i else Err faults.NotFunctionLast
+
 -- the headend counts as step 0
 abbrev pub judged : Network → DescribedIntent → Result Intent IntentFault
 judged net d = do
   headend ← or_fault (faults.AtStep 0 kinds.UnknownName) (node_numbered d.headend net.nodes)
   steps ← steps_from net 1 headend d.steps
-  checked faults.NotFunctionLast (ends_in_function steps) (intent_with d headend steps)
+  judged_last net (intent_with d headend steps)
 
 -- the intent that a text gives in a network: first what the text says
 abbrev pub intent_of_text : Network → List ℕ → Result Intent IntentFault

@@ -1,24 +1,26 @@
 -- What holds of an intent that keeps the rules in its network, fact by fact.
-use Rattle.std.specs.Prelude.{◌≡◌, ℕ, ◌+◌, ◌-◌, ◌^◌, ◌<◌, ◌≤◌, List, length, slice_get, Some, take, Contains}
+use Rattle.std.specs.Prelude.{◌≡◌, ◌≢◌, ℕ, ◌+◌, ◌-◌, ◌^◌, ◌<◌, ◌≤◌, List, length, slice_get, Some, take, Contains, IsTrue}
 use Rattle.srv6_rules.specs.declared.sid.SidEntry.{SidEntry}
 use Rattle.net_model.specs.declared.parts.Link.{Link}
 use Rattle.net_model.specs.Network.{Network}
 use Rattle.net_model.specs.Keeps.{IsLinkSet}
-use Rattle.net_words.specs.declared.limits.TheConstants.{MAX_STEPS, MAX_CONTAINERS}
+use Rattle.net_words.specs.declared.limits.TheConstants.{MAX_STEPS, MAX_CONTAINERS, MAX_LOOSE_SIDS}
 use Rattle.intent_reader.specs.declared.intent.Step.{Step}
-use Rattle.intent_reader.specs.declared.intent.Step.TheVariants.{Links, Function}
+use Rattle.intent_reader.specs.declared.intent.Step.TheVariants.{Links, Function, Reach}
 use Rattle.intent_reader.specs.declared.intent.Intent.{Intent}
-use Rattle.intent_reader.specs.Rules.{node_after, stand_after}
+use Rattle.intent_reader.specs.Rules.{node_after, stand_after, has_reach}
 
 -- the link is there, and leads from the one node to the other
 abbrev pub Leads : Network → ℕ → ℕ → ℕ → Type 0
 Leads net from to link = (l : Link) × (slice_get net.links link ≡ Some l) × (l.from ≡ from) × (l.to ≡ Some to)
 
--- a step from a node to a node: links all of which lead from the one to the other, or a function at the node
+-- a step from a node to a node: links all of which lead from the one to the other, a function at the node, or that another node is
+-- reached
 abbrev pub Steps : Network → ℕ → Step → ℕ → Type 0
 Steps net node (Links set) next = IsLinkSet net.links node set × ((link : ℕ) → Contains set link → Leads net node next link)
 Steps net node (Function sid) next =
     (s : SidEntry) × (title : ℕ) × (slice_get net.sids sid ≡ Some s) × (s.node ≡ node) × (s.title ≡ Some title) × (next ≡ node)
+Steps net node (Reach reached) next = (reached < length net.nodes) × (node ≢ reached) × (next ≡ reached)
 
 -- the walk over the steps stands somewhere after them
 abbrev pub Stands : Network → ℕ → List Step → Type 0
@@ -44,4 +46,5 @@ pub record KeepsIntent (net : Network) (i : Intent) : Type 0 where
   pub walk : Stands net i.headend i.steps
   pub front : (k : ℕ) → Stands net i.headend (take k i.steps)
   pub step : (k : ℕ) (s : Step) → slice_get i.steps k ≡ Some s → IsTaken net i.headend i.steps k s
+  pub loose : IsTrue (has_reach i.steps) → length net.sids ≤ MAX_LOOSE_SIDS
   pub last : (sid : ℕ) × (slice_get i.steps (length i.steps - 1) ≡ Some (Function sid))

@@ -1,14 +1,14 @@
 -- The rules that an intent keeps in its network (own rules).
-use Rattle.std.specs.Prelude.{ℕ, ◌^◌, Bool, true, false, ◌==◌, ◌&&◌, nat_lt, nat_le, if◌then◌else◌, List, [], ◌∷◌, length, slice_get, Option, Some, None, is_some, IsTrue}
-use Rattle.std.specs.List.{list_all}
+use Rattle.std.specs.Prelude.{ℕ, ◌^◌, Bool, true, false, ◌==◌, ◌&&◌, ◌||◌, not, nat_lt, nat_le, if◌then◌else◌, List, [], ◌∷◌, length, slice_get, Option, Some, None, is_some, IsTrue}
+use Rattle.std.specs.List.{list_all, list_any}
 use Rattle.std.specs.Option.{option_and_then}
 use Rattle.srv6_rules.specs.declared.sid.SidEntry.{SidEntry}
 use Rattle.net_model.specs.declared.parts.Link.{Link}
 use Rattle.net_model.specs.Network.{Network}
 use Rattle.net_model.specs.Rules.{is_link_set}
-use Rattle.net_words.specs.declared.limits.TheConstants.{MAX_STEPS, MAX_CONTAINERS}
+use Rattle.net_words.specs.declared.limits.TheConstants.{MAX_STEPS, MAX_CONTAINERS, MAX_LOOSE_SIDS}
 use Rattle.intent_reader.specs.declared.intent.Step.{Step}
-use Rattle.intent_reader.specs.declared.intent.Step.TheVariants.{Links, Function}
+use Rattle.intent_reader.specs.declared.intent.Step.TheVariants.{Links, Function, Reach}
 use Rattle.intent_reader.specs.declared.intent.Intent.{Intent}
 
 -- the node where a link ends, if it is there and ends in the network
@@ -38,10 +38,15 @@ abbrev pub function_node : ℕ → Option SidEntry → Option ℕ
 function_node node None = None
 function_node node (Some s) = if (s.node == node) && is_some s.title then Some node else None
 
--- where the walk stands after a step from a node: at the end of the step's links, or where it stood
+-- a node of the network other than this one
+abbrev pub reached_node : Network → ℕ → ℕ → Option ℕ
+reached_node net node reached = if nat_lt reached (length net.nodes) && not (node == reached) then Some reached else None
+
+-- where the walk stands after a step from a node: at the end of the step's links, where it stood, or at the node that it reaches
 abbrev pub node_after : Network → ℕ → Step → Option ℕ
 node_after net node (Links set) = far_node net node set (first_end net set)
 node_after net node (Function sid) = function_node node (slice_get net.sids sid)
+node_after net node (Reach reached) = reached_node net node reached
 
 -- where the walk stands after steps from a node, if each starts where the one before it ended
 abbrev pub stand_after : Network → ℕ → List Step → Option ℕ
@@ -51,18 +56,32 @@ stand_after net node (s ∷ ss) = option_and_then (λ next. stand_after net next
 abbrev pub is_function : Step → Bool
 is_function (Links set) = false
 is_function (Function sid) = true
+is_function (Reach reached) = false
 
 abbrev pub ends_in_function : List Step → Bool
 ends_in_function [] = false
 ends_in_function (s ∷ []) = is_function s
 ends_in_function (s ∷ t ∷ ss) = ends_in_function (t ∷ ss)
 
+abbrev pub is_reach : Step → Bool
+is_reach (Links set) = false
+is_reach (Function sid) = false
+is_reach (Reach reached) = true
+
+-- some step is to reach a node
+abbrev pub has_reach : List Step → Bool
+has_reach steps = list_any is_reach steps
+
+-- a step is to reach a node only where the network has few SIDs
+abbrev pub is_within_loose_limit : Network → List Step → Bool
+is_within_loose_limit net steps = not (has_reach steps) || nat_le (length net.sids) MAX_LOOSE_SIDS
+
 -- the intent keeps all rules in the network
 unfoldable pub is_intent : Network → Intent → Bool
 is_intent net i =
     nat_lt i.headend (length net.nodes) && (nat_le 1 i.hop_limit && (nat_le 1 i.max_containers && (nat_le i.max_containers MAX_CONTAINERS
     && (nat_lt i.flow_label (2 ^ 20) && (nat_le 1 (length i.steps) && (nat_le (length i.steps) MAX_STEPS
-    && (is_some (stand_after net i.headend i.steps) && ends_in_function i.steps)))))))
+    && (is_some (stand_after net i.headend i.steps) && (ends_in_function i.steps && is_within_loose_limit net i.steps))))))))
 
 abbrev pub IsIntent : Network → Intent → Type 0
 IsIntent net i = IsTrue (is_intent net i)

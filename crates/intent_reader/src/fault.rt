@@ -3,6 +3,7 @@
 ghost use Rattle.std.specs.Prelude.{◌≡◌, Some};
 ghost use Rattle.intent_reader.specs.Faults.{step_fault_number, step_fault_name, intent_fault_number, intent_fault_text};
 
+use net_words::MAX_LOOSE_SIDS;
 use std::fmt;
 use std::fmt::{Display, Formatter};
 use text_faults::{OrNoMemory, TextFault};
@@ -10,9 +11,11 @@ use text_faults::{OrNoMemory, TextFault};
 /// What is wrong with a step (own rules).
 #[derive(Clone, Copy, Debug, PartialEq, Eq)]
 pub enum StepFault {
-    /// No node has the headend's name, or no link has a name of the step.
+    /// No node has the name of the headend or of the node to be reached, or no link has a name of
+    /// the step.
     UnknownName,
-    /// Its links do not start where the step stands, end apart, or leave the network.
+    /// Its links do not start where the step stands, end apart, or leave the network; or the step
+    /// stands already at the node to be reached.
     Broken,
     /// No SID has its title, or the SID is not at the node where the step stands.
     NoFunction,
@@ -34,6 +37,8 @@ pub enum IntentFault {
     },
     /// The last step is no function.
     NotFunctionLast,
+    /// A step is to reach a node, and the network has more than 128 SIDs.
+    LooseLimit,
 }
 
 impl StepFault {
@@ -79,11 +84,12 @@ impl IntentFault {
             IntentFault::Text(_) => 33,
             IntentFault::AtStep { kind, .. } => kind.number(),
             IntentFault::NotFunctionLast => 37,
+            IntentFault::LooseLimit => 46,
         }
     }
 }
 
-/// The fault's name, and the text's fault or the step.
+/// The fault's name, and the text's fault, the step, or the limit.
 impl Display for IntentFault {
     ghost output = { λ fault. Some (intent_fault_text fault) };
 
@@ -96,6 +102,7 @@ impl Display for IntentFault {
                 write!(f, "{name} {step}")
             }
             IntentFault::NotFunctionLast => write!(f, "NotFunctionLast"),
+            IntentFault::LooseLimit => write!(f, "LooseLimit {MAX_LOOSE_SIDS}"),
         }
     }
 }

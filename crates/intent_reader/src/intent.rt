@@ -11,6 +11,9 @@ pub enum Step {
     Links(LinkSet),
     /// The SID with this number, which has a title, is executed.
     Function(u32),
+    /// Any links are crossed, up to the first arrival at the node with this number; the walk doesn't
+    /// stand there before.
+    Reach(u32),
 }
 
 /// The steps of an intent, in order (own rule).

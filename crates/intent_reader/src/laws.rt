@@ -19,8 +19,8 @@ pub fn no_fault_is_keeping_the_rules()
 {}
 
 /// An intent that keeps the rules in a network has its headend there, its numbers in their ranges,
-/// and 1 to 48 steps; the walk stands at a node before and after each of them, and the last is a
-/// function (own rules).
+/// and 1 to 48 steps; the walk stands at a node before and after each of them, the last is a
+/// function, and where a step is to reach a node the network has at most 128 SIDs (own rules).
 pub fn intents_have_walks()
     ensures { (net : Network) (i : Intent) → IsIntent net i → KeepsIntent net i }
 {}

@@ -21,4 +21,4 @@ pub use laws::{
     intents_have_walks, no_fault_is_keeping_the_rules, steps_lead_on, walks_stay_at_nodes,
 };
 pub use read::read_intent;
-pub use rules::is_intent;
+pub use rules::{has_reach, is_intent};

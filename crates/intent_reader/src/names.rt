@@ -20,13 +20,13 @@ use srv6_rules::{LinkSet, SidEntry};
 use std::alloc::Global;
 use text_faults::OrNoMemory;
 
-/// The number of the headend.
-pub(crate) fn headend(net: &Net, name: &Name) -> Result<u32, IntentFault>
-    ensures { result ≡ or_fault (faults.AtStep 0 kinds.UnknownName) (node_numbered name.now net.now.nodes) }
+/// The number of a node that a step names; the headend counts as step 0.
+pub(crate) fn node_at(net: &Net, step: u32, name: &Name) -> Result<u32, IntentFault>
+    ensures { result ≡ or_fault (faults.AtStep step kinds.UnknownName) (node_numbered name.now net.now.nodes) }
 {
     match net.node_named(name.as_bytes()) {
         Some(node) => Ok(node),
-        None => Err(StepFault::UnknownName.at(0)),
+        None => Err(StepFault::UnknownName.at(step)),
     }
 }
 

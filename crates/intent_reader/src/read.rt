@@ -10,8 +10,8 @@ ghost use Rattle.intent_reader.specs.Rules.{IsIntent};
 
 use crate::fault::IntentFault;
 use crate::intent::Intent;
-use crate::names::headend;
-use crate::rules::ends_in_function;
+use crate::names::node_at;
+use crate::rules::{ends_in_function, is_within_loose_limit};
 use crate::steps::steps_from;
 use net_model::Net;
 use net_words::{DescribedIntent, Mode};
@@ -47,10 +47,13 @@ fn judged(
     requires { InRange described }
     ensures { Gives (λ i. i) result (judged net.now described) }
 {
-    let headend = headend(net, &described.headend)?;
+    let headend = node_at(net, 0, &described.headend)?;
     let steps = steps_from(alloc, net, headend, described.steps.as_slice())?;
     if !ends_in_function(steps.as_slice()) {
         return Err(OrNoMemory::Fault(IntentFault::NotFunctionLast));
+    }
+    if !is_within_loose_limit(net, steps.as_slice()) {
+        return Err(OrNoMemory::Fault(IntentFault::LooseLimit));
     }
     Ok(Intent {
         headend,
@@ -70,11 +73,13 @@ fn judged(
 /// First comes `Text`, with the fault of the text itself: that it is not TOML, or the first fault
 /// of an intent's keys and values as `net_words::read_intent_words` gives it. Then `UnknownName` at step
 /// 0, where no node has the headend's name. Then the steps in their order: the first stands at the
-/// headend, and each later one where the one before it ended, a step of links at their common end
-/// and a function where it stands. Of a step comes `UnknownName` where no link has one of its
-/// names; `DoubleLink` where a link stands twice in it; `Broken` where its links do not start where
-/// it stands, end apart or leave the network; `NoFunction` where no SID has its title, or the SID
-/// is not where the step stands. Last comes `NotFunctionLast`. `NoMemory` may come at any time, and
+/// headend, and each later one where the one before it ended, a step of links at their common end,
+/// a function where it stands, and a reach at its node. Of a step comes `UnknownName` where no link
+/// has one of its names or no node has the name to be reached; `DoubleLink` where a link stands
+/// twice in it; `Broken` where its links do not start where it stands, end apart or leave the
+/// network, or where it stands at the node to be reached; `NoFunction` where no SID has its title,
+/// or the SID is not where the step stands. Then comes `NotFunctionLast`, and last `LooseLimit`, where a
+/// step is to reach a node and the network has more than 128 SIDs. `NoMemory` may come at any time, and
 /// says nothing about the text.
 #[tactic(auto, using(crate::proofs::JudgingLemmas::kept_intents))]
 pub fn read_intent(alloc: Global, text: &[u8], net: &Net) -> Result<Intent, OrNoMemory<IntentFault>>

@@ -3,12 +3,13 @@
 
 ghost use Rattle.std.specs.Prelude.{◌≡◌, ◌<◌, length, slice_get, option_map};
 ghost use Rattle.std.specs.List.{list_all};
-ghost use Rattle.intent_reader.specs.Rules.{end_of_link, ends_at, far_node, first_end, function_node};
-ghost use Rattle.intent_reader.specs.Rules.{node_after, stand_after, is_function, ends_in_function, is_intent};
+ghost use Rattle.intent_reader.specs.Rules.{end_of_link, ends_at, far_node, first_end, function_node, reached_node};
+ghost use Rattle.intent_reader.specs.Rules.{node_after, stand_after, is_function, is_reach, has_reach};
+ghost use Rattle.intent_reader.specs.Rules.{ends_in_function, is_within_loose_limit, is_intent};
 
 use crate::intent::{Intent, Step};
 use net_model::{Link, Net};
-use net_words::{MAX_CONTAINERS, MAX_STEPS};
+use net_words::{MAX_CONTAINERS, MAX_LOOSE_SIDS, MAX_STEPS};
 use srv6_rules::SidEntry;
 
 /// The link with a number, if there is one.
@@ -89,6 +90,17 @@ fn function_node(net: &Net, node: u32, n: u32) -> Option<u32>
     }
 }
 
+/// The node that a walk reaches, if it is there and the walk doesn't stand at it yet.
+fn reached_node(net: &Net, node: u32, reached: u32) -> Option<u32>
+    ensures { result ≡ reached_node net.now node reached }
+{
+    if reached < net.nodes() && node != reached {
+        Some(reached)
+    } else {
+        None
+    }
+}
+
 /// The node where a walk stands after a step from a node, if the step starts there.
 pub(crate) fn node_after(net: &Net, node: u32, step: &Step) -> Option<u32>
     ensures { result ≡ node_after net.now node step.now }
@@ -99,6 +111,7 @@ pub(crate) fn node_after(net: &Net, node: u32, step: &Step) -> Option<u32>
             far_node(net, node, set, first_end(net, set))
         }
         Step::Function(sid) => function_node(net, node, *sid),
+        Step::Reach(reached) => reached_node(net, node, *reached),
     }
 }
 
@@ -135,9 +148,29 @@ pub(crate) fn ends_in_function(steps: &[Step]) -> bool
     }
 }
 
+fn is_reach(step: &Step) -> bool
+    ensures { result ≡ is_reach step.now }
+{
+    matches!(step, Step::Reach(_))
+}
+
+/// Whether some step is to reach a node (own rule).
+pub fn has_reach(steps: &[Step]) -> bool
+    ensures { result ≡ has_reach steps.now }
+{
+    steps.iter().any(is_reach)
+}
+
+/// Whether the network has at most 128 SIDs, or no step is to reach a node.
+pub(crate) fn is_within_loose_limit(net: &Net, steps: &[Step]) -> bool
+    ensures { result ≡ is_within_loose_limit net.now steps.now }
+{
+    !has_reach(steps) || net.sids() <= MAX_LOOSE_SIDS
+}
+
 /// Whether an intent keeps all rules in a network (own rules): its headend is there, its numbers
 /// are in their ranges, it has 1 to 48 steps, each of which starts where the one before it ended,
-/// and the last is a function.
+/// and the last is a function; and where a step is to reach a node, the network has at most 128 SIDs.
 #[tactic(auto, unfolding(crate::specs::Rules::is_intent))]
 pub fn is_intent(net: &Net, intent: &Intent) -> bool
     ensures { result ≡ is_intent net.now intent.now }
@@ -152,4 +185,5 @@ pub fn is_intent(net: &Net, intent: &Intent) -> bool
         && steps.len() <= MAX_STEPS
         && stand_after(net, intent.headend, steps).is_some()
         && ends_in_function(steps)
+        && is_within_loose_limit(net, steps)
 }

@@ -8,7 +8,7 @@ ghost use Rattle.intent_reader.specs.Judging.{step_named, astray, steps_from};
 
 use crate::fault::{IntentFault, StepFault};
 use crate::intent::{Step, Steps};
-use crate::names::{are_distinct, function_named, links_at};
+use crate::names::{are_distinct, function_named, links_at, node_at};
 use crate::rules::node_after;
 use net_model::Net;
 use net_words::DescribedStep;
@@ -37,6 +37,7 @@ fn step_named(
             Some(sid) => Ok(Step::Function(sid)),
             None => Err(OrNoMemory::Fault(StepFault::NoFunction.at(number))),
         },
+        DescribedStep::Reach(name) => Ok(Step::Reach(node_at(net, number, name)?)),
     }
 }
 
@@ -45,7 +46,7 @@ fn astray(number: u32, step: &Step) -> IntentFault
     ensures { result ≡ astray number step.now }
 {
     match step {
-        Step::Links(_) => StepFault::Broken.at(number),
+        Step::Links(_) | Step::Reach(_) => StepFault::Broken.at(number),
         Step::Function(_) => StepFault::NoFunction.at(number),
     }
 }

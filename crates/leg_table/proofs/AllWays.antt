@@ -10,7 +10,7 @@ use Rattle.walk_rules.specs.Treatment.{Gave, free_step_of as step_of}
 use Rattle.walk_rules.specs.Walk as walks
 use Rattle.walk_rules.specs.Walk.{walk_by, free_walk_of as walk_of, next_place, decisions}
 use Rattle.intent_reader.specs.declared.intent.Step.{Step}
-use Rattle.intent_reader.specs.declared.intent.Step.TheVariants.{Links, Function}
+use Rattle.intent_reader.specs.declared.intent.Step.TheVariants.{Links, Function, Reach}
 use Rattle.leg_table.specs.Trace.{Crossed, Handed, after_events, handed_first, handed_over}
 use Rattle.leg_table.specs.Tasks.{meets, matches}
 use Rattle.leg_table.specs.Choices.{Crosses, Goes, Ends, AtPlace, EveryWay}
@@ -120,6 +120,7 @@ module _ (net : Network) where
       by_step : (t : Step) → ((pick : ℕ → ℕ) → pick 0 ≡ choice → First place (t ∷ ts) pick gave)
           → Crosses t link (AtPlace (next_place net place (outcomes.Send link)) (λ next. EveryWay net yes ts next gave.after))
       by_step (Function sid) all = false≢true (parts (Function sid) (λ _. choice) (all (λ _. choice) refl)).0
+      by_step (Reach node) all = false≢true (parts (Reach node) (λ _. choice) (all (λ _. choice) refl)).0
       by_step (Links set) all =
           let next = next_place net place (outcomes.Send link) in
           let hands = next-hands ts next gave.after choice (λ pick k. (parts (Links set) pick (all pick k)).1) in (

@@ -14,7 +14,7 @@ use Rattle.walk_rules.specs.Way.{Into, way_of}
 use Rattle.walk_rules.proofs.PublicLaws.{way-into}
 use Rattle.intent_reader.specs.Rules.{IsIntent, stand_after, node_after, function_node, is_at}
 use Rattle.intent_reader.specs.declared.intent.Step.{Step}
-use Rattle.intent_reader.specs.declared.intent.Step.TheVariants.{Links, Function}
+use Rattle.intent_reader.specs.declared.intent.Step.TheVariants.{Links, Function, Reach}
 use Rattle.intent_reader.specs.declared.intent.Intent.{Intent}
 use Rattle.leg_table.specs.Trace.{has_title}
 use Rattle.leg_table.specs.Tasks.{left_after, left_after_function}
@@ -116,6 +116,7 @@ module _ (net : Network) (keeps : Keeps net) (intent : Intent) (is_intent : IsIn
       by_rest : (rest : List Step) → drop a.done intent.steps ≡ rest → left_after_function next rest ≡ Some left → AtEnd position next left
       by_rest [] e h = absurd (cc)
       by_rest (Links set ∷ ts) e h = absurd (cc)
+      by_rest (Reach node ∷ ts) e h = absurd (cc)
       by_rest (Function m ∷ ts) e h =
           let got = if-some (m == next) (Some (length ts)) left h in
           let same : m ≡ next = eqb-true m next got.0 in

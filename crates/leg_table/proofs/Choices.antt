@@ -10,13 +10,14 @@ use Rattle.walk_rules.specs.Treatment.{free_step_of as step_of}
 use Rattle.walk_rules.specs.Walk as walks
 use Rattle.walk_rules.specs.Walk.{walk_by, free_walk_of as walk_of, next_place, choice_at, decisions}
 use Rattle.intent_reader.specs.declared.intent.Step.{Step}
-use Rattle.intent_reader.specs.declared.intent.Step.TheVariants.{Links, Function}
+use Rattle.intent_reader.specs.declared.intent.Step.TheVariants.{Links, Function, Reach}
 use Rattle.leg_table.specs.Choices.{Crosses, Goes, Ends, Rides, ForAllChoices, AtPlace, seen_at, EveryWay}
 
 -- what follows of the rest follows of a stage
 pub Crosses-map : (t : Step) (link : ℕ) {R Q : Type 0} → (R → Q) → Crosses t link R → Crosses t link Q
 Crosses-map (Links set) link f (here, rest) = (here, f rest)
 Crosses-map (Function sid) link f h = absurd h
+Crosses-map (Reach node) link f h = absurd h
 
 pub Goes-map : (o : Outcome) (t : Step) {R Q : Type 0} (E : Type 0) → (R → Q) → Goes o t R E → Goes o t Q E
 Goes-map (outcomes.Send link) t E f h = Crosses-map t link f h
@@ -152,6 +153,7 @@ module _ (net : Network) (end : List Step → walks.Stage → Bool) where
             (λ pick e. let got = all pick e in (got.0, got.1.1)) ih,
       )
   every_from ts place after choice (outcomes.Send link) (Function sid) E all ih = let first = all (λ _. choice) refl in absurd first.1
+  every_from ts place after choice (outcomes.Send link) (Reach node) E all ih = let first = all (λ _. choice) refl in absurd first.1
   every_from ts place after choice (outcomes.Again n how) t E all ih = let first = all (λ _. choice) refl in first.1
   every_from ts place after choice (outcomes.Hand n how family) t E all ih = let first = all (λ _. choice) refl in first.1
   every_from ts place after choice outcomes.Local t E all ih = let first = all (λ _. choice) refl in absurd first.1

@@ -35,6 +35,7 @@ use Rattle.leg_table.specs.OneLeg.{LegKind, AlwaysHands, BecomesOf, Ended, Moved
 use Rattle.leg_table.specs.Realizes.{headend_place}
 use Rattle.leg_table.specs.Value.{legs_value, strict_kind, AnyWay}
 use Rattle.leg_table.proofs.Executions.{stage_into}
+use Rattle.leg_table.proofs.Options.{kept-from, kept-parts}
 use Rattle.leg_table.proofs.RideFacts.{ride-facts, start-facts}
 use Rattle.leg_table.proofs.NextRides.{NextRide, leg-from, finish-from, middle-sid}
 use Rattle.leg_table.proofs.StrictLaws.{shape-middle}
@@ -88,6 +89,16 @@ module _ (net : Network) (network : IsNetwork net) (flat : IsFlat net) (facts : 
   HandsFrom o p ts =
       (pick : ℕ → ℕ) → (h : Handed) × ((fuel : ℕ) × (handed_over net (walk_of fuel net o (V6 p) pick 0) ≡ Some h))
       × (matches ts h.trace ≡ true) × Unbound net h.sids
+
+  of-kept : (via : Option ℕ) (p : Packet) (position : ℕ) → AlwaysHands k via p position
+      → HandsFrom (place_from net intent via) p (drop position intent.steps)
+  of-kept via p position hands =
+      λ pick. let h = hands.1 pick in (h.0, h.1, (kept-parts (matches (drop position intent.steps) h.0.trace) hands.0 h.2).0, h.3)
+
+  to-kept : (via : Option ℕ) (p : Packet) (position : ℕ) → HandsFrom (place_from net intent via) p (drop position intent.steps)
+      → AlwaysHands k via p position
+  to-kept via p position hands =
+      ([], λ pick. (let h = hands pick in (h.0, h.1, kept-from (matches (drop position intent.steps) h.0.trace) h.2, h.3)))
 
   -- the packet where it comes to
   abbrev there-packet : Packet → Ride → Packet
@@ -223,8 +234,9 @@ module _ (net : Network) (network : IsNetwork net) (flat : IsFlat net) (facts : 
       Moved n (leg_with (length intent.steps) c.ride.lowered left) y r
       (leg-from net intent position via n nr (ap sid_goes_on c.there ∙ g.middle)) (shape-prefix net n ∙ c.prefix)
       (omega (arith, high)) g.next (subst (λ (j : ℕ). Along tunnel y j r) less g.along)
+      (to-kept (Some n) r (length intent.steps - left)
       (subst (λ (us : List Step). HandsFrom (place_from net intent (Some n)) r us) rest
-      (subst (λ (o : Option Place). HandsFrom o r g.rest) (sym on) g.hands))
+      (subst (λ (o : Option Place). HandsFrom o r g.rest) (sym on) g.hands)))
       (λ pick taken h any over.
       let started = from-place net keeps facts intent is_intent tunnel via p pick taken h place from over in
       let rest = ride-over net (drop position intent.steps) place p c.ride pick taken h c.walked started in
@@ -292,11 +304,11 @@ module _ (net : Network) (network : IsNetwork net) (flat : IsFlat net) (facts : 
 
   pub leg-down : (x : lists.ListPlace) (q : PrefixValue) (position : ℕ) (via : Option ℕ) (hop : ℕ) (p : Packet)
       → position ≤ length intent.steps → IsVia (legs_value net intent) position via → Along tunnel x hop p → PlaceKeeps net x
-      → active x ≡ list_sid net q → IsSidPrefix net q → 0 < hop → AlwaysHands k via p (drop position intent.steps)
+      → active x ≡ list_sid net q → IsSidPrefix net q → 0 < hop → AlwaysHands k via p position
       → BecomesOf k AnyWay tunnel x q position via hop p
   leg-down x q position via hop p within at along nests to named positive hands =
       let start = starts position via within at in
       let place = from position via start in
       let c = comings.comes net network flat facts intent is_intent tunnel family position via x q hop p place.0 start place.1 along nests to
-      named positive (subst (λ (o : Option Place). HandsFrom o p (drop position intent.steps)) place.1 hands) in
+      named positive (subst (λ (o : Option Place). HandsFrom o p (drop position intent.steps)) place.1 (of-kept via p position hands)) in
       becomes position via x q hop p place.0 start place.1 c

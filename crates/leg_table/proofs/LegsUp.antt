@@ -38,7 +38,7 @@ use Rattle.leg_table.specs.Nests.{PlaceKeeps}
 use Rattle.leg_table.specs.OneLeg.{LegKind, OnWay, IsTakenOn, HandsBy}
 use Rattle.leg_table.specs.Value.{strict_kind}
 use Rattle.leg_table.proofs.Alike.{address-alike}
-use Rattle.leg_table.proofs.Options.{some-same}
+use Rattle.leg_table.proofs.Options.{kept-from, kept-same, some-same}
 use Rattle.leg_table.proofs.RideFacts.{RideFacts, ride-facts, StartFacts, start-facts}
 use Rattle.leg_table.proofs.NextRides.{NextRide, leg-ride, finish-ride, middle-sid, last-sid}
 use Rattle.leg_table.proofs.ListPlaces.{address-at}
@@ -136,7 +136,7 @@ module _ (net : Network) (keeps : Keeps net) (facts : FlatFacts net) (intent : I
   -- up from a finish
   pub finish-up : (x : lists.ListPlace) (position : ℕ) (via : Option ℕ) (next lowered : ℕ) (hop : ℕ) (p : Packet) (pick : ℕ → ℕ) (taken : ℕ)
       → tunnel.inner ≡ intent.inner → finish_of net intent position via next ≡ Some lowered → OnWay k tunnel x hop p next
-      → next_of x ≡ None → lowered < hop → HandsBy k tunnel position via p (next ∷ []) pick taken
+      → next_of x ≡ None → lowered < hop → HandsBy k tunnel position via p (next ∷ []) [] pick taken
   finish-up x position via next lowered hop p pick taken family h on end high =
       let got = finish-ride net intent position via next lowered h in
       let n = got.0 in
@@ -164,9 +164,10 @@ module _ (net : Network) (keeps : Keeps net) (facts : FlatFacts net) (intent : I
               (handed-stage net 0 n.ride.place (V6 q) pick (taken + w.count) _ stage),
         );
         meets =
-            w.meets_them pick taken (executed net next)
+            kept-from (matches ts (w.events pick taken ++ executed net next))
+            (w.meets_them pick taken (executed net next)
             ∙ behind-alone net next n.ride.left left.0 left.1
-            ∙ none-left left.0 left.2;
+            ∙ none-left left.0 left.2);
         sids = refl;
         allowed = All-cons (λ (m : ℕ). is_binding net m ≡ false) next []
             (ap sid_binds sid.1 ∙ last-unbound net sid.0 (inner_kind intent.inner) (keeps.sid next sid.0 sid.1) sid.2)
@@ -220,10 +221,11 @@ module _ (net : Network) (keeps : Keeps net) (facts : FlatFacts net) (intent : I
         allowed = ap sid_binds sid.1 ∙ (step-parts sid.0 sid.2).1;
         events = events ++ executed net next;
         leads = λ more.
-            ap (matches ts) (append_assoc events (executed net next) more)
+            kept-same (matches ts ((events ++ executed net next) ++ more)) (matches (drop leg.to intent.steps) more)
+            (ap (matches ts) (append_assoc events (executed net next) more)
             ∙ w.meets_them pick taken (executed net next ++ more)
             ∙ left.1.same more
-            ∙ ap (λ (us : List Step). matches us more) (us_rest ∙ ap (λ (j : ℕ). drop j intent.steps) ends);
+            ∙ ap (λ (us : List Step). matches us more) (us_rest ∙ ap (λ (j : ℕ). drop j intent.steps) ends));
         count = w.count + 1;
         chosen = taken + w.count + 0;
         passes = λ fuel h is.

@@ -82,13 +82,14 @@ module _ (k : LegKind) (Longest : Option ℕ → Packet → (ℕ → ℕ) → �
     path-of need real =
         let inner = some_inner k.intent.inner in
         let hop : ℕ = need + 1 in
-        let always : AlwaysInner k (list_values k.net list) inner hop
-        = real.reaches inner (some_inner-is k.intent.inner) hop (omega arith) in
-        let p = list-path k Longest laws list legal inner hop (omega arith) always in
+        let marks = real.reaches.0 in
+        let always : AlwaysInner k (list_values k.net list) inner hop marks
+        = real.reaches.1 inner (some_inner-is k.intent.inner) hop (omega arith) in
+        let p = list-path k Longest laws list legal inner hop marks (omega arith) always in
         let below = p.below in
         let within : p.need ≤ need = omega (arith, below) in
         let longest = (one k Longest laws list legal inner).some_longest None (packet k Longest laws list legal inner hop) in
-        let hand = by-list k Longest laws list legal inner hop always longest.0 in
+        let hand = by-list k Longest laws list legal inner hop marks always longest.0 in
         record {
           moves = (moves-along inner hop p).moves;
           hops = p.need;
@@ -96,12 +97,12 @@ module _ (k : LegKind) (Longest : Option ℕ → Packet → (ℕ → ℕ) → �
           within = within;
           whole = λ executes.
               whole-path inner hop need real p within
-              (sym (ap length (p.executes longest.0 0 _ longest.1 hand.2)) ∙ executes inner hop hand.0 (always hand.0 hand.1));
+              (sym (ap length (p.executes longest.0 0 _ longest.1 hand.2)) ∙ executes inner hop marks hand.0 (always hand.0 hand.1));
         }
 
     path-below : (hop : ℕ) → IsHanding k list hop → IsPathBelow k.legs list hop
     path-below hop hands =
-        let p = list-path k Longest laws list legal hands.inner hop hands.positive hands.always in
+        let p = list-path k Longest laws list legal hands.inner hop hands.marks hands.positive hands.always in
         let got = moves-along hands.inner hop p in
         record { moves = got.moves; hops = p.need; cost = got.cost; below = p.below }
 

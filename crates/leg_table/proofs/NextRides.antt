@@ -7,7 +7,7 @@ use Rattle.srv6_rules.specs.declared.sid.SidEntry.{SidEntry}
 use Rattle.net_model.specs.Network.{Network}
 use Rattle.walk_rules.specs.declared.place.Place.{Place}
 use Rattle.intent_reader.specs.declared.intent.Step.{Step}
-use Rattle.intent_reader.specs.declared.intent.Step.TheVariants.{Links, Function}
+use Rattle.intent_reader.specs.declared.intent.Step.TheVariants.{Links, Function, Reach}
 use Rattle.intent_reader.specs.declared.intent.Intent.{Intent}
 use Rattle.list_pack.specs.declared.types.Leg.{Leg}
 use Rattle.leg_table.specs.Tasks.{left_after, left_after_function}
@@ -53,6 +53,7 @@ left_after-le net n ts left h = by_title (is_titled net n) ts h
     by_function : (ts : List Step) → left_after_function n ts ≡ Some left → left ≤ length ts
     by_function [] h = absurd (cc)
     by_function (Links set ∷ ts) h = absurd (cc)
+    by_function (Reach node ∷ ts) h = absurd (cc)
     by_function (Function sid ∷ ts) h =
         let got = if-some (sid == n) (Some (length ts)) left h in
         let e : length ts ≡ left = some-same (length ts) left got.1 in

@@ -38,3 +38,18 @@ drop-first [] zero x ys e = absurd (cc)
 drop-first [] (suc n) x ys e = absurd (cc)
 drop-first (y ∷ xs) zero x ys e = (cc, cc)
 drop-first (y ∷ xs) (suc n) x ys e = drop-first xs n x ys e
+
+-- what is kept without marks: some where a test holds
+abbrev pub kept_if : Bool → Option (List ℕ)
+kept_if b = if b then Some [] else None
+
+pub kept-parts : (b : Bool) (marks : List ℕ) → kept_if b ≡ Some marks → (b ≡ true) × (marks ≡ [])
+kept-parts true marks h = (refl, cc)
+kept-parts false marks h = cc
+
+pub kept-from : (b : Bool) → b ≡ true → kept_if b ≡ Some []
+kept-from b e = ap kept_if e
+
+pub kept-same : (a b : Bool) → a ≡ b → kept_if a ≡ option_map (λ (marks : List ℕ). [] ++ marks) (kept_if b)
+kept-same a true e = ap kept_if e
+kept-same a false e = ap kept_if e

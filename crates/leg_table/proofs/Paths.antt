@@ -1,5 +1,5 @@
 -- Paths of legs and a finish, by the laws of one leg and one finish.
-use Rattle.std.proofs.Common.{◌≡◌, ℕ, ◌+◌, ◌-◌, ◌<◌, ◌≤◌, arith, false, List, [], ◌∷◌, length, take, map, All, Option, Some, None, refl, sym, ◌∙◌, ap, subst}
+use Rattle.std.proofs.Common.{◌≡◌, ℕ, ◌+◌, ◌-◌, ◌<◌, ◌≤◌, arith, false, List, [], ◌∷◌, ◌++◌, length, take, map, All, Option, Some, None, refl, sym, ◌∙◌, ap, subst}
 use Rattle.std.specs.Option.{option_map}
 use Rattle.std.proofs.lemmas.List.Elements.{All-cons, All-head, All-tail}
 use Rattle.v6_addr.specs.Address.{PrefixValue}
@@ -10,7 +10,7 @@ use Rattle.list_pack.specs.Paths.{with_hops, hops_of}
 use Rattle.list_pack.specs.SidLists.{IsSidPrefix, list_sid}
 use Rattle.list_pack.specs.Value.{KeepsLaws, IsVia}
 use Rattle.leg_table.specs.Nests.{PlaceKeeps}
-use Rattle.leg_table.specs.OneLeg.{LegKind, HandsOver, AlwaysHands, OnWay, HandsBy, LegLaws, BecomesOf, Ended, Moved, after_leg, prefix_in, steps_from}
+use Rattle.leg_table.specs.OneLeg.{LegKind, HandsOver, AlwaysHands, OnWay, HandsBy, LegLaws, BecomesOf, Ended, Moved, after_leg, prefix_in}
 use Rattle.leg_table.specs.Trace.{Handed}
 use Rattle.leg_table.proofs.ListPlaces.{active-is, next-none, next-some, before_from, before-last, before-next}
 use Rattle.leg_table.proofs.Options.{map-some, some-same}
@@ -22,6 +22,16 @@ with_hops-some None later need h = absurd (cc)
 with_hops-some (Some leg) later need h =
     let got = map-some (λ (n : ℕ). leg.hops + n) (later leg.to) need h in
     (leg, refl, got.0, got.1, got.2)
+
+-- the marks of a path
+abbrev pub marks_with : (ℕ → List ℕ) → Option Leg → (ℕ → List ℕ) → List ℕ
+marks_with mark None later = []
+marks_with mark (Some leg) later = mark leg.to ++ later leg.to
+
+abbrev pub path_marks : LegKind → List ℕ → ℕ → ℕ → Option ℕ → List ℕ
+path_marks k [] next position via = k.mark next k.legs.steps
+path_marks k (m ∷ more) next position via =
+    marks_with (k.mark next) (k.legs.leg position via next) (λ to. path_marks k more m to (Some next))
 
 module _ (k : LegKind) (Longest : Option ℕ → Packet → (ℕ → ℕ) → ℕ → Type 0) (t : Tunnel) (one : LegLaws k Longest t) where
   -- the SIDs from a place on have these numbers
@@ -38,7 +48,7 @@ module _ (k : LegKind) (Longest : Option ℕ → Packet → (ℕ → ℕ) → �
   pub path-hands : (more : List ℕ) (next position : ℕ) (via : Option ℕ) (x : ListPlace) (hop : ℕ) (p : Packet) (need : ℕ) (pick : ℕ → ℕ)
       (taken : ℕ)
       → Along t x hop p → PlaceKeeps k.net x → Names x (next ∷ more) → hops_of k.legs position via (next ∷ more) ≡ Some need → need < hop
-      → HandsBy k t position via p (next ∷ more) pick taken
+      → HandsBy k t position via p (next ∷ more) (path_marks k more next position via) pick taken
   path-hands [] next position via x hop p need pick taken along nests names is high =
       one.finish_up x position via next need hop p pick taken is (on-way x hop p next [] along nests names) (next-none x _ names) high
   path-hands (m ∷ more) next position via x hop p need pick taken along nests names is high =
@@ -53,7 +63,9 @@ module _ (k : LegKind) (Longest : Option ℕ → Packet → (ℕ → ℕ) → �
       record {
         handed = after_leg a.events next rest.handed;
         over = (a.count + rest.over.0, a.passes rest.over.0 rest.handed rest.over.1);
-        meets = a.leads rest.handed.trace ∙ rest.meets;
+        meets =
+            a.leads rest.handed.trace ∙ ap (option_map (λ (marks : List ℕ). k.mark next got.0.to ++ marks)) rest.meets
+            ∙ ap (λ (o : Option Leg). Some (marks_with (k.mark next) o (λ to. path_marks k more m to (Some next)))) (sym got.1);
         sids = ap (λ (ms : List ℕ). next ∷ ms) rest.sids;
         allowed = All-cons (λ (n : ℕ). k.barred n ≡ false) next rest.handed.sids a.allowed rest.allowed;
         content = rest.content;
@@ -151,7 +163,7 @@ module _ (k : LegKind) (Longest : Option ℕ → Packet → (ℕ → ℕ) → �
     DownAt q qs =
         (position : ℕ) (via : Option ℕ) (x : ListPlace) (hop : ℕ) (p : Packet)
         → position ≤ k.legs.steps → IsVia k.legs position via → sids_from x ≡ map (list_sid k.net) (q ∷ qs)
-        → All (IsSidPrefix k.net) (q ∷ qs) → Along t x hop p → PlaceKeeps k.net x → 0 < hop → AlwaysHands k via p (steps_from k position)
+        → All (IsSidPrefix k.net) (q ∷ qs) → Along t x hop p → PlaceKeeps k.net x → 0 < hop → AlwaysHands k via p position
         → PathFrom position via x (q ∷ qs) hop p
 
     -- so it is of what follows the first prefix

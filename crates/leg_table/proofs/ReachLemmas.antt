@@ -20,7 +20,7 @@ use Rattle.walk_rules.specs.Walk.{arrival}
 use Rattle.walk_rules.proofs.PublicLaws.{way-from}
 use Rattle.intent_reader.specs.Rules.{first_end, stand_after}
 use Rattle.intent_reader.specs.declared.intent.Step.{Step}
-use Rattle.intent_reader.specs.declared.intent.Step.TheVariants.{Links, Function}
+use Rattle.intent_reader.specs.declared.intent.Step.TheVariants.{Links, Function, Reach}
 use Rattle.leg_table.specs.declared.step_links.Behind.{Behind}
 use Rattle.leg_table.specs.Tasks.{has_link, left_after}
 use Rattle.leg_table.specs.Ride.{Ride, more_lowered, ride_on, ride_by, ride_end, ride_of}
@@ -106,6 +106,7 @@ module _ (net : Network) (keeps : Keeps net) where
       by_way t Own links stands is = refl
       by_way t (Into m) links stands is = refl
       by_way (Function sid) (Over set lower) links stands is = refl
+      by_way (Reach node) (Over set lower) links stands is = refl
       by_way (Links step) (Over set lower) links stands is = by_test (list_all (has_link step) set) refl
         where
           by_test : (b : Bool) → list_all (has_link step) set ≡ b

@@ -1,6 +1,7 @@
 -- The ways from the nodes of all positions, one after another.
 use Rattle.std.proofs.Common.{◌≡◌, ℕ, zero, suc, ◌+◌, ◌-◌, ◌<◌, ◌≤◌, true, ◌&&◌, List, [], ◌∷◌, ◌++◌, length, take, drop, Option, Some, None, slice_get, refl, sym, ◌∙◌, ap, subst, arith, length-append}
-use Rattle.std.specs.Prelude.{is_some}
+use Rattle.std.specs.Prelude.{is_some, not, nat_lt, ◌==◌}
+use Rattle.std.proofs.lemmas.Bool.{and_parts, ltb-true}
 use Rattle.std.specs.List.{list_all}
 use Rattle.std.specs.Option.{option_and_then}
 use Rattle.srv6_rules.specs.declared.sid.SidEntry.{SidEntry}
@@ -10,6 +11,7 @@ use Rattle.net_model.specs.Keeps.{Keeps}
 use Rattle.intent_reader.specs.Rules.{first_end, far_node, function_node, stand_after, node_after, ends_at}
 use Rattle.intent_reader.specs.declared.intent.Step.{Step}
 use Rattle.intent_reader.specs.declared.intent.Step.TheVariants.{Links, Function}
+use Rattle.intent_reader.specs.declared.intent.Step.TheVariants as kinds
 use Rattle.leg_table.specs.declared.reach.Reach.{Reach}
 use Rattle.leg_table.specs.declared.step_links.Behind.{Behind}
 use Rattle.leg_table.specs.Reach.{stand, AreWays, IsReach, AreReaches, AreLater}
@@ -52,6 +54,11 @@ after-within net keeps node to (Function sid) here e = by_sid (slice_get net.sid
         let got = if-some _ (Some node) to h in
         let same : node ≡ to = some-same node to got.1 in
         omega arith
+after-within net keeps node to (kinds.Reach reached) here e =
+    let got = if-some (nat_lt reached (length net.nodes) && not (node == reached)) (Some reached) to e in
+    let there : reached < length net.nodes = ltb-true _ _ (and_parts _ _ got.0).0 in
+    let same : reached ≡ to = some-same reached to got.1 in
+    omega arith
 
 -- one step more before the others
 more-reaches : (net : Network) (node to : ℕ) (t : Step) (ts : List Step) (reach : Reach) (reaches : List Reach)

@@ -26,7 +26,7 @@ use Rattle.leg_table.specs.Realizes.{encapsulation_of, IsInner, content_lowered,
 use Rattle.leg_table.proofs.Choices.{row_from, length-row_from, row_agrees}
 use Rattle.leg_table.proofs.ListPlaces.{active-first, sids-list}
 use Rattle.leg_table.proofs.OwnPlaces.{first-keeps, list-keeps}
-use Rattle.leg_table.proofs.Paths.{with_hops-some, Names, PathFrom, path-hands, path-over, path-down}
+use Rattle.leg_table.proofs.Paths.{with_hops-some, Names, PathFrom, path_marks, path-hands, path-over, path-down}
 use Rattle.leg_table.proofs.Inners.{some_inner, some_inner-is}
 
 -- what is handed over reads as the inner packet, lowered
@@ -84,16 +84,16 @@ module _ (k : LegKind) (Longest : Option ℕ → Packet → (ℕ → ℕ) → �
     named = sids-first (list_in k.net list) first-place.0 first-place.1 ∙ sids-list k.net list
 
     -- what is handed over for all lists of choices is handed over under every row of choices, as for one of the lists
-    pub by-list : (inner : Content) (hop : ℕ) (always : AlwaysInner k segments inner hop) (pick : ℕ → ℕ)
+    pub by-list : (inner : Content) (hop : ℕ) (marks : List ℕ) (always : AlwaysInner k segments inner hop marks) (pick : ℕ → ℕ)
         → (row : List ℕ) × (some : 0 < length row) × HandsOver k None (packet inner hop) pick 0 (always row some).handed
-    by-list inner hop always pick =
+    by-list inner hop marks always pick =
         let n = suc (laws.matter (packet inner hop)) in
         let row = row_from pick 0 n in
         let some : 0 < length row = rw (length-row_from pick 0 n) (omega arith) in
         let got = always row some in (
           row,
           some,
-          laws.agree (packet inner hop) (choice_at row) pick got.handed
+          laws.agree (packet inner hop) (choice_at row) pick got.handed marks
               (λ d few. sym (ap (choice_at row) (zero-add d)) ∙ row_agrees pick n d (omega arith) ∙ ap pick (zero-add d)) got.over got.steps,
         )
 
@@ -102,8 +102,12 @@ module _ (k : LegKind) (Longest : Option ℕ → Packet → (ℕ → ℕ) → �
       all-named : (inner : Content) → Names k Longest (tunnel inner) (one inner) first-place.0 (next ∷ more)
       all-named inner = named ∙ ap (map (list_sid k.net)) (sym names)
 
+      -- the marks of the path
+      abbrev own_marks : List ℕ
+      own_marks = path_marks k more next 0 None
+
       over : (inner : Content) → IsInner k.intent.inner inner → (hop : ℕ) → need < hop → (choices : List ℕ)
-          → HandsInner k segments inner hop choices
+          → HandsInner k segments inner hop own_marks choices
       over inner ok hop above choices =
           let hand = path-hands k Longest (tunnel inner) (one inner) more next 0 None first-place.0 hop (packet inner hop) need (choice_at choices) 0
           (starts inner hop) nests (all-named inner) is_path above in
@@ -125,18 +129,18 @@ module _ (k : LegKind) (Longest : Option ℕ → Packet → (ℕ → ℕ) → �
       pub path-realizes : IsRealizing k list need
       path-realizes =
           record {
-            reaches = λ inner ok hop above choices some. over inner ok hop above choices;
+            reaches = (own_marks, λ inner ok hop above choices some. over inner ok hop above choices);
             least = λ n reaches.
                 let inner = some_inner k.intent.inner in
                 let longest = (one inner).some_longest None (packet inner (n + 1)) in
-                let hand = by-list inner (n + 1) (reaches inner (some_inner-is k.intent.inner) (n + 1) (omega arith)) longest.0 in
+                let hand = by-list inner (n + 1) reaches.0 (reaches.1 inner (some_inner-is k.intent.inner) (n + 1) (omega arith)) longest.0 in
                 let above = (path-executes inner (n + 1) longest.0 _ hand.2).1 longest.1 (omega arith) in
                 omega (arith, above);
           }
 
       -- and wherever it is handed over, all its SIDs are executed
       pub path-counts : IsExecuting k list (length (prefixes_in list))
-      path-counts inner hop choices h =
+      path-counts inner hop marks choices h =
           ap length (path-executes inner hop (choice_at choices) h.handed h.over).0
           ∙ sym (length-map (next ∷ more) (prefix_in k)) ∙ ap length names
 
@@ -145,14 +149,17 @@ module _ (k : LegKind) (Longest : Option ℕ → Packet → (ℕ → ℕ) → �
     PathAlong inner hop =
         PathFrom k Longest (tunnel inner) (one inner) 0 None first-place.0 (prefixes_in list) hop (packet inner hop)
 
-    pub list-path : (inner : Content) (hop : ℕ) → 0 < hop → AlwaysInner k segments inner hop → PathAlong inner hop
-    list-path inner hop positive always = by_prefixes (prefixes_in list) refl
+    pub list-path : (inner : Content) (hop : ℕ) (marks : List ℕ) → 0 < hop → AlwaysInner k segments inner hop marks → PathAlong inner hop
+    list-path inner hop marks positive always = by_prefixes (prefixes_in list) refl
       where
-        hands : AlwaysHands k None (packet inner hop) k.intent.steps
-        hands pick =
-            let got = by-list inner hop always pick in
-            let h = always got.0 got.1 in
-            (h.handed, got.2, h.steps, h.allowed)
+        hands : AlwaysHands k None (packet inner hop) 0
+        hands = (
+          marks,
+          λ pick.
+              let got = by-list inner hop marks always pick in
+              let h = always got.0 got.1 in
+              (h.handed, got.2, h.steps, h.allowed),
+        )
 
         by_prefixes : (ps : List PrefixValue) → prefixes_in list ≡ ps → PathAlong inner hop
         by_prefixes [] e = let first = active-first first-place.0 in absurd (cc (first.1, named, ap (map (list_sid k.net)) e))

@@ -16,9 +16,9 @@ use Rattle.walk_rules.specs.declared.place.Outcome.TheVariants as outcomes
 use Rattle.walk_rules.specs.Treatment.{member_of}
 use Rattle.walk_rules.specs.Walk.{arrival, next_place}
 use Rattle.walk_rules.proofs.PublicLaws.{sid-how, way-from}
-use Rattle.intent_reader.specs.Rules.{stand_after, first_end, node_after, is_at, IsIntent, is_intent, ends_in_function}
+use Rattle.intent_reader.specs.Rules.{stand_after, first_end, node_after, is_at, IsIntent, is_intent}
 use Rattle.intent_reader.specs.declared.intent.Step.{Step}
-use Rattle.intent_reader.specs.declared.intent.Step.TheVariants.{Links, Function}
+use Rattle.intent_reader.specs.declared.intent.Step.TheVariants.{Links, Function, Reach}
 use Rattle.intent_reader.specs.declared.intent.Intent.{Intent}
 use Rattle.leg_table.specs.Tasks.{has_link}
 use Rattle.leg_table.specs.Ride.{Ride, one_if, more_lowered, ride_on, ride_by, ride_end, ride_of}
@@ -66,6 +66,7 @@ module _ (net : Network) (keeps : Keeps net) (destination : ℕ) (P : List Step 
       by_way t Own e links stands h ih = absurd (cc)
       by_way t (Into n) e links stands h ih = subst (P (t ∷ ts) place) (some-same _ r h) (here (t ∷ ts) place n e)
       by_way (Function sid) (Over set lower) e links stands h ih = absurd (cc)
+      by_way (Reach node) (Over set lower) e links stands h ih = absurd (cc)
       by_way (Links step) (Over set lower) e links stands h ih =
           let opened = step_opens net place.node step ts stands in
           let all = if-some (list_all (has_link step) set) _ r h in
@@ -173,7 +174,7 @@ intent-stands net intent h =
     let e = and_parts (nat_lt intent.flow_label (2 ^ 20)) _ d.1 in
     let f = and_parts (nat_le 1 (length intent.steps)) _ e.1 in
     let g = and_parts (nat_le (length intent.steps) 48) _ f.1 in
-    let k = and_parts (is_some (stand_after net intent.headend intent.steps)) (ends_in_function intent.steps) g.1 in
+    let k = and_parts (is_some (stand_after net intent.headend intent.steps)) _ g.1 in
     (k.0, leb-true (length intent.steps) 48 g.0, leb-true 1 (length intent.steps) f.0, ltb-true intent.headend (length net.nodes) a.0)
 
 module _ (net : Network) (keeps : Keeps net) (intent : Intent) (is_intent : IsIntent net intent) where

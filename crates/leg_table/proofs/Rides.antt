@@ -24,7 +24,7 @@ use Rattle.walk_rules.specs.Walk.{next_place, arrival}
 use Rattle.walk_rules.proofs.PublicLaws.{onward-each, sent-low, sent-high, way-from}
 use Rattle.intent_reader.specs.Rules.{stand_after, first_end, ends_at}
 use Rattle.intent_reader.specs.declared.intent.Step.{Step}
-use Rattle.intent_reader.specs.declared.intent.Step.TheVariants.{Links, Function}
+use Rattle.intent_reader.specs.declared.intent.Step.TheVariants.{Links, Function, Reach}
 use Rattle.leg_table.specs.Tasks.{has_link}
 use Rattle.leg_table.specs.Choices.{Goes, Ends, AtPlace, seen_at, EveryWay}
 use Rattle.leg_table.specs.Ride.{Ride, more_lowered, ride_on, ride_over, ride_by, ride_end, ride_of, with_hop_limit, RideEnds}
@@ -109,6 +109,12 @@ function-never : (net : Network) (node : ℕ) (set : List ℕ) (lower : Bool) (p
     → let gave = sent net node set lower p 0 in Goes gave.outcome (Function sid) (R gave) (E gave) → ⊥
 function-never net node set lower p sid R E =
     sent-never (λ (g : Gave). Goes g.outcome (Function sid) (R g) (E g)) net node set lower p (λ link after h. h) (λ h. h)
+
+-- and a step that reaches a node has none
+reach-never : (net : Network) (node : ℕ) (set : List ℕ) (lower : Bool) (p : Packet) (reached : ℕ) (R E : Gave → Type 0)
+    → let gave = sent net node set lower p 0 in Goes gave.outcome (Reach reached) (R gave) (E gave) → ⊥
+reach-never net node set lower p reached R E =
+    sent-never (λ (g : Gave). Goes g.outcome (Reach reached) (R g) (E g)) net node set lower p (λ link after h. h) (λ h. h)
 
 pub same_packet : (p : Packet) → with_hop_limit (p.hop_limit - 0) p ≡ p
 same_packet p = ap (λ (h : ℕ). with_hop_limit h p) (sub-zero p.hop_limit)
@@ -257,6 +263,12 @@ module _ (net : Network) (end : List Step → walks.Stage → Bool) where
     λ h. function-never net place.node set lower p sid
         (λ gave. AtPlace (next_place net place gave.outcome) (λ next. EveryWay net end ts next gave.after))
         (λ gave. IsTrue (end (Function sid ∷ ts) (seen_at place (V6 p) gave))) (h 0),
+    λ h. absurd h,
+  )
+  by_way place p (Reach reached) ts (Over set lower) e links stands positive ih = (
+    λ h. reach-never net place.node set lower p reached
+        (λ gave. AtPlace (next_place net place gave.outcome) (λ next. EveryWay net end ts next gave.after))
+        (λ gave. IsTrue (end (Reach reached ∷ ts) (seen_at place (V6 p) gave))) (h 0),
     λ h. absurd h,
   )
   by_way place p (Links step) ts (Over set false) e links stands positive ih =

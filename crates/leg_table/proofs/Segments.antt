@@ -24,7 +24,7 @@ use Rattle.walk_rules.specs.Walk.{next_place}
 use Rattle.walk_rules.specs.Way.{Away, Into, is_multicast_of, way_of, way_by, way_by_hit}
 use Rattle.walk_rules.specs.Treatment.{Gave, goes, treated_at_sid, allow_of, free_step_of as step_of, onward_from, exposed_from, dropped}
 use Rattle.intent_reader.specs.declared.intent.Step.{Step}
-use Rattle.intent_reader.specs.declared.intent.Step.TheVariants.{Links, Function}
+use Rattle.intent_reader.specs.declared.intent.Step.TheVariants.{Links, Function, Reach}
 use Rattle.list_places.specs.Places as lists
 use Rattle.list_places.specs.Places.{Tunnel, form, active, next_of, stays_routed, StandsOn, Along}
 use Rattle.list_places.proofs.PublicLaws.{along-onward, along-tired, along-next, along-exposed}
@@ -151,6 +151,7 @@ module _ (net : Network) (n : ℕ) where
       by_title false e ts h = (ts, title-out e ts, some-same (length ts) left h)
       by_title true e [] h = absurd (cc)
       by_title true e (Links set ∷ ts) h = absurd (cc)
+      by_title true e (Reach node ∷ ts) h = absurd (cc)
       by_title true e (Function sid ∷ ts) h =
           let got = if-some (sid == n) (Some (length ts)) left h in
           (ts, title-in e sid ts (eqb-true sid n got.0), some-same (length ts) left got.1)
@@ -164,6 +165,7 @@ module _ (net : Network) (n : ℕ) where
       by_title false e ts h = (ts, title-out e ts)
       by_title true e [] h = absurd (false≢true h)
       by_title true e (Links set ∷ ts) h = absurd (false≢true h)
+      by_title true e (Reach node ∷ ts) h = absurd (false≢true h)
       by_title true e (Function sid ∷ ts) h = (ts, title-in e sid ts (eqb-true sid n (and_parts (sid == n) (matches ts es) h).0))
 
   pub behind-alone : (ts us : List Step) → LeftBehind ts us → matches ts (executed net n) ≡ matches us []

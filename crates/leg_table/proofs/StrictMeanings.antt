@@ -21,12 +21,14 @@ use Rattle.leg_table.specs.Meant.{HandsInner, IsRealizing, IsExecuting, IsHandin
 use Rattle.leg_table.specs.Realizes.{headend_place, path_need, HandsOver, AlwaysHandsOver, ListRealizes, ListExecutes, ListHands, IsPathAlong}
 use Rattle.leg_table.specs.Sids.{binds, sid_goes_on, prefix_at}
 use Rattle.leg_table.specs.Table.{shape_by, node_by}
+use Rattle.leg_table.specs.Tasks.{matches}
 use Rattle.leg_table.specs.Value.{legs_value, strict_kind, AnyWay}
 use Rattle.leg_table.proofs.FlatNets.{FlatFacts, flat-facts}
 use Rattle.leg_table.proofs.Handing.{hands-agree}
 use Rattle.leg_table.proofs.ListPlaces.{before-first}
 use Rattle.leg_table.proofs.ListShapes.{suits-by, there}
 use Rattle.leg_table.proofs.Meanings as means
+use Rattle.leg_table.proofs.Options.{kept-parts, kept-from}
 use Rattle.leg_table.proofs.PathNames.{hops-need, shapes-prefixes}
 use Rattle.leg_table.proofs.Realizing as any
 use Rattle.leg_table.proofs.Stays.{stays-follow}
@@ -88,44 +90,59 @@ module _ (net : Network) (intent : Intent) (network : IsNetwork net) (flat : IsF
             stays-follow net network n m s.0 t.0 s.1 t.1);
         one = strict-leg_laws;
         matter = λ p. suc (length intent.steps);
-        agree = λ p pick other h same over met. (
+        agree = λ p pick other h marks same over met. (
           over.0,
           hands-agree net over.0 intent.steps (Some (headend_place intent)) (V6 p) pick other 0 0 h
-              (λ d few. ap pick (zero-add d) ∙ same d (omega arith) ∙ sym (ap other (zero-add d))) met over.1,
+              (λ d few. ap pick (zero-add d) ∙ same d (omega arith) ∙ sym (ap other (zero-add d)))
+              (kept-parts (matches intent.steps h.trace) marks met).0 over.1,
         );
       }
 
   -- ---- realizing by the kind is realizing
 
   abbrev to-kind : {segments : List ℕ} {inner : Content} {hop : ℕ} {choices : List ℕ} → HandsOver net intent segments inner hop choices
-      → HandsInner k segments inner hop choices
-  to-kind o = record { handed = o.handed; over = (o.fuel, o.first); steps = o.steps; content = o.content; allowed = o.unbound }
+      → HandsInner k segments inner hop [] choices
+  to-kind o =
+      record {
+        handed = o.handed;
+        over = (o.fuel, o.first);
+        steps = kept-from (matches intent.steps o.handed.trace) o.steps;
+        content = o.content;
+        allowed = o.unbound;
+      }
 
-  abbrev of-kind : {segments : List ℕ} {inner : Content} {hop : ℕ} {choices : List ℕ} → HandsInner k segments inner hop choices
+  abbrev of-kind : {segments : List ℕ} {inner : Content} {hop : ℕ} {marks choices : List ℕ} → HandsInner k segments inner hop marks choices
       → HandsOver net intent segments inner hop choices
-  of-kind o =
-      record { fuel = o.over.0; handed = o.handed; first = o.over.1; steps = o.steps; content = o.content; unbound = o.allowed }
+  of-kind {marks = marks} o =
+      record {
+        fuel = o.over.0;
+        handed = o.handed;
+        first = o.over.1;
+        steps = (kept-parts (matches intent.steps o.handed.trace) marks o.steps).0;
+        content = o.content;
+        unbound = o.allowed;
+      }
 
   realizes-of : (list : List Container) (need : ℕ) → IsRealizing k list need → ListRealizes net intent list need
   realizes-of list need r =
       record {
-        reaches = λ inner ok hop above choices some. of-kind (r.reaches inner ok hop above choices some);
-        least = λ n reaches. r.least n (λ inner ok hop above choices some. to-kind (reaches inner ok hop above choices some));
+        reaches = λ inner ok hop above choices some. of-kind (r.reaches.1 inner ok hop above choices some);
+        least = λ n reaches. r.least n ([], λ inner ok hop above choices some. to-kind (reaches inner ok hop above choices some));
       }
 
   to-realizes : (list : List Container) (need : ℕ) → ListRealizes net intent list need → IsRealizing k list need
   to-realizes list need r =
       record {
-        reaches = λ inner ok hop above choices some. to-kind (r.reaches inner ok hop above choices some);
-        least = λ n reaches. r.least n (λ inner ok hop above choices some. of-kind (reaches inner ok hop above choices some));
+        reaches = ([], λ inner ok hop above choices some. to-kind (r.reaches inner ok hop above choices some));
+        least = λ n reaches. r.least n (λ inner ok hop above choices some. of-kind (reaches.1 inner ok hop above choices some));
       }
 
   executes-of : (list : List Container) (count : ℕ) → IsExecuting k list count → ListExecutes net intent list count
-  executes-of list count e = λ inner hop choices h. e inner hop choices (to-kind h)
+  executes-of list count e = λ inner hop choices h. e inner hop [] choices (to-kind h)
 
   to-handing : (list : List Container) (hop : ℕ) → ListHands net intent list hop → IsHanding k list hop
   to-handing list hop h =
-      record { positive = h.positive; inner = h.inner; always = λ choices some. to-kind (h.always choices some) }
+      record { positive = h.positive; inner = h.inner; marks = []; always = λ choices some. to-kind (h.always choices some) }
 
   -- the legs mean the lists that realize the intent
   pub legs-mean : Means (legs_value net intent) net (ListRealizes net intent) (ListExecutes net intent) (ListHands net intent)
@@ -149,7 +166,7 @@ module _ (net : Network) (intent : Intent) (network : IsNetwork net) (flat : IsF
               hops = path.hops;
               cost = path.cost;
               within = path.within;
-              whole = λ executes. path.whole (λ inner hop choices h. executes inner hop choices (of-kind h));
+              whole = λ executes. path.whole (λ inner hop marks choices h. executes inner hop choices (of-kind h));
             };
         handing = λ list hop legal hands. kind.handing list hop legal (to-handing list hop hands);
       }
@@ -174,7 +191,7 @@ module _ (net : Network) (intent : Intent) (network : IsNetwork net) (flat : IsF
         → (sids : List ℕ) × (need : ℕ) × IsPathAlong net intent list sids need × (need < hop)
         × ((choices : List ℕ) (some : 0 < length choices) → (always choices some).handed.sids ≡ sids)
     list-path inner hop positive always =
-        let p = any.list-path k AnyWay strict-kind_laws list legal inner hop positive (λ choices some. to-kind (always choices some)) in
+        let p = any.list-path k AnyWay strict-kind_laws list legal inner hop [] positive (λ choices some. to-kind (always choices some)) in
         let ns : List ℕ = p.first ∷ p.more in
         let last = p.last in
         let first = any.first-place k AnyWay strict-kind_laws list legal in (

@@ -9,13 +9,14 @@ use Rattle.walk_rules.specs.Treatment.{Gave, free_step_of as step_of}
 use Rattle.walk_rules.specs.Walk as walks
 use Rattle.walk_rules.specs.Walk.{free_walk_of as walk_of, next_place, choice_at}
 use Rattle.intent_reader.specs.declared.intent.Step.{Step}
-use Rattle.intent_reader.specs.declared.intent.Step.TheVariants.{Links, Function}
+use Rattle.intent_reader.specs.declared.intent.Step.TheVariants.{Links, Function, Reach}
 use Rattle.leg_table.specs.Tasks.{has_link}
 
--- a link is crossed as a step has it, and then the rest holds
+-- a link is crossed as a step has it, and then the rest holds; a step that reaches a node has no links of its own
 abbrev pub Crosses : Step → ℕ → Type 0 → Type 0
 Crosses (Links set) link Rest = IsTrue (has_link set link) × Rest
 Crosses (Function sid) link Rest = ⊥
+Crosses (Reach node) link Rest = ⊥
 
 -- a stage of the way: a packet that is sent crosses a link of the first step, with Rest of the others; an execution ends
 -- the way, where End has to hold; and the packet is not taken away before

@@ -1,12 +1,12 @@
 -- Laws of one leg and of one finish, for each kind of legs: what becomes of a packet on its way along a list, from one SID to the next.
-use Rattle.std.specs.Prelude.{◌≡◌, ℕ, ◌+◌, ◌-◌, ◌<◌, ◌≤◌, Bool, false, List, [], ◌∷◌, ◌++◌, drop, All, Option, Some, None, IsTrue}
+use Rattle.std.specs.Prelude.{◌≡◌, ℕ, ◌+◌, ◌-◌, ◌<◌, ◌≤◌, Bool, false, List, [], ◌∷◌, ◌++◌, All, Option, Some, None, IsTrue}
+use Rattle.std.specs.Option.{option_map}
 use Rattle.v6_addr.specs.Address.{PrefixValue}
 use Rattle.srv6_rules.specs.Packet.{Packet, read_as}
 use Rattle.net_model.specs.Network.{Network}
 use Rattle.net_model.specs.Rules.{IsNetwork}
 use Rattle.flat_networks.specs.Flat.{IsFlat}
 use Rattle.flat_networks.specs.Nests.{MayFollow}
-use Rattle.intent_reader.specs.declared.intent.Step.{Step}
 use Rattle.intent_reader.specs.declared.intent.Intent.{Intent}
 use Rattle.list_places.specs.Lists.{ListSid}
 use Rattle.list_places.specs.Places.{ListPlace, Tunnel, Along, active, behind_of, next_of}
@@ -16,21 +16,20 @@ use Rattle.list_pack.specs.Meaning.{AreSidsOf}
 use Rattle.list_pack.specs.Paths.{SuitsLists}
 use Rattle.list_pack.specs.Value.{LegsValue, IsVia, KeepsLaws}
 use Rattle.leg_table.specs.Nests.{PlaceKeeps}
-use Rattle.leg_table.specs.Tasks.{matches}
 use Rattle.leg_table.specs.Trace.{Event, Handed}
 
 -- a kind of legs: the steps and the network, what a search sees of the legs, the SIDs that may not be executed, and what is handed over of
 -- a packet that goes on after the SID that was executed last, or from the headend where none was: in so many stages, under a row of choices
--- from one of them on
+-- from one of them on. A trace that keeps to the steps from a position on leaves marks, which have to be the same for all choices; an
+-- execution of a SID leaves its own, with so many steps finished behind it
 pub record LegKind : Type 0 where
   pub net : Network
   pub intent : Intent
   pub legs : LegsValue
   pub barred : ℕ → Bool
   pub hand : ℕ → Option ℕ → Packet → (ℕ → ℕ) → ℕ → Option Handed
-
-abbrev pub steps_from : LegKind → ℕ → List Step
-steps_from k position = drop position k.intent.steps
+  pub kept : ℕ → List Event → Option (List ℕ)
+  pub mark : ℕ → ℕ → List ℕ
 
 -- a SID as lists know it
 abbrev pub prefix_in : LegKind → ℕ → PrefixValue
@@ -43,14 +42,17 @@ sid_in k n = list_sid k.net (prefix_in k n)
 abbrev pub HandsOver : LegKind → Option ℕ → Packet → (ℕ → ℕ) → ℕ → Handed → Type 0
 HandsOver k via p pick taken h = (fuel : ℕ) × (k.hand fuel via p pick taken ≡ Some h)
 
--- under every row of choices, along exactly these steps and by no SID that may not be executed
-abbrev pub AlwaysHands : LegKind → Option ℕ → Packet → List Step → Type 0
-AlwaysHands k via p ts =
-    (pick : ℕ → ℕ) → (h : Handed) × HandsOver k via p pick 0 h × IsTrue (matches ts h.trace) × All (λ n. k.barred n ≡ false) h.sids
+-- under every row of choices, along exactly the steps from a position on, with the same marks, and by no SID that may not be executed
+abbrev pub AlwaysHands : LegKind → Option ℕ → Packet → ℕ → Type 0
+AlwaysHands k via p position =
+    (marks : List ℕ) × ((pick : ℕ → ℕ) → (h : Handed) × HandsOver k via p pick 0 h × (k.kept position h.trace ≡ Some marks)
+    × All (λ n. k.barred n ≡ false) h.sids)
 
--- a trace that begins with these events meets the steps of a position exactly where its rest meets those of another
-abbrev pub Leads : LegKind → ℕ → List Event → ℕ → Type 0
-Leads k position events to = (more : List Event) → matches (steps_from k position) (events ++ more) ≡ matches (steps_from k to) more
+-- a trace that begins with these events keeps to the steps of a position exactly where its rest keeps to those of another, with the mark
+-- of a SID before those of the rest
+abbrev pub Leads : LegKind → ℕ → List Event → ℕ → ℕ → Type 0
+Leads k position events next to =
+    (more : List Event) → k.kept position (events ++ more) ≡ option_map (λ (marks : List ℕ). k.mark next to ++ marks) (k.kept to more)
 
 -- what is handed over, after the events up to the execution of a SID
 abbrev pub after_leg : List Event → ℕ → Handed → Handed
@@ -74,18 +76,18 @@ pub record IsTakenOn (k : LegKind) (t : Tunnel) (y : ListPlace) (position : ℕ)
   pub along : Along t y (hop - lowered) packet
   pub allowed : k.barred next ≡ false
   pub events : List Event
-  pub leads : Leads k position events leg.to
+  pub leads : Leads k position events next leg.to
   pub count : ℕ
   pub chosen : ℕ
   pub passes : (fuel : ℕ) (h : Handed) → k.hand fuel (Some next) packet pick chosen ≡ Some h
       → k.hand (count + fuel) via p pick taken ≡ Some (after_leg events next h)
 
--- a packet is handed over by SIDs that may be executed, along the steps from a position on: the packet inside
-pub record HandsBy (k : LegKind) (t : Tunnel) (position : ℕ) (via : Option ℕ) (p : Packet) (ns : List ℕ) (pick : ℕ → ℕ) (taken : ℕ)
+-- a packet is handed over by SIDs that may be executed, along the steps from a position on, with marks: the packet inside
+pub record HandsBy (k : LegKind) (t : Tunnel) (position : ℕ) (via : Option ℕ) (p : Packet) (ns marks : List ℕ) (pick : ℕ → ℕ) (taken : ℕ)
     : Type 0 where
   pub handed : Handed
   pub over : HandsOver k via p pick taken handed
-  pub meets : IsTrue (matches (steps_from k position) handed.trace)
+  pub meets : k.kept position handed.trace ≡ Some marks
   pub sids : handed.sids ≡ ns
   pub allowed : All (λ n. k.barred n ≡ false) handed.sids
   pub content : handed.content ≡ read_as t.inner t.bytes
@@ -113,7 +115,7 @@ pub data BecomesOf (k : LegKind) (Longest : Option ℕ → Packet → (ℕ → �
       → ((pick : ℕ → ℕ) (taken : ℕ) (h : Handed) → HandsOver k via p pick taken h → h.sids ≡ n ∷ [])
       → BecomesOf k Longest t x q position via hop p
   Moved : (n : ℕ) (leg : Leg) (y : ListPlace) (r : Packet) → k.legs.leg position via n ≡ Some leg → prefix_in k n ≡ q → leg.hops < hop
-      → next_of x ≡ Some y → Along t y (hop - leg.hops) r → AlwaysHands k (Some n) r (steps_from k leg.to)
+      → next_of x ≡ Some y → Along t y (hop - leg.hops) r → AlwaysHands k (Some n) r leg.to
       → ((pick : ℕ → ℕ) (taken : ℕ) (h : Handed) → Longest via p pick taken → HandsOver k via p pick taken h
       → (chosen : ℕ) × (g : Handed) × Longest (Some n) r pick chosen × HandsOver k (Some n) r pick chosen g × (h.sids ≡ n ∷ g.sids))
       → BecomesOf k Longest t x q position via hop p
@@ -125,7 +127,7 @@ pub record LegLaws (k : LegKind) (Longest : Option ℕ → Packet → (ℕ → �
       → IsTakenOn k t y position via next leg hop p pick taken
   pub finish_up : (x : ListPlace) (position : ℕ) (via : Option ℕ) (next lowered : ℕ) (hop : ℕ) (p : Packet) (pick : ℕ → ℕ) (taken : ℕ)
       → k.legs.finish position via next ≡ Some lowered → OnWay k t x hop p next → next_of x ≡ None → lowered < hop
-      → HandsBy k t position via p (next ∷ []) pick taken
+      → HandsBy k t position via p (next ∷ []) (k.mark next k.legs.steps) pick taken
   pub leg_over : (x y : ListPlace) (position : ℕ) (via : Option ℕ) (next : ℕ) (leg : Leg) (hop : ℕ) (p : Packet) (pick : ℕ → ℕ) (taken : ℕ)
       (h : Handed)
       → k.legs.leg position via next ≡ Some leg → OnWay k t x hop p next → next_of x ≡ Some y → HandsOver k via p pick taken h
@@ -136,7 +138,7 @@ pub record LegLaws (k : LegKind) (Longest : Option ℕ → Packet → (ℕ → �
       → (h.sids ≡ next ∷ []) × (Longest via p pick taken → 0 < hop → lowered < hop)
   pub down : (x : ListPlace) (q : PrefixValue) (position : ℕ) (via : Option ℕ) (hop : ℕ) (p : Packet)
       → position ≤ k.legs.steps → IsVia k.legs position via → Along t x hop p → PlaceKeeps k.net x → active x ≡ list_sid k.net q
-      → IsSidPrefix k.net q → 0 < hop → AlwaysHands k via p (steps_from k position) → BecomesOf k Longest t x q position via hop p
+      → IsSidPrefix k.net q → 0 < hop → AlwaysHands k via p position → BecomesOf k Longest t x q position via hop p
   -- each packet has a longest way
   pub some_longest : (via : Option ℕ) (p : Packet) → (pick : ℕ → ℕ) × Longest via p pick 0
 
@@ -150,5 +152,5 @@ pub record KindLaws (k : LegKind) (Longest : Option ℕ → Packet → (ℕ → 
   pub suits : SuitsLists k.legs (list_sid k.net) (MayFollow k.net)
   pub one : (t : Tunnel) → t.inner ≡ k.intent.inner → LegLaws k Longest t
   pub matter : Packet → ℕ
-  pub agree : (p : Packet) (pick other : ℕ → ℕ) (h : Handed) → ((d : ℕ) → d < matter p → pick d ≡ other d)
-      → HandsOver k None p pick 0 h → IsTrue (matches k.intent.steps h.trace) → HandsOver k None p other 0 h
+  pub agree : (p : Packet) (pick other : ℕ → ℕ) (h : Handed) (marks : List ℕ) → ((d : ℕ) → d < matter p → pick d ≡ other d)
+      → HandsOver k None p pick 0 h → k.kept 0 h.trace ≡ Some marks → HandsOver k None p other 0 h

@@ -11,7 +11,7 @@ use Rattle.walk_rules.specs.Walk as walks
 use Rattle.walk_rules.specs.Walk.{arrival}
 use Rattle.intent_reader.specs.Rules.{first_end}
 use Rattle.intent_reader.specs.declared.intent.Step.{Step}
-use Rattle.intent_reader.specs.declared.intent.Step.TheVariants.{Links, Function}
+use Rattle.intent_reader.specs.declared.intent.Step.TheVariants.{Links, Function, Reach}
 use Rattle.leg_table.specs.Tasks.{has_link}
 use Rattle.leg_table.specs.Choices.{Ends, seen_at}
 
@@ -34,6 +34,7 @@ more_lowered lower r = record { sid = r.sid; place = r.place; left = r.left; low
 abbrev pub all_in_step : Step → List ℕ → Bool
 all_in_step (Links step) set = list_all (has_link step) set
 all_in_step (Function sid) set = false
+all_in_step (Reach node) set = false
 
 -- the ride from the next place, if there is one
 abbrev pub ride_on : Option Place → (Place → Option Ride) → Option Ride

@@ -8,7 +8,7 @@ use Rattle.srv6_rules.specs.Policies.{inner_kind}
 use Rattle.net_model.specs.Network.{Network}
 use Rattle.intent_reader.specs.Rules.{stand_after, is_at}
 use Rattle.intent_reader.specs.declared.intent.Step.{Step}
-use Rattle.intent_reader.specs.declared.intent.Step.TheVariants.{Links, Function}
+use Rattle.intent_reader.specs.declared.intent.Step.TheVariants.{Links, Function, Reach}
 use Rattle.intent_reader.specs.declared.intent.Intent.{Intent}
 
 -- a SID that binds a policy puts another header in front; lists take none (own rule)
@@ -76,6 +76,7 @@ abbrev pub is_function_of : ℕ → Option Step → Bool
 is_function_of n None = false
 is_function_of n (Some (Links set)) = false
 is_function_of n (Some (Function sid)) = sid == n
+is_function_of n (Some (Reach node)) = false
 
 -- a SID without a title, or one whose title is that of the step's function
 abbrev pub title_suits : ℕ → Option Step → Option ℕ → Bool

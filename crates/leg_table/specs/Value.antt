@@ -1,5 +1,5 @@
 -- What the table of an intent's legs is to a search, and what becomes of packets on them.
-use Rattle.std.specs.Prelude.{ℕ, length, Option}
+use Rattle.std.specs.Prelude.{ℕ, if◌then◌else◌, List, [], drop, length, Option, Some, None}
 use Rattle.srv6_rules.specs.Packet.{Packet, V6}
 use Rattle.list_pack.specs.Value.{LegsValue}
 use Rattle.net_model.specs.Network.{Network}
@@ -10,7 +10,8 @@ use Rattle.leg_table.specs.Leg.{place_from, leg_of, finish_of}
 use Rattle.leg_table.specs.Nests.{stays_of}
 use Rattle.leg_table.specs.OneLeg.{LegKind}
 use Rattle.leg_table.specs.Table.{shape_of, node_of}
-use Rattle.leg_table.specs.Trace.{Handed, handed_over}
+use Rattle.leg_table.specs.Tasks.{matches}
+use Rattle.leg_table.specs.Trace.{Event, Handed, handed_over}
 
 abbrev pub legs_value : Network → Intent → LegsValue
 legs_value net intent =
@@ -28,6 +29,13 @@ legs_value net intent =
 abbrev pub strict_hand : Network → Intent → ℕ → Option ℕ → Packet → (ℕ → ℕ) → ℕ → Option Handed
 strict_hand net intent fuel via p pick taken = handed_over net (walk_of fuel net (place_from net intent via) (V6 p) pick taken)
 
+-- a trace that meets the steps from a position on, one event each, leaves no marks
+abbrev pub strict_kept : Intent → ℕ → List Event → Option (List ℕ)
+strict_kept intent position es = if matches (drop position intent.steps) es then Some [] else None
+
+abbrev pub no_mark : ℕ → ℕ → List ℕ
+no_mark n to = []
+
 abbrev pub strict_kind : Network → Intent → LegKind
 strict_kind net intent =
     record {
@@ -36,6 +44,8 @@ strict_kind net intent =
       legs = legs_value net intent;
       barred = is_binding net;
       hand = strict_hand net intent;
+      kept = strict_kept intent;
+      mark = no_mark;
     }
 
 -- all ways of a leg are as long

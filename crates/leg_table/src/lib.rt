@@ -31,4 +31,4 @@ pub use laws::{
     what_is_handed_over_has_its_trace,
 };
 pub use step_links::{Behind, all_in_step, first_end};
-pub use strict_legs::{StrictLegs, is_last, lowered_at_the_end};
+pub use strict_legs::{StrictLegs, is_last, is_middle, lowered_at_the_end, place_behind};

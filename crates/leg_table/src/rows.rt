@@ -23,7 +23,7 @@ fn is_function_at(steps: &[Step], position: u32, n: u32) -> bool
         return false;
     }
     match &steps[position as usize - 1] {
-        Step::Links(_) => false,
+        Step::Links(_) | Step::Reach(_) => false,
         Step::Function(sid) => *sid == n,
     }
 }
@@ -104,6 +104,7 @@ pub fn node_behind(net: &Net, node: u32, step: &Step) -> u32
             None => node,
         },
         Step::Function(_) => node,
+        Step::Reach(reached) => *reached,
     }
 }
 

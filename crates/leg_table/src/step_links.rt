@@ -17,7 +17,7 @@ pub fn all_in_step(step: &Step, set: &[u32]) -> bool
 {
     match step {
         Step::Links(links) => all_among(links.as_slice(), set),
-        Step::Function(_) => false,
+        Step::Function(_) | Step::Reach(_) => false,
     }
 }
 

@@ -355,22 +355,23 @@ fn hands_over(sid: &SidEntry, family: Family) -> bool
     })
 }
 
-/// from a SID the packet goes on to a next segment
-fn is_middle(net: &Net, n: u32) -> bool
+/// Whether there is a SID with this number from which the packet goes on to a next segment, after no
+/// further header. (own rule)
+pub fn is_middle(net: &Net, n: u32) -> bool
     ensures { result ≡ sids.is_middle net.now n }
 {
     n < net.sids() && takes_step(net.sid(n))
 }
 
-/// Whether a SID exposes a packet of a family inside. (own rule)
+/// Whether there is a SID with this number that exposes a packet of a family inside. (own rule)
 pub fn is_last(net: &Net, family: Family, n: u32) -> bool
     ensures { result ≡ sids.is_last net.now family n }
 {
     n < net.sids() && hands_over(net.sid(n), family)
 }
 
-/// where the packet stands after the execution of a middle SID
-fn place_behind(net: &Net, v: u32) -> Option<Place>
+/// Where the packet stands after the execution of a middle SID: none after any other. (own rule)
+pub fn place_behind(net: &Net, v: u32) -> Option<Place>
     ensures { result ≡ legs.middle_place net.now v }
 {
     if !is_middle(net, v) {

@@ -29,20 +29,26 @@ links_at p t = do
   names ← needed (list_in MAX_LINKS_OF_SET name_in) p t keys.Links
   some_of p keys.Links names
 
--- a step by what stands at `links` and at `function`: links where no function stands, and never both
-abbrev pub step_by : FaultPlace → Members → Option Data → Option Data → Result DescribedStep TextFault
-step_by p t links None = do
+-- a step by what stands at `links`, at `function` and at `reach`: links where none of the others stands, and never two of them
+abbrev pub step_by : FaultPlace → Members → Option Data → Option Data → Option Data → Result DescribedStep TextFault
+step_by p t links None None = do
   names ← links_at p t
   Ok (steps.Links names)
-step_by p t None (Some function) = do
+step_by p t None (Some function) None = do
   title ← needed name_in p t keys.Function
   Ok (steps.Function title)
-step_by p t (Some links) (Some function) = Err (fault_at p kinds.UnknownKey)
+step_by p t None None (Some reach) = do
+  node ← needed name_in p t keys.Reach
+  Ok (steps.Reach node)
+step_by p t (Some links) (Some function) reach = Err (fault_at p kinds.UnknownKey)
+step_by p t (Some links) None (Some reach) = Err (fault_at p kinds.UnknownKey)
+step_by p t None (Some function) (Some reach) = Err (fault_at p kinds.UnknownKey)
 
 abbrev pub step_of : FaultPlace → Members → Result DescribedStep TextFault
 step_of p t = do
-  known ← only (keys.Links ∷ keys.Function ∷ []) p t
+  known ← only (keys.Links ∷ keys.Function ∷ keys.Reach ∷ []) p t
   step_by p known (get_member (key_text keys.Links) known) (get_member (key_text keys.Function) known)
+      (get_member (key_text keys.Reach) known)
 
 -- the whole
 abbrev pub intent_place : FaultPlace

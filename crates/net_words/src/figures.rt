@@ -2,10 +2,11 @@
 //! function that does nothing.
 
 ghost use Rattle.std.specs.Prelude.{◌≡◌};
-ghost use Rattle.net_words.specs.declared.limits.TheConstants.{MAX_STEPS, MAX_CONTAINERS, DEFAULT_CONTAINERS};
+ghost use Rattle.net_words.specs.declared.limits.TheConstants.{MAX_STEPS, MAX_CONTAINERS, MAX_LOOSE_SIDS, DEFAULT_CONTAINERS};
 
 /// An intent has at most 48 steps, and its list at most 127 containers, or 10 where it gives no
-/// other number. (own rules)
+/// other number; with a step that reaches a node it is for at most 128 SIDs. (own rules)
 pub fn limits_have_their_figures()
-    ensures { (MAX_STEPS ≡ 48) × (MAX_CONTAINERS ≡ 127) × (DEFAULT_CONTAINERS ≡ 10) }
+    ensures { (MAX_STEPS ≡ 48) × (MAX_CONTAINERS ≡ 127) × (DEFAULT_CONTAINERS ≡ 10)
+        × (MAX_LOOSE_SIDS ≡ 128) }
 {}

@@ -25,7 +25,7 @@ pub use block::DescribedBlock;
 pub use description::{Description, describe, read_description};
 pub use family_prefix::FamilyPrefix;
 pub use intent::{DescribedIntent, Mode, describe_intent, read_intent_words};
-pub use limits::{DEFAULT_CONTAINERS, MAX_CONTAINERS, MAX_STEPS};
+pub use limits::{DEFAULT_CONTAINERS, MAX_CONTAINERS, MAX_LOOSE_SIDS, MAX_STEPS};
 pub use link::DescribedLink;
 pub use node::DescribedNode;
 pub use policy::DescribedPolicy;

@@ -5,6 +5,9 @@ use srv6_rules::numbers::MAX_SEGMENTS;
 /// Steps of an intent; it has at least one (own rule).
 pub const MAX_STEPS: usize = 48;
 
+/// The most SIDs that a description has for an intent with a step that reaches a node (own rule).
+pub const MAX_LOOSE_SIDS: u32 = 128;
+
 /// The most that an intent may give as the most containers of its list; the least is 1 (own rule).
 pub const MAX_CONTAINERS: u32 = MAX_SEGMENTS as u32;
 

@@ -24,6 +24,8 @@ pub enum DescribedStep {
     Links(Seq<Name>),
     /// The SID with this title is executed.
     Function(Name),
+    /// Any links are crossed, up to the first arrival at the node with this name.
+    Reach(Name),
 }
 
 /// The links of a step: `Limit` where there is none or more than 64.
@@ -47,16 +49,27 @@ impl Describes<DescribedStep> for StepTables {
     ghost of = { step_of };
 
     fn read(alloc: Global, table: &Table, place: FaultPlace) -> Result<DescribedStep, NetFault> {
-        only(table, &[Key::Links, Key::Function], place)?;
-        if value_at(table, Key::Function).is_none() {
-            let links = links_at(alloc, table, place)?;
-            return Ok(DescribedStep::Links(links));
+        only(table, &[Key::Links, Key::Function, Key::Reach], place)?;
+        let links = value_at(table, Key::Links).is_some();
+        let function = value_at(table, Key::Function).is_some();
+        let reach = value_at(table, Key::Reach).is_some();
+        match (links, function, reach) {
+            (true, true, _) | (true, _, true) | (_, true, true) => {
+                Err(OrNoMemory::Fault(place.fault(FaultKind::UnknownKey)))
+            }
+            (_, true, false) => {
+                let title = needed::<Name>(alloc, table, place, Key::Function)?;
+                Ok(DescribedStep::Function(title))
+            }
+            (_, false, true) => {
+                let node = needed::<Name>(alloc, table, place, Key::Reach)?;
+                Ok(DescribedStep::Reach(node))
+            }
+            (_, false, false) => {
+                let links = links_at(alloc, table, place)?;
+                Ok(DescribedStep::Links(links))
+            }
         }
-        if value_at(table, Key::Links).is_some() {
-            return Err(OrNoMemory::Fault(place.fault(FaultKind::UnknownKey)));
-        }
-        let title = needed::<Name>(alloc, table, place, Key::Function)?;
-        Ok(DescribedStep::Function(title))
     }
 }
 

@@ -96,6 +96,8 @@ pub enum Key {
     MaxContainers,
     /// The title of a step's function.
     Function,
+    /// The name of the node that a step reaches.
+    Reach,
 }
 
 /// Where a fault is (own rule).

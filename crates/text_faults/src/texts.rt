@@ -70,6 +70,7 @@ impl Key {
             Key::Mode => "mode",
             Key::MaxContainers => "max_containers",
             Key::Function => "function",
+            Key::Reach => "reach",
         }
     }
 }

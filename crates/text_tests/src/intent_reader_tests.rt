@@ -128,14 +128,21 @@ fn joined(alloc: Global, first: &str, second: &str) -> Result<Vec<u8>, Fail> {
 fn crosses(step: &Step, links: &[u32]) -> bool {
     match step {
         Step::Links(set) => set.as_slice() == links,
-        Step::Function(_) => false,
+        Step::Function(_) | Step::Reach(_) => false,
     }
 }
 
 fn executes(step: &Step, sid: u32) -> bool {
     match step {
-        Step::Links(_) => false,
+        Step::Links(_) | Step::Reach(_) => false,
         Step::Function(number) => *number == sid,
+    }
+}
+
+fn reaches(step: &Step, node: u32) -> bool {
+    match step {
+        Step::Links(_) | Step::Function(_) => false,
+        Step::Reach(number) => *number == node,
     }
 }
 
@@ -197,6 +204,20 @@ fn reads_the_numbers_that_are_given(rt: HostRuntime) -> Result<(), Fail> {
     assert_eq!(rt; intent.traffic_class, 255);
     assert_eq!(rt; intent.flow_label, 1_048_575);
     assert!(rt; matches!(intent.steps.as_slice(), [only] if executes(only, 1)));
+    Ok(())
+}
+
+#[test]
+fn reads_a_step_that_reaches_a_node(rt: HostRuntime) -> Result<(), Fail> {
+    let net = four_nodes(&rt, rt.alloc())?;
+    let steps = r#"step = [{ reach = "C" }, { links = ["cd"] }, { function = "vpn" }]"#;
+    let text = joined(rt.alloc(), FROM_A, steps)?;
+    let intent = read_intent(rt.alloc(), text.as_slice(), &net)?;
+    assert!(rt; is_intent(&net, &intent));
+    assert!(rt;
+        matches!(intent.steps.as_slice(), [first, second, third]
+        if reaches(first, 2) && crosses(second, &[3]) && executes(third, 1))
+    );
     Ok(())
 }
 
@@ -285,8 +306,25 @@ fn gives_the_first_fault(rt: HostRuntime) -> Result<(), Fail> {
             StepFault::NoFunction.at(2),
         ),
         (
+            // no node is Z; no link is zz
+            FROM_A,
+            r#"step = [{ reach = "Z" }, { links = ["zz"] }]"#,
+            StepFault::UnknownName.at(1),
+        ),
+        (
+            // the walk stands at B already; no link is zz
+            FROM_A,
+            r#"step = [{ links = ["ab"] }, { reach = "B" }, { links = ["zz"] }]"#,
+            StepFault::Broken.at(2),
+        ),
+        (
             FROM_A,
             r#"step = [{ links = ["ab"] }]"#,
+            IntentFault::NotFunctionLast,
+        ),
+        (
+            FROM_A,
+            r#"step = [{ reach = "D" }]"#,
             IntentFault::NotFunctionLast,
         ),
     ] {

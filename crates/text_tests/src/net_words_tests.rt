@@ -74,6 +74,9 @@ hop_limit = 255
 links = ["ab"]
 
 [[step]]
+reach = "C"
+
+[[step]]
 function = "mark"
 "#;
 
@@ -162,14 +165,21 @@ fn reads_a_description(rt: HostRuntime) -> Result<(), Fail> {
 fn crosses(step: &DescribedStep, text: &[u8]) -> bool {
     match step {
         DescribedStep::Links(names) => is_only(names.as_slice(), text),
-        DescribedStep::Function(_) => false,
+        DescribedStep::Function(_) | DescribedStep::Reach(_) => false,
     }
 }
 
 fn executes(step: &DescribedStep, text: &[u8]) -> bool {
     match step {
-        DescribedStep::Links(_) => false,
+        DescribedStep::Links(_) | DescribedStep::Reach(_) => false,
         DescribedStep::Function(title) => title.as_bytes() == text,
+    }
+}
+
+fn reaches(step: &DescribedStep, text: &[u8]) -> bool {
+    match step {
+        DescribedStep::Links(_) | DescribedStep::Function(_) => false,
+        DescribedStep::Reach(node) => node.as_bytes() == text,
     }
 }
 
@@ -178,9 +188,10 @@ fn expect_intent(rt: &impl Abort, said: &DescribedIntent) {
     assert_eq!(rt; (said.inner, said.mode), (Family::V4, Mode::Reduced));
     assert_eq!(rt; (said.hop_limit, said.max_containers), (255, 10));
     let steps = said.steps.as_slice();
-    assert_eq!(rt; steps.len(), 2);
+    assert_eq!(rt; steps.len(), 3);
     assert!(rt; crosses(&steps[0], b"ab"));
-    assert!(rt; executes(&steps[1], b"mark"));
+    assert!(rt; reaches(&steps[1], b"C"));
+    assert!(rt; executes(&steps[2], b"mark"));
 }
 
 #[test]
