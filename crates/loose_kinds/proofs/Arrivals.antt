@@ -1,0 +1,161 @@
+-- Where a packet at a place of a list comes by the way to the next SID.
+use Rattle.std.proofs.Common.{◌≡◌, ℕ, ◌+◌, ◌-◌, ◌*◌, ◌/◌, ◌%◌, ◌<◌, ◌≤◌, List, take, drop, length, Option, Some, slice_get, refl, sym, ◌∙◌, ap, subst, arith, length-append}
+use Rattle.std.proofs.lemmas.List.{take-append-drop}
+use Rattle.srv6_rules.specs.declared.sid.Family.TheVariants as families
+use Rattle.srv6_rules.specs.declared.sid.SidEntry.{SidEntry}
+use Rattle.srv6_rules.specs.Packet.{Packet, V6}
+use Rattle.net_model.specs.Network.{Network}
+use Rattle.net_model.specs.Keeps.{Keeps}
+use Rattle.walk_rules.specs.declared.place.Place.{Place}
+use Rattle.walk_rules.specs.Walk.{free_walk_of}
+use Rattle.walk_rules.specs.Way.{Into, way_of}
+use Rattle.intent_reader.specs.declared.intent.Intent.{Intent}
+use Rattle.list_places.specs.Places as lists
+use Rattle.list_places.specs.Places.{Along, StandsOn, Tunnel, active}
+use Rattle.list_places.proofs.PublicLaws.{along-hop, along-sent}
+use Rattle.list_pack.specs.SidLists.{list_sid}
+use Rattle.step_traces.specs.declared.steps.Step.{Step}
+use Rattle.loose_graph.specs.declared.spots.Found.{Found}
+use Rattle.loose_graph.specs.Finding.{found_from}
+use Rattle.loose_ways.specs.Graphs.{IsLeft, found_in, graph_in, numbers_of, start_at}
+use Rattle.leg_table.specs.Leg.{place_from}
+use Rattle.leg_table.specs.Nests.{PlaceKeeps}
+use Rattle.leg_table.specs.OneLeg.{HandsOver, LegKind, OnWay}
+use Rattle.leg_table.specs.Ride.{with_hop_limit}
+use Rattle.leg_table.specs.Sids.{prefix_at, prefix_by, sid_address}
+use Rattle.leg_table.specs.Trace.{Handed}
+use Rattle.leg_table.proofs.FlatNets.{FlatFacts}
+use Rattle.leg_table.proofs.ListPlaces.{address-at}
+use Rattle.leg_table.proofs.Options.{map-some}
+use Rattle.leg_table.proofs.PathNames.{shape-prefix}
+use Rattle.loose_meanings.specs.Legs.{left_after}
+use Rattle.loose_meanings.specs.Steps.{AreSteps, steps_left}
+use Rattle.loose_meanings.proofs.Always.{left-is}
+use Rattle.loose_meanings.proofs.Meaning as meaning
+use Rattle.loose_meanings.proofs.Meaning.{start-at}
+use Rattle.loose_meanings.proofs.Sames.{address-alike, found-same}
+use Rattle.loose_kinds.specs.Kind.{hand_of, loose_kind}
+use Rattle.loose_kinds.proofs.Courses.{Course, Passes, course}
+use Rattle.loose_kinds.proofs.Tight.{Tight, tight}
+use Rattle.loose_kinds.proofs.Stages.{Hands, behind_links, hand-more}
+
+-- an answer told apart
+answer-parts : (answer sid left next : ℕ) → answer ≡ sid * 64 + left → left ≤ 48 → answer / 64 ≡ next → (sid ≡ next) × (answer % 64 ≡ left)
+answer-parts answer sid left next is few same = (omega (arith, is, few, same), omega (arith, is, few))
+
+module _ (net : Network) (keeps : Keeps net) (facts : FlatFacts net) (intent : Intent) (steps : List Step) (are : AreSteps net intent steps)
+    (tunnel : Tunnel) where
+  abbrev k : LegKind
+  k = loose_kind net intent steps
+
+  pub to-sid : (x : lists.ListPlace) (hop : ℕ) (p : Packet) (next : ℕ) → OnWay k tunnel x hop p next
+      → active x ≡ list_sid net (prefix_at net next)
+  to-sid x hop p next on = on.to ∙ ap (list_sid net) (shape-prefix net next)
+
+  few-left : (us : List Step) → IsLeft steps us → length us ≤ 48
+  few-left us left =
+      let long : length steps ≡ length left.0 + length us = ap length left.1 ∙ length-append left.0 us in
+      let few = are.few in
+      omega (arith, long, few)
+
+  from-position : (position : ℕ) (place : Place) (a : ℕ) (f : Found) → position ≤ length steps
+      → found_in net a steps (length steps - position) place ≡ Some f
+      → found_from (graph_in net a steps) (start_at net (numbers_of net (length steps)) (drop position steps) place a) ≡ Some f
+  from-position position place a f within found =
+      let n : length steps - (length steps - position) ≡ position = omega (arith, within) in
+      ap (λ (m : ℕ). found_from (graph_in net a steps) (start_at net (numbers_of net (length steps)) (drop m steps) place a)) (sym n)
+      ∙ found
+
+  rest-of : (position : ℕ) → IsLeft steps (drop position steps)
+  rest-of position = (take position steps, sym (take-append-drop position steps))
+
+  -- what is found for the first address of the next SID is found for a packet at a place of that SID
+  pub start-found : (position : ℕ) (via : Option ℕ) (next : ℕ) (x : lists.ListPlace) (hop : ℕ) (p : Packet)
+      (w : meaning.Way net keeps intent steps are position via next)
+      → (s : SidEntry) → slice_get net.sids next ≡ Some s → active x ≡ list_sid net (prefix_at net next) → Along tunnel x hop p
+      → PlaceKeeps net x
+      → (w.place.family ≡ families.V6)
+      × (found_from (graph_in net p.destination steps)
+      (start_at net (numbers_of net (length steps)) (drop position steps) w.place p.destination) ≡ Some w.found)
+  start-found position via next x hop p w s there is along nests =
+      let same : active x ≡ list_sid net s.prefix = is ∙ ap (λ (o : Option SidEntry). list_sid net (prefix_by o)) there in
+      let to = address-at net keeps facts tunnel x hop p next s along nests there same in
+      let alike = address-alike net facts next s there p.destination to in
+      let start = start-at net keeps intent steps are position via w.place w.start w.from in
+      let found =
+      found-same net p.destination (sid_address net next) alike steps (length steps - position) w.place start.family ∙ w.there in
+      (start.family, from-position position w.place p.destination w.found start.within found)
+
+  -- the way of a packet that passes from there
+  abbrev pub WayOf : (position : ℕ) (via : Option ℕ) (next : ℕ) (p : Packet) (w : meaning.Way net keeps intent steps are position via next)
+      (pick : ℕ → ℕ) (taken : ℕ) → Type 0
+  WayOf position via next p w pick taken = Course net p.destination steps (drop position steps) w.place p pick taken w.found
+
+  pub way-of : (position : ℕ) (via : Option ℕ) (next : ℕ) (x : lists.ListPlace) (hop : ℕ) (p : Packet)
+      (w : meaning.Way net keeps intent steps are position via next) (pick : ℕ → ℕ) (taken : ℕ)
+      → (s : SidEntry) → slice_get net.sids next ≡ Some s → active x ≡ list_sid net (prefix_at net next) → Along tunnel x hop p
+      → PlaceKeeps net x → Passes net w.place p pick taken w.found → WayOf position via next p w pick taken
+  way-of position via next x hop p w pick taken s there is along nests passes =
+      let found = start-found position via next x hop p w s there is along nests in
+      course net keeps p.destination steps (drop position steps) (rest-of position) w.place found.0 p refl pick taken w.found found.1 passes
+
+  -- one by the greatest number, behind which any choices may follow
+  pub tight-way : (position : ℕ) (via : Option ℕ) (next : ℕ) (x : lists.ListPlace) (hop : ℕ) (p : Packet)
+      (w : meaning.Way net keeps intent steps are position via next)
+      → (s : SidEntry) → slice_get net.sids next ≡ Some s → active x ≡ list_sid net (prefix_at net next) → Along tunnel x hop p
+      → PlaceKeeps net x → w.found.most < p.hop_limit → (rest : ℕ → ℕ)
+      → Tight net p.destination steps (drop position steps) w.place p w.found rest
+  tight-way position via next x hop p w s there is along nests high rest =
+      let found = start-found position via next x hop p w s there is along nests in
+      tight net keeps p.destination steps (drop position steps) (rest-of position) w.place found.0 p refl w.found found.1 high rest
+
+  -- by its way the packet comes to the next SID, whose place in the list it stands at
+  pub record ComesAt (position : ℕ) (via : Option ℕ) (next : ℕ) (x : lists.ListPlace) (hop : ℕ) (p : Packet)
+      (w : meaning.Way net keeps intent steps are position via next) (pick : ℕ → ℕ) (taken : ℕ) (c : WayOf position via next p w pick taken)
+      : Type 0 where
+    pub into : way_of net c.stop p.destination ≡ Into next
+    pub behind : left_after net next c.left ≡ Some w.left
+    pub on : (s : SidEntry) → slice_get net.sids next ≡ Some s → StandsOn s (active x)
+    pub along : Along tunnel x (hop - c.lowered) (with_hop_limit (p.hop_limit - c.lowered) p)
+    pub hop_limit : p.hop_limit ≡ hop
+
+  pub comes-at : (position : ℕ) (via : Option ℕ) (next : ℕ) (x : lists.ListPlace) (hop : ℕ) (p : Packet)
+      (w : meaning.Way net keeps intent steps are position via next) (pick : ℕ → ℕ) (taken : ℕ)
+      → active x ≡ list_sid net (prefix_at net next) → Along tunnel x hop p → (c : WayOf position via next p w pick taken)
+      → ComesAt position via next x hop p w pick taken c
+  comes-at position via next x hop p w pick taken is along c =
+      let parts = answer-parts w.found.answer c.sid (length c.left) next c.answer (few-left c.left c.is_left) w.sid in
+      let limit = along-hop tunnel x hop p along in
+      record {
+        into = c.into ∙ ap Into parts.0;
+        behind = ap (left_after net next) (sym (ap (steps_left steps) parts.1 ∙ left-is steps c.left c.is_left)) ∙ w.behind;
+        on = λ u at.
+            subst (StandsOn u) (sym (is ∙ ap (λ (o : Option SidEntry). list_sid net (prefix_by o)) at)) (facts.suits.stands next u at);
+        along =
+            subst (λ (h : ℕ). Along tunnel x h (with_hop_limit (p.hop_limit - c.lowered) p)) (ap (λ (h : ℕ). h - c.lowered) limit)
+            (along-sent tunnel x hop (p.hop_limit - c.lowered) p along);
+        hop_limit = limit;
+      }
+
+  -- a walk that hands over, from the place where the packet goes on
+  pub from-place : (via : Option ℕ) (p : Packet) (pick : ℕ → ℕ) (taken : ℕ) (h : Handed) (place : Place)
+      → place_from net intent via ≡ Some place → HandsOver k via p pick taken h → Hands net place (V6 p) pick taken h
+  from-place via p pick taken h place from over = (
+    over.0,
+    sym (ap (λ (o : Option Place). hand_of net (free_walk_of over.0 net o (V6 p) pick taken)) from) ∙ over.1,
+  )
+
+  pub over-place : (via : Option ℕ) (p : Packet) (pick : ℕ → ℕ) (taken : ℕ) (h : Handed) (place : Place)
+      → place_from net intent via ≡ Some place → Hands net place (V6 p) pick taken h → HandsOver k via p pick taken h
+  over-place via p pick taken h place from hands =
+      (hands.0, ap (λ (o : Option Place). hand_of net (free_walk_of hands.0 net o (V6 p) pick taken)) from ∙ hands.1)
+
+-- what is handed over of a packet on its course is handed over from where it comes to the SID
+pub course-over : (net : Network) (a : ℕ) (steps ts : List Step) (place : Place) (p : Packet) (pick : ℕ → ℕ) (taken : ℕ) (f : Found)
+    → (c : Course net a steps ts place p pick taken f) → (h : Handed) → Hands net place (V6 p) pick taken h
+    → (g : Handed) × Hands net c.stop (V6 (with_hop_limit (p.hop_limit - c.lowered) p)) pick (taken + length c.links) g
+    × (behind_links c.links g ≡ h)
+course-over net a steps ts place p pick taken f c h hands =
+    let more = hand-more net hands.0 (length c.links + hands.0) (omega arith) (Some place) (V6 p) pick taken h hands.1 in
+    let got = map-some (behind_links c.links) _ h (sym (c.hands hands.0) ∙ more) in
+    (got.0, (hands.0, got.1), got.2)

@@ -1,0 +1,10 @@
+pub mod Behind
+pub mod Stages
+pub mod Courses
+pub mod Choosing
+pub mod Agreeing
+pub mod Tight
+pub mod Arrivals
+pub mod Over
+pub mod Together
+pub mod PublicLaws

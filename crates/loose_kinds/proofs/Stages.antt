@@ -1,0 +1,146 @@
+-- What walks hand over of a packet, and whether they are longest, by their first stages.
+use Rattle.std.proofs.Common.{◌≡◌, ℕ, zero, suc, ◌+◌, ◌≤◌, Bool, true, false, if◌then◌else◌, List, [], ◌∷◌, ◌++◌, map, Option, Some, None, refl, sym, ◌∙◌, ap, subst, arith}
+use Rattle.std.specs.Option.{option_map}
+use Rattle.std.proofs.lemmas.List.Elements.{All-cons, All-head, All-nil, All-tail}
+use Rattle.srv6_rules.specs.Packet.{Content}
+use Rattle.net_model.specs.Network.{Network}
+use Rattle.walk_rules.specs.declared.place.Place.{Place}
+use Rattle.walk_rules.specs.declared.place.Outcome.{Outcome}
+use Rattle.walk_rules.specs.declared.place.Outcome.TheVariants as outcomes
+use Rattle.walk_rules.specs.Treatment.{Gave, free_step_of}
+use Rattle.walk_rules.specs.Walk.{Stage, decisions, free_walk_of, next_place, walk_by}
+use Rattle.leg_table.specs.Sids.{is_binding}
+use Rattle.leg_table.specs.Trace.{Crossed, Handed}
+use Rattle.leg_table.proofs.Options.{map-some}
+use Rattle.loose_kinds.specs.Kind.{behind_event, behind_execution, hand_first, hand_of}
+use Rattle.loose_kinds.specs.Longest.{AreLongest, TakesMost}
+
+-- what is handed over behind links
+abbrev pub behind_links : List ℕ → Handed → Handed
+behind_links links h = record { trace = map (λ (link : ℕ). Crossed link) links ++ h.trace; sids = h.sids; content = h.content }
+
+pub behind-none : (o : Option Handed) → option_map (behind_links []) o ≡ o
+behind-none None = refl
+behind-none (Some h) = refl
+
+pub behind-one : (link : ℕ) (links : List ℕ) (o : Option Handed)
+    → option_map (behind_event (Crossed link)) (option_map (behind_links links) o) ≡ option_map (behind_links (link ∷ links)) o
+behind-one link links None = refl
+behind-one link links (Some h) = refl
+
+module _ (net : Network) where
+  -- what stands behind a first stage
+  abbrev pub rest_of : ℕ → Place → (ℕ → ℕ) → ℕ → Gave → List Stage
+  rest_of more place pick taken gave =
+      free_walk_of more net (next_place net place gave.outcome) gave.after pick (taken + decisions gave.outcome)
+
+  pub walk-stage : (more : ℕ) (place : Place) (content : Content) (pick : ℕ → ℕ) (taken : ℕ) (gave : Gave)
+      → free_step_of net place content (pick taken) ≡ gave
+      → free_walk_of (suc more) net (Some place) content pick taken
+      ≡ record { place = place; before = content; gave = gave } ∷ rest_of more place pick taken gave
+  unfolding walk_by
+  walk-stage more place content pick taken gave e =
+      ap (λ (g : Gave). record { place = place; before = content; gave = g } ∷ rest_of more place pick taken g) e
+
+  pub walk-none : (fuel : ℕ) (content : Content) (pick : ℕ → ℕ) (taken : ℕ) → free_walk_of fuel net None content pick taken ≡ []
+  unfolding walk_by
+  walk-none zero content pick taken = refl
+  walk-none (suc fuel) content pick taken = refl
+
+  pub walk-zero : (o : Option Place) (content : Content) (pick : ℕ → ℕ) (taken : ℕ) → free_walk_of zero net o content pick taken ≡ []
+  unfolding walk_by
+  walk-zero o content pick taken = refl
+
+  pub hand-stage : (more : ℕ) (place : Place) (content : Content) (pick : ℕ → ℕ) (taken : ℕ) (gave : Gave)
+      → free_step_of net place content (pick taken) ≡ gave
+      → hand_of net (free_walk_of (suc more) net (Some place) content pick taken)
+      ≡ hand_first net gave gave.outcome (hand_of net (rest_of more place pick taken gave))
+  hand-stage more place content pick taken gave e = ap (hand_of net) (walk-stage more place content pick taken gave e)
+
+  -- a walk that hands over
+  abbrev pub Hands : Place → Content → (ℕ → ℕ) → ℕ → Handed → Type 0
+  Hands place content pick taken h = (fuel : ℕ) × (hand_of net (free_walk_of fuel net (Some place) content pick taken) ≡ Some h)
+
+  -- hands over by its first stage
+  pub first-hands : (place : Place) (content : Content) (pick : ℕ → ℕ) (taken : ℕ) (h : Handed) (gave : Gave)
+      → free_step_of net place content (pick taken) ≡ gave → Hands place content pick taken h
+      → (more : ℕ) × (hand_first net gave gave.outcome (hand_of net (rest_of more place pick taken gave)) ≡ Some h)
+  first-hands place content pick taken h gave gives hands = by_fuel hands.0 hands.1
+    where
+      by_fuel : (fuel : ℕ) → hand_of net (free_walk_of fuel net (Some place) content pick taken) ≡ Some h
+          → (more : ℕ) × (hand_first net gave gave.outcome (hand_of net (rest_of more place pick taken gave)) ≡ Some h)
+      by_fuel zero e =
+          let none : None ≡ Some h = sym (ap (hand_of net) (walk-zero (Some place) content pick taken)) ∙ e in absurd (cc)
+      by_fuel (suc more) e = (more, sym (hand-stage more place content pick taken gave gives) ∙ e)
+
+  -- nothing is handed over after a stage that drops
+  pub none-dropped : (place : Place) (content : Content) (pick : ℕ → ℕ) (taken : ℕ) (h : Handed) (gave : Gave)
+      → free_step_of net place content (pick taken) ≡ gave → ((later : Option Handed) → hand_first net gave gave.outcome later ≡ None)
+      → Hands place content pick taken h → ⊥
+  none-dropped place content pick taken h gave gives none hands =
+      let first = first-hands place content pick taken h gave gives hands in
+      let same : None ≡ Some h = sym (none _) ∙ first.1 in
+      absurd (cc)
+
+  hand-more_first : (gave : Gave) (o : Outcome) (later more : Option Handed) (h : Handed) → ((k : Handed) → later ≡ Some k → more ≡ Some k)
+      → hand_first net gave o later ≡ Some h → hand_first net gave o more ≡ Some h
+  hand-more_first gave (outcomes.Hand n how family) later more h f e = e
+  hand-more_first gave (outcomes.Again n how) later more h f e =
+      by_binding (is_binding net n) e
+    where
+      by_binding : (b : Bool) → (if b then None else option_map (behind_execution n) later) ≡ Some h
+          → (if b then None else option_map (behind_execution n) more) ≡ Some h
+      by_binding true e = e
+      by_binding false e =
+          let got = map-some (behind_execution n) later h e in
+          ap (option_map (behind_execution n)) (f got.0 got.1) ∙ ap Some got.2
+  hand-more_first gave (outcomes.Send link) later more h f e =
+      let got = map-some (behind_event (Crossed link)) later h e in
+      ap (option_map (behind_event (Crossed link))) (f got.0 got.1) ∙ ap Some got.2
+  hand-more_first gave outcomes.Local later more h f e = absurd (cc)
+  hand-more_first gave (outcomes.Drop reason error) later more h f e = absurd (cc)
+
+  -- more stages hand over the same
+  pub hand-more : (few many : ℕ) → few ≤ many → (o : Option Place) (content : Content) (pick : ℕ → ℕ) (taken : ℕ) (h : Handed)
+      → hand_of net (free_walk_of few net o content pick taken) ≡ Some h → hand_of net (free_walk_of many net o content pick taken) ≡ Some h
+  unfolding walk_by
+  hand-more zero many l o content pick taken h e = absurd (cc)
+  hand-more (suc few) zero l o content pick taken h e = absurd (omega arith)
+  hand-more (suc few) (suc many) l None content pick taken h e = absurd (cc)
+  hand-more (suc few) (suc many) l (Some place) content pick taken h e =
+      let gave = free_step_of net place content (pick taken) in
+      hand-more_first gave gave.outcome (hand_of net (rest_of few place pick taken gave))
+      (hand_of net (rest_of many place pick taken gave)) h
+      (λ k. hand-more few many (omega arith) (next_place net place gave.outcome) gave.after pick (taken + decisions gave.outcome) k) e
+
+  -- ---- longest ways
+
+  abbrev pub Takes : Stage → Type 0
+  Takes s = TakesMost net s s.gave.outcome
+
+  -- the first stage of a longest way takes most, and the others are a longest way
+  pub longest-stage : (more : ℕ) (place : Place) (content : Content) (pick : ℕ → ℕ) (taken : ℕ) (gave : Gave)
+      → free_step_of net place content (pick taken) ≡ gave
+      → AreLongest net (free_walk_of (suc more) net (Some place) content pick taken)
+      → TakesMost net (record { place = place; before = content; gave = gave }) gave.outcome
+      × AreLongest net (rest_of more place pick taken gave)
+  longest-stage more place content pick taken gave e all =
+      let s : Stage = record { place = place; before = content; gave = gave } in
+      let ss = rest_of more place pick taken gave in
+      let whole = subst (AreLongest net) (walk-stage more place content pick taken gave e) all in
+      (All-head Takes s ss whole, All-tail Takes s ss whole)
+
+  -- fewer stages are as long
+  pub longest-fewer : (few many : ℕ) → few ≤ many → (o : Option Place) (content : Content) (pick : ℕ → ℕ) (taken : ℕ)
+      → AreLongest net (free_walk_of many net o content pick taken) → AreLongest net (free_walk_of few net o content pick taken)
+  longest-fewer zero many l o content pick taken all =
+      subst (AreLongest net) (sym (walk-zero o content pick taken)) (All-nil Takes)
+  longest-fewer (suc few) zero l o content pick taken all = absurd (omega arith)
+  longest-fewer (suc few) (suc many) l None content pick taken all =
+      subst (AreLongest net) (sym (walk-none (suc few) content pick taken)) (All-nil Takes)
+  longest-fewer (suc few) (suc many) l (Some place) content pick taken all =
+      let gave = free_step_of net place content (pick taken) in
+      let parts = longest-stage many place content pick taken gave refl all in
+      subst (AreLongest net) (sym (walk-stage few place content pick taken gave refl))
+      (All-cons Takes (record { place = place; before = content; gave = gave }) (rest_of few place pick taken gave) parts.0
+      (longest-fewer few many (omega arith) (next_place net place gave.outcome) gave.after pick (taken + decisions gave.outcome) parts.1))
