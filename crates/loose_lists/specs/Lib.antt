@@ -1,0 +1,3 @@
+pub mod Executions
+pub mod Realizes
+pub mod Small
