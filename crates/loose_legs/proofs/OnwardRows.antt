@@ -1,0 +1,314 @@
+-- What leads on from positions and SIDs, as the rows grow.
+use Rattle.std.proofs.Common.{◌≡◌, ℕ, ◌+◌, ◌-◌, ◌<◌, ◌≤◌, ◌⊎◌, inl, inr, Bool, true, false, ◌==◌, ◌&&◌, nat_le, if◌then◌else◌, List, [], ◌∷◌, ◌++◌, length, Option, Some, None, get_or, slice_get, refl, sym, ◌∙◌, ap, ap₂, subst, arith, eqb-true, length-append}
+use Rattle.std.specs.Prelude.{IfSome}
+use Rattle.std.specs.Option.{option_map, option_and_then}
+use Rattle.std.proofs.lemmas.Bool.{cases_lt, le-leb, lt-leb}
+use Rattle.std.proofs.lemmas.Option.{slice_get-get_or, slice_get_past, slice_get_within}
+use Rattle.srv6_rules.specs.declared.sid.SidEntry.{SidEntry}
+use Rattle.net_model.specs.Network.{Network}
+use Rattle.net_model.specs.Keeps.{Keeps}
+use Rattle.walk_rules.specs.declared.place.Place.{Place}
+use Rattle.walk_rules.specs.Relation.{IsPlace}
+use Rattle.intent_reader.specs.declared.intent.Intent.{Intent}
+use Rattle.list_pack.specs.declared.types.Leg.{Leg}
+use Rattle.step_traces.specs.declared.steps.Step.{Step}
+use Rattle.loose_graph.specs.declared.spots.Found.{Found}
+use Rattle.loose_graph.specs.Tables.{AreFound}
+use Rattle.loose_ways.specs.Graphs.{found_in, graph_in, numbers_of, start_at}
+use Rattle.loose_ways.proofs.Nodes.{few-lowerings_from}
+use Rattle.leg_table.specs.Leg.{middle_place, middle_place_by, place_behind, place_from}
+use Rattle.leg_table.specs.Sids.{first_address, is_last, is_middle, sid_address, sid_exposes, sid_goes_on, takes_step}
+use Rattle.leg_table.proofs.Options.{get-before, get-pushed, some-same}
+use Rattle.loose_meanings.specs.Legs.{finish_found, leg_found, way_found}
+use Rattle.loose_meanings.specs.Sids.{is_sid_at, is_start, is_via, sid_suits, start_of, step_before}
+use Rattle.loose_meanings.specs.Steps.{AreSteps, node_at, steps_left}
+use Rattle.loose_meanings.proofs.Meaning.{start-at}
+use Rattle.loose_legs.specs.Table.{AreFurther, AreOnward, AreRowsFrom, AreTables, IsRowFrom, finish_to, leg_to, onward_at, onward_from, onward_of, onward_or_none, row_at, row_or_none}
+use Rattle.loose_legs.specs.declared.onwards.Onward.{Onward}
+
+-- ---- what is found in the graphs of the SIDs
+
+pub sid-address : (net : Network) (n a : ℕ) (s : SidEntry) → slice_get net.sids n ≡ Some s → a ≡ s.prefix.value → a ≡ sid_address net n
+sid-address net n a s there e = e ∙ ap first_address (sym there)
+
+module _ (net : Network) (steps : List Step) where
+  pub no-tables : AreTables net steps 0 []
+  no-tables = record { long = refl; each = λ n table there. absurd (omega (arith, slice_get_within [] n table there)) }
+
+  pub table-more : (count a : ℕ) (s : SidEntry) (tables more : List (List (Option Found))) (table : List (Option Found))
+      → AreTables net steps count tables → slice_get net.sids count ≡ Some s → a ≡ s.prefix.value
+      → AreFound (graph_in net a steps) table → more ≡ tables ++ table ∷ [] → AreTables net steps (count + 1) more
+  table-more count a s tables more table are there address is e =
+      let size = length-append tables (table ∷ []) in
+      let long = are.long in
+      let sized : length more ≡ count + 1 = ap length e ∙ size ∙ ap (λ (n : ℕ). n + 1) long in
+      record { long = sized; each = λ n other at. by_place n other at (slice_get_within more n other at) sized (cases_lt n count) }
+    where
+      by_place : (n : ℕ) (other : List (Option Found)) → slice_get more n ≡ Some other → n < length more → length more ≡ count + 1
+          → (n < count) ⊎ (count ≤ n) → AreFound (graph_in net (sid_address net n) steps) other
+      by_place n other at within sized (inl less) =
+          let long = are.long in
+          are.each n other (sym (get-before tables table n (omega (arith, less, long))) ∙ sym (ap (λ xs. slice_get xs n) e) ∙ at)
+      by_place n other at within sized (inr least) =
+          let long = are.long in
+          let same : n ≡ count = omega (arith, within, least, sized) in
+          let is_other : table ≡ other
+          = some-same table other (sym (get-pushed tables table n (omega (arith, same, long))) ∙ sym (ap (λ xs. slice_get xs n) e) ∙ at) in
+          let where_is : a ≡ sid_address net n = sid-address net count a s there address ∙ ap (sid_address net) (sym same) in
+          subst (λ (t : List (Option Found)). AreFound (graph_in net (sid_address net n) steps) t) is_other
+          (subst (λ (d : ℕ). AreFound (graph_in net d steps) table) where_is is)
+
+  pub found-low : Keeps net → (d left : ℕ) (place : Place) (found : Option Found) → found ≡ found_in net d steps left place
+      → IfSome found (λ f. f.most ≤ 256)
+  found-low keeps d left place found e = by_found found e
+    where
+      by_found : (o : Option Found) → o ≡ found_in net d steps left place → IfSome o (λ f. f.most ≤ 256)
+      by_found None e = tt
+      by_found (Some f) e =
+          let l =
+          few-lowerings_from net keeps d steps (start_at net (numbers_of net (length steps)) (steps_left steps left) place d) f (sym e) in
+          let few : length net.nodes ≤ 256 = keeps.node_count in
+          omega (arith, l, few)
+
+module _ (net : Network) (intent : Intent) (steps : List Step) where
+  -- ---- what leads on from a place
+
+  pub onward-is : (left next a : ℕ) (place : Place) (found : Option Found) (leg : Option Leg) (finish : Option ℕ)
+      → a ≡ sid_address net next → found ≡ found_in net a steps left place → leg ≡ leg_to net steps next found
+      → finish ≡ finish_to net intent.inner steps next found
+      → Path Onward (record { leg = leg; finish = finish }) (onward_from net intent steps left place next)
+  onward-is left next a place found leg finish address found_is leg_is finish_is =
+      let way : found ≡ found_in net (sid_address net next) steps left place
+      = found_is ∙ ap (λ (d : ℕ). found_in net d steps left place) address in
+      ap₂ (λ (l : Option Leg) (f : Option ℕ). record { leg = l; finish = f }) (leg_is ∙ ap (leg_to net steps next) way)
+      (finish_is ∙ ap (finish_to net intent.inner steps next) way)
+
+  pub no-onward : (left : ℕ) (place : Place) → AreOnward net intent steps left place 0 []
+  no-onward left place = record { long = refl; each = λ next low. absurd (omega arith) }
+
+  pub onward-more : (left : ℕ) (place : Place) (count : ℕ) (row more : List Onward) (onward : Onward)
+      → AreOnward net intent steps left place count row → onward ≡ onward_from net intent steps left place count
+      → more ≡ row ++ onward ∷ [] → AreOnward net intent steps left place (count + 1) more
+  onward-more left place count row more onward are is e =
+      let size = length-append row (onward ∷ []) in
+      let long = are.long in
+      let sized : length more ≡ count + 1 = ap length e ∙ size ∙ ap (λ (n : ℕ). n + 1) long in
+      record { long = sized; each = λ next low. by_place next low (cases_lt next count) }
+    where
+      by_place : (next : ℕ) → next < count + 1 → (next < count) ⊎ (count ≤ next)
+          → slice_get more next ≡ Some (onward_from net intent steps left place next)
+      by_place next low (inl less) =
+          let long = are.long in
+          ap (λ xs. slice_get xs next) e ∙ get-before row onward next (omega (arith, less, long)) ∙ are.each next less
+      by_place next low (inr least) =
+          let long = are.long in
+          let same : next ≡ count = omega (arith, low, least) in
+          ap (λ xs. slice_get xs next) e ∙ get-pushed row onward next (omega (arith, same, long))
+          ∙ ap Some (is ∙ ap (onward_from net intent steps left place) (sym same))
+
+  -- ---- starts
+
+  nothing-on : (next : ℕ) → leg_to net steps next None ≡ None
+  nothing-on next = by_test (is_middle net next)
+    where
+      by_test : (b : Bool) → Path (Option Leg) (if b then None else None) None
+      by_test true = refl
+      by_test false = refl
+
+  nothing-at_end : (next : ℕ) → finish_to net intent.inner steps next None ≡ None
+  nothing-at_end next = by_test (is_last net intent.inner next)
+    where
+      by_test : (b : Bool) → Path (Option ℕ) (if b then None else None) None
+      by_test true = refl
+      by_test false = refl
+
+  -- where there is no start nothing leads on
+  pub no-row : (position : ℕ) (via : Option ℕ) → start_of net intent steps position via ≡ None → IsRowFrom net intent steps position via []
+  no-row position via none next =
+      let way : way_found net intent steps position via (sid_address net next) ≡ None
+      = ap (option_and_then (found_in net (sid_address net next) steps (length steps - position))) none in
+      ap₂ (λ (l : Option Leg) (f : Option ℕ). record { leg = l; finish = f })
+      (sym (ap (leg_to net steps next) way ∙ nothing-on next))
+      (sym (ap (finish_to net intent.inner steps next) way ∙ nothing-at_end next))
+
+  pub row-from : (position left : ℕ) (via : Option ℕ) (place : Place) (row : List Onward) → left ≡ length steps - position
+      → start_of net intent steps position via ≡ Some place → AreOnward net intent steps left place (length net.sids) row
+      → IsRowFrom net intent steps position via row
+  row-from position left via place row left_is start are next = by_place (cases_lt next (length net.sids))
+    where
+      way : way_found net intent steps position via (sid_address net next) ≡ found_in net (sid_address net next) steps left place
+      way =
+          ap (option_and_then (found_in net (sid_address net next) steps (length steps - position))) start
+          ∙ ap (λ (k : ℕ). found_in net (sid_address net next) steps k place) (sym left_is)
+
+      by_place : (next < length net.sids) ⊎ (length net.sids ≤ next) → onward_at row next ≡ onward_of net intent steps position via next
+      by_place (inl less) =
+          ap onward_or_none (are.each next less)
+          ∙ sym (ap₂ (λ (l : Option Leg) (f : Option ℕ). record { leg = l; finish = f }) (ap (leg_to net steps next) way)
+          (ap (finish_to net intent.inner steps next) way))
+      by_place (inr past) =
+          let long = are.long in
+          let found = way_found net intent steps position via (sid_address net next) in
+          let none : slice_get net.sids next ≡ None = slice_get_past net.sids next past in
+          ap onward_or_none (slice_get_past row next (omega (arith, long, past)))
+          ∙ sym (ap₂ (λ (l : Option Leg) (f : Option ℕ). record { leg = l; finish = f })
+          (ap (λ (o : Option SidEntry). if sid_goes_on o then option_and_then (leg_found net steps next) found else None) none)
+          (ap (λ (o : Option SidEntry). if sid_exposes intent.inner o then option_and_then (finish_found net steps next) found else None)
+          none))
+
+  -- from the headend
+  pub first-start : start_of net intent steps 0 None
+      ≡ place_from net intent None
+  first-start = ap (λ (b : Bool). if b && (0 == 0) then place_from net intent None else None) (le-leb 0 (length steps) (omega arith))
+
+  -- behind a SID, by whether it is one of the position
+  pub start-behind : (position via : ℕ) → position ≤ length steps → is_sid_at net intent steps position via ≡ true
+      → middle_place net via ≡ start_of net intent steps position (Some via)
+  start-behind position via within at =
+      by_sid (slice_get net.sids via)
+      ∙ sym (ap (λ (b : Bool). if b && (is_sid_at net intent steps position via && is_middle net via)
+      then place_from net intent (Some via) else None)
+      (le-leb position (length steps) within)
+      ∙ ap (λ (b : Bool). if b && is_middle net via then place_from net intent (Some via) else None) at)
+    where
+      by_test : (b : Bool) (s : SidEntry) → (if b then Some (place_behind via s) else None)
+          ≡ (if b then option_map (place_behind via) (Some s) else None)
+      by_test true s = refl
+      by_test false s = refl
+
+      by_sid : (o : Option SidEntry) → middle_place_by via o ≡ (if sid_goes_on o then option_map (place_behind via) o else None)
+      by_sid None = refl
+      by_sid (Some s) = by_test (takes_step s) s
+
+  pub no-start : (position via : ℕ) → is_sid_at net intent steps position via ≡ false → None ≡ start_of net intent steps position (Some via)
+  no-start position via at =
+      sym (ap (λ (b : Bool). if nat_le position (length steps) && (b && is_middle net via)
+      then place_from net intent (Some via) else None) at
+      ∙ by_low (nat_le position (length steps)))
+    where
+      by_low : (b : Bool) → Path (Option Place) (if b && false then place_from net intent (Some via) else None) None
+      by_low true = refl
+      by_low false = refl
+
+  pub no-start-beyond : (position via : ℕ) → length net.sids ≤ via → start_of net intent steps position (Some via) ≡ None
+  no-start-beyond position via past =
+      sym (no-start position via
+      (ap (sid_suits via (slice_get steps position) (node_at net intent steps position) (step_before steps position))
+      (slice_get_past net.sids via past)))
+
+  pub no-start-past : (position : ℕ) (via : Option ℕ) → length steps < position → start_of net intent steps position via ≡ None
+  no-start-past position via past =
+      ap (λ (b : Bool). if b && is_via net intent steps position via then place_from net intent via else None)
+      (lt-leb position (length steps) past)
+
+  pub start-place : Keeps net → AreSteps net intent steps → (position : ℕ) (via : Option ℕ) (start : Option Place)
+      → start ≡ start_of net intent steps position via → IfSome start (IsPlace net)
+  start-place keeps are position via start e = by_start start e
+    where
+      by_test : (b : Bool) (place : Place) → is_start net intent steps position via ≡ b
+          → Some place ≡ (if b then place_from net intent via else None) → IsPlace net place
+      by_test true place is e = (start-at net keeps intent steps are position via place is (sym e)).is_place
+      by_test false place is e = absurd (cc)
+
+      by_start : (o : Option Place) → o ≡ start_of net intent steps position via → IfSome o (IsPlace net)
+      by_start None e = tt
+      by_start (Some place) e = by_test (is_start net intent steps position via) place refl e
+
+  -- ---- the rows of a position
+
+  pub record AreRowsBelow (position count : ℕ) (rows : List (List Onward)) : Type 0 where
+    pub long : length rows ≡ count
+    pub each : (via : ℕ) (row : List Onward) → slice_get rows via ≡ Some row → IsRowFrom net intent steps position (Some via) row
+
+  pub no-rows : (position : ℕ) → AreRowsBelow position 0 []
+  no-rows position = record { long = refl; each = λ via row there. absurd (omega (arith, slice_get_within [] via row there)) }
+
+  pub row-more : (position count : ℕ) (rows more : List (List Onward)) (row : List Onward) → AreRowsBelow position count rows
+      → IsRowFrom net intent steps position (Some count) row → more ≡ rows ++ row ∷ [] → AreRowsBelow position (count + 1) more
+  row-more position count rows more row are is e =
+      let size = length-append rows (row ∷ []) in
+      let long = are.long in
+      let sized : length more ≡ count + 1 = ap length e ∙ size ∙ ap (λ (n : ℕ). n + 1) long in
+      record { long = sized; each = λ via other at. by_place via other at (slice_get_within more via other at) sized (cases_lt via count) }
+    where
+      by_place : (via : ℕ) (other : List Onward) → slice_get more via ≡ Some other → via < length more → length more ≡ count + 1
+          → (via < count) ⊎ (count ≤ via) → IsRowFrom net intent steps position (Some via) other
+      by_place via other at within sized (inl less) =
+          let long = are.long in
+          are.each via other (sym (get-before rows row via (omega (arith, less, long))) ∙ sym (ap (λ xs. slice_get xs via) e) ∙ at)
+      by_place via other at within sized (inr least) =
+          let long = are.long in
+          let same : via ≡ count = omega (arith, within, least, sized) in
+          let is_other : row ≡ other
+          = some-same row other (sym (get-pushed rows row via (omega (arith, same, long))) ∙ sym (ap (λ xs. slice_get xs via) e) ∙ at) in
+          subst (λ (xs : List Onward). IsRowFrom net intent steps position (Some via) xs) is_other
+          (subst (λ (n : ℕ). IsRowFrom net intent steps position (Some n) row) (sym same) is)
+
+  pub whole-rows : (position : ℕ) (rows : List (List Onward)) → AreRowsBelow position (length net.sids) rows
+      → AreRowsFrom net intent steps position rows
+  whole-rows position rows are via = by_place (cases_lt via (length net.sids))
+    where
+      by_place : (via < length net.sids) ⊎ (length net.sids ≤ via) → IsRowFrom net intent steps position (Some via) (row_at rows via)
+      by_place (inl less) =
+          let long = are.long in
+          let there = slice_get-get_or rows via [] (omega (arith, long, less)) in
+          subst (λ (xs : List Onward). IsRowFrom net intent steps position (Some via) xs) (sym (ap row_or_none there))
+          (are.each via (get_or rows via []) there)
+      by_place (inr past) =
+          let long = are.long in
+          subst (λ (xs : List Onward). IsRowFrom net intent steps position (Some via) xs)
+          (sym (ap row_or_none (slice_get_past rows via (omega (arith, long, past)))))
+          (no-row position (Some via) (no-start-beyond position via past))
+
+  -- beyond the last position nothing leads on
+  pub no-rows-past : (position : ℕ) → length steps + 1 ≤ position → AreRowsFrom net intent steps position []
+  no-rows-past position past via =
+      subst (λ (xs : List Onward). IsRowFrom net intent steps position (Some via) xs)
+      (sym (ap row_or_none (slice_get_past {X = List Onward} [] via (omega arith))))
+      (no-row position (Some via) (no-start-past position (Some via) (omega (arith, past))))
+
+  -- nor from a start without a SID behind the first position
+  pub no-row-later : (position : ℕ) → (position ≡ 0 → ⊥) → IsRowFrom net intent steps position None []
+  no-row-later position differ = no-row position None (by_test (position == 0) refl)
+    where
+      by_low : (b : Bool) → Path (Option Place) (if b && false then place_from net intent None else None) None
+      by_low true = refl
+      by_low false = refl
+
+      by_test : (b : Bool) → (position == 0) ≡ b → start_of net intent steps position None ≡ None
+      by_test true e = absurd (differ (eqb-true position 0 e))
+      by_test false e =
+          ap (λ (t : Bool). if nat_le position (length steps) && t then place_from net intent None else None) e
+          ∙ by_low (nat_le position (length steps))
+
+  -- ---- the rows of all positions
+
+  pub no-further : AreFurther net intent steps 0 []
+  no-further = record { long = refl; each = λ position rows there. absurd (omega (arith, slice_get_within [] position rows there)) }
+
+  pub further-more : (count : ℕ) (further more : List (List (List Onward))) (rows : List (List Onward))
+      → AreFurther net intent steps count further → AreRowsFrom net intent steps count rows → more ≡ further ++ rows ∷ []
+      → AreFurther net intent steps (count + 1) more
+  further-more count further more rows are is e =
+      let size = length-append further (rows ∷ []) in
+      let long = are.long in
+      let sized : length more ≡ count + 1 = ap length e ∙ size ∙ ap (λ (n : ℕ). n + 1) long in
+      record {
+        long = sized;
+        each = λ position other at. by_place position other at (slice_get_within more position other at) sized (cases_lt position count);
+      }
+    where
+      by_place : (position : ℕ) (other : List (List Onward)) → slice_get more position ≡ Some other → position < length more
+          → length more ≡ count + 1 → (position < count) ⊎ (count ≤ position) → AreRowsFrom net intent steps position other
+      by_place position other at within sized (inl less) =
+          let long = are.long in
+          are.each position other
+          (sym (get-before further rows position (omega (arith, less, long))) ∙ sym (ap (λ xs. slice_get xs position) e) ∙ at)
+      by_place position other at within sized (inr least) =
+          let long = are.long in
+          let same : position ≡ count = omega (arith, within, least, sized) in
+          let is_other : rows ≡ other
+          = some-same rows other
+          (sym (get-pushed further rows position (omega (arith, same, long))) ∙ sym (ap (λ xs. slice_get xs position) e) ∙ at) in
+          subst (AreRowsFrom net intent steps position) is_other
+          (subst (λ (n : ℕ). AreRowsFrom net intent steps n rows) (sym same) is)

@@ -1,0 +1,5 @@
+use Rattle.loose_legs.specs.Table.{AreFurther}
+use Rattle.loose_legs.proofs.onwards.further_onwards.Given as goal
+
+abbrev pub invariant-loop-position : goal.invariant-loop-position
+invariant-loop-position l = AreFurther l.net l.intent l.steps l.position l.further.items

@@ -1,0 +1,15 @@
+-- The steps of an intent, as traces with reaches and ways over graphs know them.
+use Rattle.std.specs.Prelude.{ℕ, List, map}
+use Rattle.intent_reader.specs.declared.intent.Step.{Step}
+use Rattle.intent_reader.specs.declared.intent.Step.TheVariants as intents
+use Rattle.intent_reader.specs.declared.intent.Intent.{Intent}
+use Rattle.step_traces.specs.declared.steps.Step.{Step as TraceStep}
+use Rattle.step_traces.specs.declared.steps.Step.TheVariants as traces
+
+abbrev pub trace_step : Step → TraceStep
+trace_step (intents.Links set) = traces.Links set
+trace_step (intents.Function sid) = traces.Function sid
+trace_step (intents.Reach node) = traces.Reach node
+
+abbrev pub trace_steps : Intent → List TraceStep
+trace_steps intent = map trace_step intent.steps
