@@ -12,7 +12,7 @@ use Rattle.flat_networks.specs.declared.not_flat.NotFlat.{NotFlat}
 use Rattle.intent_reader.specs.declared.intent.Intent.{Intent}
 use Rattle.list_certificate.specs.declared.types.Cert.{Cert}
 use Rattle.leg_table.specs.Table.{LegTable}
-use Rattle.intent_legs.specs.Legs.{binding_legs_value}
+use Rattle.intent_legs.specs.Legs.{intent_legs_value}
 use Rattle.command_output.specs.declared.told.Judgement.{Judgement}
 use Rattle.command_output.specs.declared.halt.Failure.{Failure}
 use Rattle.command_output.specs.declared.halt.Failure.TheVariants as failures
@@ -96,7 +96,7 @@ module _ (file intent cert : List ℕ) where
   GivesIntent net judged held = GivesText (intent_in net) judged (file_named held intent)
 
   abbrev GivesCert : Network → Intent → Result Cert Refusal → Held → Type 0
-  GivesCert net value judged held = GivesText (cert_in net (binding_legs_value net value)) judged (file_named held cert)
+  GivesCert net value judged held = GivesText (cert_in net (intent_legs_value net value)) judged (file_named held cert)
 
   -- an output that is wanted of what is told
 
@@ -128,8 +128,8 @@ module _ (file intent cert : List ℕ) where
       → Wants held output
   wants-cert net value judged held output h i flat c w = wants-intent net (Ok value) held output h i
       (subst (λ (r : Result (Unit {0}) NotFlat). FlatWants net value r (file_named held cert) output) (sym flat)
-      (some-map (file_named held cert) (λ text. cert_in net (binding_legs_value net value) text ≡ judged)
-      (λ text. CertWants net value (cert_in net (binding_legs_value net value) text) output)
+      (some-map (file_named held cert) (λ text. cert_in net (intent_legs_value net value) text ≡ judged)
+      (λ text. CertWants net value (cert_in net (intent_legs_value net value) text) output)
       (λ text is. subst (λ (j : Result Cert Refusal). CertWants net value j output) (sym is) w) c))
 
   takes : (stop : Stop) (f g : FilesSeen) (s : SourceSeen) → Asks (check_shape file intent cert) stop f g
@@ -269,7 +269,7 @@ module _ (file intent cert : List ℕ) where
           (of-last (GivesCert net value cert_read) h)))
 
       -- the certificate was refused, wasn't read, or memory was wanting
-      halted-at-cert : (halt : Halt) → JudgesFile (cert_in net (binding_legs_value net value)) cert (Err halt) last g
+      halted-at-cert : (halt : Halt) → JudgesFile (cert_in net (intent_legs_value net value)) cert (Err halt) last g
           → CommandsUnread (check_shape file intent cert) (Err halt) f g o o
       halted-at-cert (halts.Refused refusal) h = λ s. refused_commands (check_shape file intent cert) refusal f g s s o
           (wants-all (Err refusal) s.left (refused refusal) h.0 refl) (inr (inl refl)) (takes Never f g s (asks-three Never tt h.1) refl)
@@ -284,12 +284,12 @@ module _ (file intent cert : List ℕ) where
           (h.seen ∙ ap (asked_for_all h.names) last-is)) refl)
 
       pub check_halted_at_cert : (legs : LegTable) (halt : Halt) → legs ≡ record { net = net; intent = value }
-          → JudgesFile (cert_in net (binding_legs_value legs.net legs.intent)) cert (Err halt) last g
+          → JudgesFile (cert_in net (intent_legs_value legs.net legs.intent)) cert (Err halt) last g
           → CommandsUnread (check_shape file intent cert) (Err halt) f g o o
       check_halted_at_cert legs halt is h = halted-at-cert halt
-          (subst (λ (t : LegTable). JudgesFile (cert_in net (binding_legs_value t.net t.intent)) cert (Err halt) last g) is h)
+          (subst (λ (t : LegTable). JudgesFile (cert_in net (intent_legs_value t.net t.intent)) cert (Err halt) last g) is h)
 
-      module _ (spelt : Cert) (given : JudgesFile (cert_in net (binding_legs_value net value)) cert (Ok spelt) last g) where
+      module _ (spelt : Cert) (given : JudgesFile (cert_in net (intent_legs_value net value)) cert (Ok spelt) last g) where
         -- memory was wanting for the line
         pub check_halted_at_judgement : CommandsUnread (check_shape file intent cert) (Err (halts.Failed failures.NoMemory)) f g o o
         check_halted_at_judgement = λ s. memory_wants (check_shape file intent cert) f g s s o

@@ -1,11 +1,12 @@
 -- What is judged of a certificate over the legs of an intent, by the verdict on it.
-use Rattle.std.proofs.Common.{◌≡◌, inl, inr, ℕ, true, List, [], ◌∷◌, get_or, Option, None, Some, refl, sym, ap₂, ap, subst}
-use Rattle.std.specs.Prelude.{slice_get, Contains}
+use Rattle.std.proofs.Common.{◌≡◌, inl, inr, ℕ, List, [], ◌∷◌, get_or, Option, None, Some, refl, sym, ap₂, subst}
+use Rattle.std.specs.Prelude.{slice_get}
 use Rattle.std.proofs.lemmas.Option.{slice_get_within, slice_get-get_or, get_or_from_slice_get}
-use Rattle.srv6_rules.specs.declared.sid.SidEntry.{SidEntry}
 use Rattle.net_model.specs.Network.{Network}
-use Rattle.net_model.specs.Keeps.{Keeps}
+use Rattle.net_model.specs.Rules.{IsNetwork}
+use Rattle.flat_networks.specs.Flat.{IsFlat}
 use Rattle.intent_reader.specs.declared.intent.Intent.{Intent}
+use Rattle.intent_reader.specs.Rules.{IsIntent}
 use Rattle.list_pack.specs.declared.types.Potential.{Potential}
 use Rattle.list_pack.specs.declared.types.Solution.{Solution}
 use Rattle.list_pack.specs.Costs.{IsStateBy}
@@ -15,13 +16,10 @@ use Rattle.list_certificate.specs.declared.types.Verdict.{Verdict}
 use Rattle.list_certificate.specs.declared.types.Verdict.TheVariants.{Least, NoList, No}
 use Rattle.list_certificate.specs.declared.types.Why.{Why}
 use Rattle.list_certificate.specs.declared.types.Why.TheVariants as whys
-use Rattle.list_certificate.specs.Reading.{IsNetworkOf, IsSidOf}
 use Rattle.list_certificate.specs.Spelling.{IsKnownBy}
 use Rattle.list_certificate.specs.Verdicts.{IsVerdict}
-use Rattle.leg_table.specs.Sids.{sids_of, sid_suits, node_at, step_before}
-use Rattle.leg_table.specs.Table.{shape_by, node_by}
-use Rattle.intent_legs.specs.Legs.{binding_legs_value}
-use Rattle.leg_table.proofs.PublicLaws.{are-sids}
+use Rattle.intent_legs.specs.Legs.{intent_legs_value}
+use Rattle.intent_legs.proofs.PublicLaws.{sids-for}
 use Rattle.intent_legs.specs.Verdicts.{SaysFor, SaysOfHandingFor}
 use Rattle.command_output.specs.declared.told.Judgement.{Judgement}
 use Rattle.command_output.specs.declared.status.Status.{Status}
@@ -32,47 +30,30 @@ use Rattle.command_output.specs.Outputs.{reported}
 use Rattle.command_output.specs.Lines.{bytes_of_text}
 use Rattle.command_output.specs.Shape.{IsOneOf}
 
-module _ (net : Network) (intent : Intent) (keeps : Keeps net) where
-  -- a SID of a position is one of the network, as the legs have it
-  sid-by : (n : ℕ) (o : Option SidEntry) → slice_get net.sids n ≡ o → (position : ℕ)
-      → sid_suits n (node_at net intent position) (step_before intent.steps position) o ≡ true → IsSidOf net (binding_legs_value net intent) n
-  sid-by n None is position h = cc
-  sid-by n (Some s) is position h = record {
-    sid = s;
-    here = is;
-    prefix = ap (λ (o : Option SidEntry). (shape_by net.blocks o).prefix) is;
-    node = ap node_by is;
-  }
-
-  sid-of : (position n : ℕ) → Contains (sids_of net intent position) n → IsSidOf net (binding_legs_value net intent) n
-  sid-of position n there = sid-by n (slice_get net.sids n) refl position (((are-sids net keeps intent position).each n).0 there)
-
-  pub network_of : IsNetworkOf net (binding_legs_value net intent)
-  network_of n is = sid-of is.0 n is.2
-
-  -- so the state that a verdict tells is one of the network
-
-  known-by : (position : ℕ) (via : Option ℕ) (room : ℕ) → IsStateBy (binding_legs_value net intent) position via room → IsKnownBy net via
+module _ (net : Network) (intent : Intent) (network : IsNetwork net) (flat : IsFlat net) (is : IsIntent net intent) where
+  -- a state that a verdict tells is one of the network
+  known-by : (position : ℕ) (via : Option ℕ) (room : ℕ) → IsStateBy (intent_legs_value net intent) position via room → IsKnownBy net via
   known-by position None room h = tt
-  known-by position (Some n) room h = let s = sid-of position n h.1 in slice_get_within net.sids n s.sid s.here
+  known-by position (Some n) room h =
+      let s = sids-for net intent network flat is n (position, h.0, h.1) in slice_get_within net.sids n s.sid s.here
 
-  knows-why : (cert : Cert) (line : ℕ) (why : Why) → IsVerdict (binding_legs_value net intent) cert (No line why) → KnowsState net (No line why)
+  knows-why : (cert : Cert) (line : ℕ) (why : Why) → IsVerdict (intent_legs_value net intent) cert (No line why) → KnowsState net (No line why)
   knows-why cert line whys.Edge h = tt
   knows-why cert line (whys.Unlisted state) h = known-by state.position state.via state.room h.is_state
   knows-why cert line whys.Path h = tt
   knows-why cert line whys.Tight h = tt
 
-  pub knows_state : (cert : Cert) (verdict : Verdict) → IsVerdict (binding_legs_value net intent) cert verdict → KnowsState net verdict
+  pub knows_state : (cert : Cert) (verdict : Verdict) → IsVerdict (intent_legs_value net intent) cert verdict → KnowsState net verdict
   knows_state cert (Least containers hops) h = tt
   knows_state cert NoList h = tt
   knows_state cert (No line why) h = knows-why cert line why h
 
   -- and so are those of what the search found
-  pub knows_states : (s : Solution) → IsSolution (binding_legs_value net intent) s → KnowsStates net s
-  knows_states s is k d h =
+  pub knows_states : (s : Solution) → IsSolution (intent_legs_value net intent) s → KnowsStates net s
+  knows_states s solved k d h =
       let q : Potential = get_or s.potentials k d in
       let here = get_or_from_slice_get s.potentials k q q (slice_get-get_or s.potentials k d h) in
-      known-by q.state.position q.state.via q.state.room (is.potentials.exact q (k, h, here)).0
+      known-by q.state.position q.state.via q.state.room (solved.potentials.exact q (k, h, here)).0
 
 own-status : (verdict : Verdict) → IsOneOf (statuses.Done ∷ statuses.SaysNo ∷ []) (verdict_status verdict)
 own-status (Least containers hops) = inl refl
@@ -81,14 +62,12 @@ own-status (No line why) = inr (inl refl)
 
 -- a verdict's line and status are wanted of the certificate
 pub judges_as : (net : Network) (intent : Intent) (cert : Cert) (verdict : Verdict) (judgement : Judgement)
-    → IsVerdict (binding_legs_value net intent) cert verdict → SaysFor net intent verdict → SaysOfHandingFor net intent verdict
+    → IsVerdict (intent_legs_value net intent) cert verdict → SaysFor net intent verdict → SaysOfHandingFor net intent verdict
     → bytes_of_text judgement.line ≡ verdict_line net verdict → judgement.status ≡ verdict_status verdict
     → JudgesAs net intent cert judgement
 judges_as net intent cert verdict judgement is says handing line status = (
   (verdict, record { is = is; says = says; handing = handing }, ap₂ (λ (bytes : List ℕ) (s : Status). reported bytes [] s) line status),
   subst (IsOneOf (statuses.Done ∷ statuses.SaysNo ∷ [])) (sym status) (own-status verdict),
 )
-
-pub ruleset legs = (network_of)
 
 pub ruleset judgements = (knows_state, judges_as)

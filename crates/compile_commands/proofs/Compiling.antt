@@ -4,12 +4,12 @@ use Rattle.std.specs.Prelude.{IsOk}
 use Rattle.std.specs.List.{flat_map}
 use Rattle.v6_addr.specs.declared.address.Addr.{Addr}
 use Rattle.net_model.specs.Network.{Network}
-use Rattle.net_model.specs.Keeps.{Keeps}
 use Rattle.net_model.specs.Rules.{IsNetwork}
 use Rattle.flat_networks.specs.declared.not_flat.NotFlat.{NotFlat}
 use Rattle.flat_networks.specs.Flat.{IsFlat, flatness_of}
 use Rattle.flat_networks.proofs.PublicLaws.{flatness_ok}
 use Rattle.intent_reader.specs.declared.intent.Intent.{Intent}
+use Rattle.intent_reader.specs.Rules.{IsIntent}
 use Rattle.list_pack.specs.declared.types.Solution.{Solution}
 use Rattle.list_pack.specs.SidLists.{list_values}
 use Rattle.list_pack.proofs.PublicLaws.{flat-lists, legal-flat}
@@ -17,8 +17,7 @@ use Rattle.path_compiler.specs.declared.compiled.Compiled.{Compiled}
 use Rattle.path_compiler.specs.declared.compiled.CompileFault.{CompileFault}
 use Rattle.path_compiler.specs.declared.compiled.CompileFault.TheVariants as faults
 use Rattle.path_compiler.specs.Compiled.{IsFound}
-use Rattle.own_hands.specs.Realizes.{OwnListExecutes, OwnListRealizes}
-use Rattle.intent_legs.specs.Legs.{binding_legs_value}
+use Rattle.intent_legs.specs.Legs.{ListExecutesFor, ListRealizesFor, intent_legs_value}
 use Rattle.intent_legs.specs.Answers.{IntentAnswers, NoneLessFor}
 use Rattle.compile_commands.specs.declared.compile.Answer.{Answer}
 use Rattle.command_output.specs.declared.halt.Failure.TheVariants as failures
@@ -42,13 +41,15 @@ pub report-is : (net : Network) (c : Compiled) (values : List Addr) (lines numbe
 report-is net c values lines numbers are is counts =
     ap₂ (λ (a b : List ℕ). a ++ b) (is ∙ (lines-map values ∙ ap (flat_map container_line) are)) counts
 
+flat-by : (net : Network) → net.hidden ≡ [] → flatness_of net ≡ Ok tt → IsFlat net
+flat-by net whole is = (flatness_ok net whole).0 (subst (λ (r : Result (Unit {0}) NotFlat). IsOk r) (sym is) refl)
+
 -- a list that was found in a flat network has values
 values-of : (net : Network) (intent : Intent) (c : Compiled) → IsNetwork net → net.hidden ≡ [] → flatness_of net ≡ Ok tt
-    → IsFound (binding_legs_value net intent) net (OwnListRealizes net intent) (OwnListExecutes net intent) intent.reduced c → HasValues net c
+    → IsFound (intent_legs_value net intent) net (ListRealizesFor net intent) (ListExecutesFor net intent) intent.reduced c → HasValues net c
 values-of net intent c network whole is_flat found =
     let legal = found.chosen.whole.legal in
-    let flat : IsFlat net = (flatness_ok net whole).0 (subst (λ (r : Result (Unit {0}) NotFlat). IsOk r) (sym is_flat) refl) in
-    (legal, legal-flat net c.list (flat-lists net network flat) legal)
+    (legal, legal-flat net c.list (flat-lists net network (flat-by net whole is_flat)) legal)
 
 pub values_kept : (net : Network) (intent : Intent) (c : Compiled) → IsNetwork net → IntentAnswers net intent (Ok c) → HasValues net c
 values_kept net intent c network answers = values-of net intent c network answers.whole answers.flat answers.found
@@ -63,22 +64,26 @@ values_over net intent c network answers = values-of net intent c network answer
 
 -- the SIDs of what was found are SIDs of the network
 
-pub knows_kept : (net : Network) (intent : Intent) (c : Compiled) → Keeps net → IntentAnswers net intent (Ok c)
+pub knows_kept : (net : Network) (intent : Intent) (c : Compiled) → IsNetwork net → IsIntent net intent → IntentAnswers net intent (Ok c)
     → KnowsStates net c.solution
-knows_kept net intent c keeps answers = knows_states net intent keeps c.solution answers.found.solution
+knows_kept net intent c network is answers =
+    knows_states net intent network (flat-by net answers.whole answers.flat) is c.solution answers.found.solution
 
-pub knows_long : (net : Network) (intent : Intent) (c : Compiled) → Keeps net → IntentAnswers net intent (Err (faults.TooLong c))
+pub knows_long : (net : Network) (intent : Intent) (c : Compiled) → IsNetwork net → IsIntent net intent → IntentAnswers net intent (Err (faults.TooLong c))
     → KnowsStates net c.solution
-knows_long net intent c keeps answers = knows_states net intent keeps c.solution answers.found.solution
+knows_long net intent c network is answers =
+    knows_states net intent network (flat-by net answers.whole answers.flat) is c.solution answers.found.solution
 
-pub knows_over : (net : Network) (intent : Intent) (c : Compiled) → Keeps net → IntentAnswers net intent (Err (faults.HopLimit c))
+pub knows_over : (net : Network) (intent : Intent) (c : Compiled) → IsNetwork net → IsIntent net intent → IntentAnswers net intent (Err (faults.HopLimit c))
     → KnowsStates net c.solution
-knows_over net intent c keeps answers = knows_states net intent keeps c.solution answers.found.solution
+knows_over net intent c network is answers =
+    knows_states net intent network (flat-by net answers.whole answers.flat) is c.solution answers.found.solution
 
-pub knows_none_in : (net : Network) (intent : Intent) (compiled : Result Compiled CompileFault) (s : Solution) → Keeps net
-    → IntentAnswers net intent compiled → compiled ≡ Err (faults.NoList s) → KnowsStates net s
-knows_none_in net intent compiled s keeps answers is =
-    knows_states net intent keeps s (subst (IntentAnswers net intent) is answers).solution
+pub knows_none_in : (net : Network) (intent : Intent) (compiled : Result Compiled CompileFault) (s : Solution) → IsNetwork net
+    → IsIntent net intent → IntentAnswers net intent compiled → compiled ≡ Err (faults.NoList s) → KnowsStates net s
+knows_none_in net intent compiled s network is answers none =
+    let a = subst (IntentAnswers net intent) none answers in
+    knows_states net intent network (flat-by net a.whole a.flat) is s a.solution
 
 pub ruleset valued = (values_kept, values_long, values_over, knows_kept, knows_long, knows_over)
 

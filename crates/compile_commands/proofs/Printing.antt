@@ -9,7 +9,6 @@ use Rattle.net_model.specs.Rules.{IsNetwork}
 use Rattle.flat_networks.specs.Flat.{IsFlat, flatness_of}
 use Rattle.text_faults.specs.declared.fault.TextFault.{TextFault}
 use Rattle.flat_networks.specs.declared.not_flat.NotFlat.{NotFlat}
-use Rattle.net_model.proofs.PublicLaws.{keeps_from_network}
 use Rattle.flat_networks.proofs.PublicLaws.{flatness_ok}
 use Rattle.toml_words.specs.Reading.{◌>>=◌}
 use Rattle.net_words.specs.declared.intent.DescribedIntent.{DescribedIntent}
@@ -33,16 +32,14 @@ use Rattle.list_certificate.specs.Reading.{read_of}
 use Rattle.list_certificate.specs.Spelling.{spelled}
 use Rattle.list_certificate.specs.Verdicts.{IsVerdict}
 use Rattle.list_certificate.proofs.PublicLaws.{one-verdict, solution-cert, what-is-read}
-use Rattle.own_hands.specs.Realizes.{OwnListExecutes, OwnListRealizes}
-use Rattle.intent_legs.specs.Legs.{binding_legs_value}
-use Rattle.intent_legs.specs.Legs.{OwnListHands}
+use Rattle.intent_legs.specs.Legs.{ListExecutesFor, ListHandsFor, ListRealizesFor, intent_legs_value}
 use Rattle.path_compiler.specs.declared.compiled.Compiled.{Compiled}
 use Rattle.path_compiler.specs.declared.compiled.CompileFault.{CompileFault}
 use Rattle.path_compiler.specs.declared.compiled.CompileFault.TheVariants as faults
 use Rattle.path_compiler.proofs.PublicLaws.{says_lists}
 use Rattle.intent_legs.specs.Answers.{IntentAnswers}
 use Rattle.intent_legs.specs.Verdicts.{CertifiesFor, SaysFor, SaysOfHandingFor}
-use Rattle.intent_legs.proofs.PublicLaws.{certifies-for, laws-for, means-for, says-handing-for}
+use Rattle.intent_legs.proofs.PublicLaws.{certifies-for, laws-for, means-for, says-handing-for, sids-for}
 use Rattle.net_model.specs.declared.limits.TheConstants.{MAX_TEXT_BYTES}
 use Rattle.command_output.specs.declared.refusal.Refusal.{Refusal}
 use Rattle.command_output.specs.declared.refusal.Refusal.TheVariants as refusals
@@ -56,7 +53,6 @@ use Rattle.command_inputs.specs.Judgements.{network_in, intent_in, intent_by, ce
 use Rattle.command_output.specs.Pieces.{Output, bytes_for_out}
 use Rattle.compile_commands.specs.Printed.{ConfirmsAnswer, ConfirmsPrinted, CheckConfirmsCompile}
 use Rattle.command_inputs.proofs.PublicLaws.{RulesAreKept, rules-kept}
-use Rattle.compile_commands.proofs.Checking.{network_of}
 use Rattle.compile_commands.proofs.Compiling.{values_kept, values_long, values_over}
 use Rattle.compile_commands.proofs.Reporting.{report_texts, no_report_texts, report-lines, no-report-lines, report-comments, no-report-comments}
 
@@ -81,7 +77,7 @@ intent-of net text intent is = by (nat_lt MAX_TEXT_BYTES (length text)) (intent_
 
 module _ (net : Network) (intent : Intent) (network : IsNetwork net) (is_intent : IsIntent net intent) where
   abbrev v : LegsValue
-  v = binding_legs_value net intent
+  v = intent_legs_value net intent
 
   flat-by : net.hidden ≡ [] → flatness_of net ≡ Ok tt → IsFlat net
   flat-by whole is = (flatness_ok net whole).0 (subst (λ (r : Result (Unit {0}) NotFlat). IsOk r) (sym is) refl)
@@ -91,13 +87,13 @@ module _ (net : Network) (intent : Intent) (network : IsNetwork net) (is_intent 
 
   -- the text is read as the certificate of the solution
   cert-read : (s : Solution) (comments : List (List ℕ)) (text : List ℕ) → KeepsLaws v → IsSolution v s → All IsComment comments
-      → text ≡ lines_text comments ++ spelled net s → length text ≤ MAX_TEXT_BYTES
+      → text ≡ lines_text comments ++ spelled net s → length text ≤ MAX_TEXT_BYTES → IsFlat net
       → cert_in net v text ≡ Ok (certificate_of (1 + length comments) s)
-  cert-read s comments text laws is all parts small =
+  cert-read s comments text laws is all parts small flat =
       let fits : nat_lt MAX_TEXT_BYTES (length text) ≡ false = le-ltb MAX_TEXT_BYTES (length text) small in
       let read : read_of net v text ≡ Ok (certificate_of (1 + length comments) s)
       = ap (read_of net v) parts
-      ∙ what-is-read net v comments s network laws (network_of net intent (keeps_from_network net network)) is all in
+      ∙ what-is-read net v comments s network laws (sids-for net intent network flat is_intent) is all in
       rw fits (ap cert_by read)
 
   -- so the verdict is the one that it certifies
@@ -111,7 +107,8 @@ module _ (net : Network) (intent : Intent) (network : IsNetwork net) (is_intent 
       let flat_wants : FlatWants net intent (Ok tt) (Some text) output
       = subst (λ (r : Result (Unit {0}) NotFlat). FlatWants net intent r (Some text) output) flat wants in
       let read : CertWants net intent (Ok (certificate_of head s)) output
-      = subst (λ (r : Result Cert Refusal). CertWants net intent r output) (cert-read s comments text laws is all parts small) flat_wants in
+      = subst (λ (r : Result Cert Refusal). CertWants net intent r output) (cert-read s comments text laws is all parts small (flat-by whole flat))
+      flat_wants in
       let same : read.0 ≡ verdict
       = one-verdict v (certificate_of head s) read.0 verdict laws (solution-cert v head s is) read.1.is (certifies head) in
       read.2 ∙ ap (told_of net) same
@@ -126,12 +123,13 @@ module _ (net : Network) (intent : Intent) (network : IsNetwork net) (is_intent 
       let cert : Cert = certificate_of (1 + length comments) s in
       let judges : IsVerdict v cert verdict = certifies (1 + length comments) in
       let says : SaysFor net intent verdict
-      = says_lists v net (OwnListRealizes net intent) (OwnListExecutes net intent) (OwnListHands net intent)
+      = says_lists v net (ListRealizesFor net intent) (ListExecutesFor net intent) (ListHandsFor net intent)
       (means-for net intent network (flat-by whole flat) is_intent) cert verdict laws judges in
       let handing : SaysOfHandingFor net intent verdict = says-handing-for net intent verdict network (flat-by whole flat) is_intent says in
       let wants : CertWants net intent (Ok cert) output = (verdict, record { is = judges; says = says; handing = handing }, told) in
       let read : FlatWants net intent (Ok tt) (Some text) output
-      = subst (λ (r : Result Cert Refusal). CertWants net intent r output) (sym (cert-read s comments text laws is all parts small)) wants in
+      = subst (λ (r : Result Cert Refusal). CertWants net intent r output)
+      (sym (cert-read s comments text laws is all parts small (flat-by whole flat))) wants in
       subst (λ (r : Result (Unit {0}) NotFlat). FlatWants net intent r (Some text) output) (sym flat) read
 
   -- what is for `out` of a report with a certificate after it

@@ -13,7 +13,7 @@ use Rattle.list_certificate.specs.declared.types.Why.TheVariants as whys
 use Rattle.list_certificate.specs.Spelling.{state_text, IsKnown}
 use Rattle.list_certificate.specs.Verdicts.{IsVerdict}
 use Rattle.leg_table.specs.Table.{LegTable}
-use Rattle.intent_legs.specs.Legs.{binding_legs_value}
+use Rattle.intent_legs.specs.Legs.{intent_legs_value}
 use Rattle.intent_legs.specs.Verdicts.{SaysFor, SaysOfHandingFor}
 use Rattle.srx_edge.specs.Edge.{file_named}
 use Rattle.command_output.specs.declared.told.Judgement.{Judgement}
@@ -96,10 +96,10 @@ verdict_status NoList = statuses.Done
 verdict_status (No number why) = statuses.SaysNo
 
 -- the verdict on a certificate over the legs of the intent, and what it says of lists: with `Least` a legal list of so many containers
--- realizes the intent with this need, and no legal list that does so, those that execute binding SIDs among them, has fewer, or as many and
--- a smaller need; with `NoList` none does; and so it is of the legal lists that hand over even one inner packet
+-- realizes the intent with this need, and no legal list that does so has fewer, or as many and a smaller need; with `NoList` none does; and
+-- so it is of the legal lists that hand over even one inner packet
 pub record IsChecked (net : Network) (intent : Intent) (cert : Cert) (verdict : Verdict) : Type 0 where
-  pub is : IsVerdict (binding_legs_value net intent) cert verdict
+  pub is : IsVerdict (intent_legs_value net intent) cert verdict
   pub says : SaysFor net intent verdict
   pub handing : SaysOfHandingFor net intent verdict
 
@@ -118,7 +118,7 @@ CertWants net intent (Ok cert) output = VerdictWants net intent cert output
 abbrev pub FlatWants : Network → Intent → Result (Unit {0}) NotFlat → Option (List ℕ) → Output → Type 0
 FlatWants net intent (Err why) cert output = output ≡ refused (flat_refusal net why)
 FlatWants net intent (Ok flat) cert output =
-    IsSomeAnd cert (λ text. CertWants net intent (cert_in net (binding_legs_value net intent) text) output)
+    IsSomeAnd cert (λ text. CertWants net intent (cert_in net (intent_legs_value net intent) text) output)
 
 abbrev pub CheckedIntentWants : Network → Result Intent Refusal → Option (List ℕ) → Output → Type 0
 CheckedIntentWants net (Err refusal) cert output = output ≡ refused refusal

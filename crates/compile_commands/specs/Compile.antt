@@ -105,7 +105,7 @@ AnswerWants net intent (Err (faults.HopLimit found)) output =
 AnswerWants net intent (Err faults.NoMemory) output = ⊥
 
 -- the description is judged, then the intent, and then any answer of the compiler will do: a list is the least among all legal lists that
--- realize the intent, those that execute binding SIDs among them; what is wanted of each answer is the command's
+-- realize the intent; what is wanted of each answer is the command's
 
 abbrev pub Wanted : Type 1
 Wanted = Network → Intent → Result Compiled CompileFault → Output → Type 0

@@ -3,7 +3,7 @@
 
 ghost use Rattle.std.specs.Prelude.{◌≡◌, [], IfOk};
 ghost use Rattle.intent_reader.specs.Rules.{IsIntent};
-ghost use Rattle.intent_legs.specs.Legs.{binding_legs_value};
+ghost use Rattle.intent_legs.specs.Legs.{intent_legs_value};
 ghost use Rattle.list_certificate.specs.Certs.{IsCert};
 ghost use Rattle.list_certificate.specs.Reading.{IsNetworkOf};
 ghost use Rattle.list_certificate.specs.Spelling.{IsKnown, state_text};
@@ -142,12 +142,12 @@ fn status_of_verdict(verdict: Verdict) -> Status
 }
 
 /// The legs of an intent, where the network is flat.
-#[tactic(auto, using(crate::proofs::Checking::legs))]
 fn legs_of_flat<'a>(alloc: Global, net: &'a Net, intent: &'a Intent) -> Result<IntentLegs<'a>, Halt>
     requires whole { net.now.hidden ≡ [] }
     requires intent { IsIntent net.now intent.now }
     ensures legs { LegsOf net.now intent.now result }
-    ensures known { IsNetworkOf net.now (binding_legs_value net.now intent.now) }
+    ensures known { IfOk result
+        (λ legs. IsNetworkOf net.now (intent_legs_value net.now intent.now)) }
 {
     net.keeps_rules();
     if let Err(why) = compilable(alloc, net) {
@@ -165,7 +165,7 @@ fn judgement_of_cert(
     cert: &Cert,
 ) -> Result<Judgement, AllocError>
     requires net { legs.now.net ≡ net.now }
-    requires cert { IsCert (binding_legs_value legs.now.net legs.now.intent) cert.now }
+    requires cert { IsCert (intent_legs_value legs.now.net legs.now.intent) cert.now }
     ensures { IfOk result (JudgesAs net.now legs.now.intent cert.now) }
 {
     legs.keeps_rules();
@@ -179,8 +179,8 @@ fn judgement_of_cert(
 /// Checks the certificate of a file for the intent of another in the network that a third
 /// describes. The description is judged, then the intent, then whether the network is flat, each
 /// before the next file is read; then the certificate is read over the legs of the intent, and
-/// judged: what is confirmed is the least among all legal lists that realize the intent, those that
-/// execute binding SIDs among them. What is written is made before any of it goes out. (own rule)
+/// judged: what is confirmed is the least among all legal lists that realize the intent, as
+/// `compile` says which these are. What is written is made before any of it goes out. (own rule)
 pub fn check<F: Files, O: Sink>(
     alloc: Global,
     file: &str,

@@ -2,7 +2,6 @@
 
 ghost use Rattle.std.specs.Prelude.{◌≡◌, [], IfOk, string_bytes};
 ghost use Rattle.std.specs.List.{flat_map};
-ghost use Rattle.net_model.specs.Keeps.{Keeps};
 ghost use Rattle.net_model.specs.Rules.{IsNetwork};
 ghost use Rattle.intent_legs.specs.Answers.{IntentAnswers};
 ghost use Rattle.command_output.specs.Answers.{CommandsUnread};
@@ -191,7 +190,7 @@ impl Answer {
         compiled: &Result<Compiled, CompileFault>,
     ) -> Result<Answer, Halt>
         requires network { IsNetwork net.now }
-        requires facts { Keeps net.now }
+        requires intent { IsIntent net.now intent.now }
         requires answers { IntentAnswers net.now intent.now compiled.now }
         ensures { GivesAnswer net.now intent.now compiled.now result }
     {
@@ -229,8 +228,10 @@ impl Answer {
 
 /// Compiles the intent of a file in the network that another describes. The description is judged,
 /// then the intent, each before the next is read; what is written is made before any of it goes
-/// out. A list is the least among all legal lists that realize the intent, those that execute
-/// binding SIDs among them. (own rule)
+/// out. A list is the least among all legal lists that realize the intent: those that execute
+/// binding SIDs among them, where no step is to reach a node, and where one is, those each of whose
+/// SIDs is executed at one node and after one number of finished steps, whichever next hop is
+/// chosen. (own rule)
 pub fn compile<F: Files, O: Sink>(
     alloc: Global,
     file: &str,

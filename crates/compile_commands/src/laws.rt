@@ -4,7 +4,7 @@ ghost use Rattle.std.specs.Prelude.{◌≡◌, ◌↔◌, ℕ, List, Option};
 ghost use Rattle.net_model.specs.Network.{Network};
 ghost use Rattle.flat_networks.specs.Flat.{flatness_of};
 ghost use Rattle.intent_reader.specs.declared.intent.Intent.{Intent};
-ghost use Rattle.intent_legs.specs.Kinds.{BindsNothing};
+ghost use Rattle.intent_legs.specs.Kinds.{BindsNothing, ReachesNothing};
 ghost use Rattle.command_output.specs.Pieces.{Output};
 ghost use Rattle.command_output.specs.Shape.{Held};
 ghost use Rattle.compile_commands.specs.Check.{FlatWants};
@@ -26,22 +26,24 @@ pub fn check_confirms_what_compile_prints()
     networks_keep_the_rules();
 }
 
-/// With one description and one intent `compile` has one output, whatever the input is: one list, the
-/// least among all legal lists that realize the intent, those that execute binding SIDs among them,
-/// its numbers and one certificate, or one refusal. (own rule)
+/// With one description and one intent `compile` has one output, whatever the input is: one list,
+/// the least among all legal lists that realize the intent, its numbers and one certificate, or one
+/// refusal. (own rule)
 pub fn compile_has_one_output()
     ensures { (file intent : List ℕ) (held : Held) (input other : List ℕ) (a b : Output)
         → (compile_shape file intent).wants held input a
         → (compile_shape file intent).wants held other b → a ≡ b }
 {}
 
-/// Where no SID of a network binds a policy, `compile` and `check` have the outputs that answers and
-/// verdicts over the strict steps of an intent give, and no others. (own rule)
+/// Where no step of an intent is to reach a node and no SID of a network binds a policy, `compile`
+/// and `check` have the outputs that answers and verdicts over the strict steps of the intent give,
+/// and no others. (own rule)
 pub fn without_binding_sids_outputs_are_strict()
-    ensures compile { (net : Network) (intent : Intent) (output : Output) → BindsNothing net
+    ensures compile { (net : Network) (intent : Intent) (output : Output)
+        → ReachesNothing intent → BindsNothing net
         → CompiledWants AnswerWants net intent output ↔ StrictlyCompiled net intent output }
     ensures check { (net : Network) (intent : Intent) (cert : Option (List ℕ)) (output : Output)
-        → BindsNothing net
+        → ReachesNothing intent → BindsNothing net
         → FlatWants net intent (flatness_of net) cert output
         ↔ StrictlyJudged net intent (flatness_of net) cert output }
 {}

@@ -1,3 +1,5 @@
+pub mod Keeping
+pub mod Reaches
 pub mod Tables
 pub mod Alike
 pub mod Strict

@@ -1,25 +1,31 @@
--- The table of legs by their kind.
-use Rattle.std.proofs.Common.{◌≡◌, ℕ, Option, sym, ap, subst, ◌∙◌}
-use Rattle.leg_table.specs.Leg.{finish_of, leg_of}
+-- The legs of an intent by the kind of its table.
+use Rattle.std.proofs.Common.{◌≡◌, refl, sym, ap, subst, ◌∙◌}
 use Rattle.leg_table.specs.Table.{LegTable}
-use Rattle.binding_legs.specs.Legs.{binding_finish, binding_leg}
-use Rattle.binding_legs.proofs.PublicLaws.{finish-strict, leg-strict}
+use Rattle.leg_table.specs.Value.{legs_value}
+use Rattle.binding_legs.specs.Legs.{binding_legs_value}
+use Rattle.loose_laws.specs.Value.{loose_legs_value}
+use Rattle.loose_legs.specs.Steps.{trace_steps}
 use Rattle.intent_legs.specs.declared.legs.Kind.{Kind}
 use Rattle.intent_legs.specs.declared.legs.Kind.TheVariants as kinds
-use Rattle.intent_legs.specs.Kinds.{BindsNothing, SuitsKind, table_of}
+use Rattle.intent_legs.specs.Kinds.{SuitsKind, table_of}
+use Rattle.intent_legs.specs.Legs.{intent_legs_value}
+use Rattle.intent_legs.proofs.Reaches.{legs-loose, legs-own}
+use Rattle.intent_legs.proofs.Strict.{legs-strict}
 
-pub strict-table : (kind : Kind) (t is : LegTable) → table_of kind ≡ is → kind ≡ kinds.Strict t → t ≡ is
-strict-table kind t is view e = sym (ap table_of e) ∙ view
+-- what is seen of a table is seen of one that is the same
+module _ (kind : Kind) (t is : LegTable) (view : table_of kind ≡ is) (suits : SuitsKind kind) where
+  same-table : (kind : Kind) → table_of kind ≡ is → (of : Kind) → table_of of ≡ t → kind ≡ of
+      → intent_legs_value t.net t.intent ≡ intent_legs_value is.net is.intent
+  same-table kind view of own e =
+      ap (λ (u : LegTable). intent_legs_value u.net u.intent) (sym own ∙ sym (ap table_of e) ∙ view)
 
-pub strict-suits : (kind : Kind) (t : LegTable) → SuitsKind kind → kind ≡ kinds.Strict t → BindsNothing t.net
-strict-suits kind t suits e = subst SuitsKind e suits
+  pub seen-strict : kind ≡ kinds.Strict t → legs_value t.net t.intent ≡ intent_legs_value is.net is.intent
+  seen-strict e =
+      let s = subst SuitsKind e suits in
+      sym (legs-strict t.net t.intent s.1 s.0) ∙ same-table kind view (kinds.Strict t) refl e
 
--- the legs of strict steps are those through binding SIDs
-module _ (t is : LegTable) (same : t ≡ is) (none : BindsNothing t.net) (position : ℕ) (via : Option ℕ) (next : ℕ) where
-  pub leg-same : leg_of t.net t.intent position via next ≡ binding_leg is.net is.intent position via next
-  leg-same =
-      sym (leg-strict t.net none t.intent next position via) ∙ ap (λ (u : LegTable). binding_leg u.net u.intent position via next) same
+  pub seen-binding : kind ≡ kinds.Binding t → binding_legs_value t.net t.intent ≡ intent_legs_value is.net is.intent
+  seen-binding e = sym (legs-own t.net t.intent (subst SuitsKind e suits)) ∙ same-table kind view (kinds.Binding t) refl e
 
-  pub finish-same : finish_of t.net t.intent position via next ≡ binding_finish is.net is.intent position via next
-  finish-same =
-      sym (finish-strict t.net none t.intent next position via) ∙ ap (λ (u : LegTable). binding_finish u.net u.intent position via next) same
+  pub seen-loose : kind ≡ kinds.Loose t → loose_legs_value t.net t.intent (trace_steps t.intent) ≡ intent_legs_value is.net is.intent
+  seen-loose e = sym (legs-loose t.net t.intent (subst SuitsKind e suits)) ∙ same-table kind view (kinds.Loose t) refl e

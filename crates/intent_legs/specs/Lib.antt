@@ -1,4 +1,6 @@
 pub mod Kinds
+pub mod Legs
+pub mod Steps
+pub mod Small
 pub mod Answers
 pub mod Verdicts
-pub mod Legs

@@ -1,14 +1,12 @@
-//! Intents compiled, and certificates judged, over the legs that their networks ask for.
+//! Intents compiled, and certificates judged, over the legs that they and their networks ask for.
 
 ghost use Rattle.std.specs.Prelude.{◌≡◌, []};
 ghost use Rattle.intent_reader.specs.Rules.{IsIntent};
 ghost use Rattle.list_certificate.specs.Certs.{IsCert};
 ghost use Rattle.list_certificate.specs.Verdicts.{IsVerdict};
-ghost use Rattle.own_hands.specs.Realizes.{OwnListExecutes, OwnListRealizes};
-ghost use Rattle.binding_legs.specs.Legs.{binding_legs_value};
-ghost use Rattle.binding_legs.specs.Legs.{OwnListHands};
-ghost use Rattle.path_compiler.specs.Checked.{Says, SaysOver};
 ghost use Rattle.intent_legs.specs.Answers.{IntentAnswers, NoneLessFor};
+ghost use Rattle.intent_legs.specs.Legs.{intent_legs_value};
+ghost use Rattle.intent_legs.specs.Verdicts.{SaysFor, SaysOfHandingFor};
 
 use crate::legs::IntentLegs;
 use base::NoMemory;
@@ -20,12 +18,15 @@ use path_compiler::{CompileFault, Compiled, checked_over, compile_over};
 use std::alloc::Global;
 
 /// Compiles an intent that keeps the rules in a network, of which nothing is hidden, to the least
-/// legal list of SIDs, binding SIDs among them, that takes each packet of the intent along exactly
-/// its steps up to its own hand-over, whichever equal next hop is chosen, by `compile_over` over the
-/// intent's legs. `NotFlat` comes exactly where the network is not flat, before all other answers. Of
-/// the legal lists that hand over even one inner packet at one hop limit so, none needs fewer header
-/// bytes than the list that is found, nor has fewer containers, or as many at a hop limit that is not
-/// above its need; where none is found there are none of them. (own rule)
+/// legal list of SIDs that realizes it, by `compile_over` over the intent's legs. Where no step is
+/// to reach a node, the list takes each packet of the intent along exactly its steps up to its own
+/// hand-over, whichever equal next hop is chosen, and binding SIDs may be among its SIDs. Where one
+/// is, the list executes no binding SIDs, each packet's trace splits into the steps' parts, and
+/// each SID is executed at one node and after one number of finished steps, whichever next hop is
+/// chosen. `NotFlat` comes exactly where the network is not flat, before all other answers. Of the
+/// legal lists that hand over even one inner packet at one hop limit so, none needs fewer header
+/// bytes than the list that is found, nor has fewer containers, or as many at a hop limit that is
+/// not above its need; where none is found there are none of them. (own rule)
 pub fn compile(alloc: Global, net: &Net, intent: &Intent) -> Result<Compiled, CompileFault>
     requires whole { net.now.hidden ≡ [] }
     requires intent { IsIntent net.now intent.now }
@@ -43,15 +44,14 @@ pub fn compile(alloc: Global, net: &Net, intent: &Intent) -> Result<Compiled, Co
     }
 }
 
-/// What a certificate shows over the legs of an intent, by `checked_over`: the first of its tests that
-/// fails, or the least pair of containers and need of a legal list that realizes the intent up to a
-/// packet's own hand-over, or that none does. It takes no memory. (own rule)
+/// What a certificate shows over the legs of an intent, by `checked_over`: the first of its tests
+/// that fails, or the least pair of containers and need of a legal list that realizes the intent,
+/// or that none does. It takes no memory. (own rule)
 pub fn check(legs: &IntentLegs<'_>, cert: &Cert) -> Verdict
-    requires { IsCert (binding_legs_value legs.now.net legs.now.intent) cert.now }
-    ensures verdict { IsVerdict (binding_legs_value legs.now.net legs.now.intent) cert.now result }
-    ensures says { Says legs.now.net (OwnListRealizes legs.now.net legs.now.intent)
-        (OwnListExecutes legs.now.net legs.now.intent) result }
-    ensures handing { SaysOver legs.now.net (OwnListHands legs.now.net legs.now.intent) result }
+    requires { IsCert (intent_legs_value legs.now.net legs.now.intent) cert.now }
+    ensures verdict { IsVerdict (intent_legs_value legs.now.net legs.now.intent) cert.now result }
+    ensures says { SaysFor legs.now.net legs.now.intent result }
+    ensures handing { SaysOfHandingFor legs.now.net legs.now.intent result }
 {
     checked_over(legs, cert)
 }

@@ -1,17 +1,19 @@
-//! Legs of the kind that a network asks for.
+//! Legs of the kind that an intent and its network ask for.
 
-ghost use Rattle.std.specs.Prelude.{◌≡◌, true, length, IfOk};
+ghost use Rattle.std.specs.Prelude.{◌≡◌, true, IfOk};
 ghost use Rattle.net_model.specs.Keeps.{Keeps};
 ghost use Rattle.net_model.specs.Rules.{IsNetwork};
 ghost use Rattle.flat_networks.specs.Flat.{IsFlat};
 ghost use Rattle.intent_reader.specs.Rules.{IsIntent};
 ghost use Rattle.intent_legs.specs.Kinds.{BindsNothing};
+ghost use Rattle.intent_legs.specs.Legs.{intent_legs_value};
 
 use base::NoMemory;
 use binding_legs::BindingLegs;
-use intent_reader::Intent;
+use intent_reader::{Intent, has_reach};
 use leg_table::StrictLegs;
 use list_pack::{Leg, Legs, ListLegs, Shape};
+use loose_legs::LooseLegs;
 use net_model::Net;
 use std::alloc::Global;
 use std::marker::Model;
@@ -23,10 +25,13 @@ enum Kind<'a> {
     Strict(StrictLegs<'a>),
     /// Through binding SIDs.
     Binding(BindingLegs<'a>),
+    /// Along steps of which one is to reach a node.
+    Loose(LooseLegs<'a>),
 }
 
-/// The legs of an intent in a network: through binding SIDs, where a SID binds a policy, and else
-/// those of strict steps, which are the same there. (own rule)
+/// The legs of an intent in a network: where a step is to reach a node, the legs along such steps;
+/// else those through binding SIDs, where a SID binds a policy, and those of strict steps where
+/// none does, which are the same there. (own rule)
 #[derive(Debug, Drop)]
 pub struct IntentLegs<'a> {
     kind: Kind<'a>,
@@ -66,6 +71,12 @@ impl<'a> IntentLegs<'a> {
         requires flat { IsFlat net.now }
         ensures { IfOk result (λ t. t ≡ record { net = net.now; intent = intent.now }) }
     {
+        if has_reach(intent.steps.as_slice()) {
+            let legs = LooseLegs::build(alloc, net, intent)?;
+            return Ok(IntentLegs {
+                kind: Kind::Loose(legs),
+            });
+        }
         if binds_nothing(net) {
             let legs = StrictLegs::build(alloc, net, intent)?;
             return Ok(IntentLegs {
@@ -89,23 +100,24 @@ impl<'a> IntentLegs<'a> {
         match &self.kind {
             Kind::Strict(legs) => legs.keeps_rules(),
             Kind::Binding(legs) => legs.keeps_rules(),
+            Kind::Loose(legs) => legs.keeps_rules(),
         }
     }
 
+    /// how many steps the intent has
     fn count(&self) -> u32
-        ensures { result ≡ length self.now.intent.steps }
+        ensures { result ≡ (intent_legs_value self.now.net self.now.intent).steps }
     {
         match &self.kind {
             Kind::Strict(legs) => legs.steps(),
             Kind::Binding(legs) => legs.steps(),
+            Kind::Loose(legs) => legs.steps(),
         }
     }
 }
 
 impl<'a> Legs for IntentLegs<'a> {
-    ghost use Rattle.binding_legs.specs.Legs.{binding_legs_value};
-
-    ghost seen = { λ t. binding_legs_value t.net t.intent };
+    ghost seen = { λ t. intent_legs_value t.net t.intent };
 
     fn steps(&self) -> u32 {
         self.keeps_rules();
@@ -116,6 +128,7 @@ impl<'a> Legs for IntentLegs<'a> {
         match &self.kind {
             Kind::Strict(legs) => legs.sids_at(position),
             Kind::Binding(legs) => legs.sids_at(position),
+            Kind::Loose(legs) => legs.sids_at(position),
         }
     }
 
@@ -123,6 +136,7 @@ impl<'a> Legs for IntentLegs<'a> {
         match &self.kind {
             Kind::Strict(legs) => legs.shape(sid),
             Kind::Binding(legs) => legs.shape(sid),
+            Kind::Loose(legs) => legs.shape(sid),
         }
     }
 
@@ -130,6 +144,7 @@ impl<'a> Legs for IntentLegs<'a> {
         match &self.kind {
             Kind::Strict(legs) => legs.leg(position, via, next),
             Kind::Binding(legs) => legs.leg(position, via, next),
+            Kind::Loose(legs) => legs.leg(position, via, next),
         }
     }
 
@@ -137,6 +152,7 @@ impl<'a> Legs for IntentLegs<'a> {
         match &self.kind {
             Kind::Strict(legs) => legs.finish(position, via, next),
             Kind::Binding(legs) => legs.finish(position, via, next),
+            Kind::Loose(legs) => legs.finish(position, via, next),
         }
     }
 
@@ -144,21 +160,21 @@ impl<'a> Legs for IntentLegs<'a> {
         match &self.kind {
             Kind::Strict(legs) => legs.stays(sid, next),
             Kind::Binding(legs) => legs.stays(sid, next),
+            Kind::Loose(legs) => legs.stays(sid, next),
         }
     }
 }
 
 impl<'a> ListLegs for IntentLegs<'a> {
-    ghost use Rattle.own_hands.specs.Realizes.{OwnListRealizes, OwnListExecutes};
-    ghost use Rattle.binding_legs.specs.Legs.{OwnListHands};
+    ghost use Rattle.intent_legs.specs.Legs.{ListExecutesFor, ListHandsFor, ListRealizesFor};
 
     ghost network = { λ t. t.net };
 
-    ghost realizes = { λ t. OwnListRealizes t.net t.intent };
+    ghost realizes = { λ t. ListRealizesFor t.net t.intent };
 
-    ghost executes = { λ t. OwnListExecutes t.net t.intent };
+    ghost executes = { λ t. ListExecutesFor t.net t.intent };
 
-    ghost hands = { λ t. OwnListHands t.net t.intent };
+    ghost hands = { λ t. ListHandsFor t.net t.intent };
 
     fn keeps_meaning(&self) {
         self.keeps_rules();

@@ -1,11 +1,13 @@
-//! The legs of an intent, of the kind that its network asks for.
+//! The legs of an intent, of the kind that it and its network ask for.
 //!
-//! `IntentLegs` are the legs of strict steps where no SID of the network binds a policy, and else
-//! those through binding SIDs; both are seen as the latter, since without binding SIDs they are the
-//! same. What they realize is said by a packet's own hand-over (`own_hands`). `compile` compiles an
-//! intent over them, and `check` judges a certificate. The functions of `laws` do nothing: their
-//! contracts say that the certificate of what the search found tells what was compiled, and that
-//! without binding SIDs all answers are those of strict steps.
+//! Where a step is to reach a node, `IntentLegs` are the legs along such steps, and lists realize
+//! what `loose_lists` says. Else they are the legs of strict steps where no SID of the network
+//! binds a policy, and those through binding SIDs where one does; both are seen as the latter,
+//! since without binding SIDs they are the same, and what lists realize is said by a packet's own
+//! hand-over (`own_hands`). `compile` compiles an intent over them, and `check` judges a
+//! certificate. The functions of `laws` do nothing: their contracts say that the certificate of
+//! what the search found tells what was compiled, and what an intent's steps and a network without
+//! binding SIDs make of all answers.
 #![tactic(auto)]
 
 mod compiling;

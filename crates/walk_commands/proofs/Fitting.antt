@@ -4,9 +4,9 @@ use Rattle.std.proofs.Common.{◌≡◌, ◌≢◌, ℕ, zero, suc, ◌+◌, ◌
 use Rattle.std.specs.Prelude.{IsTrue, slice_get, All, is_some, if◌then◌else◌}
 use Rattle.std.specs.List.{list_any}
 use Rattle.std.specs.Option.{option_map}
-use Rattle.std.proofs.lemmas.Bool.{and_parts, eqb-true}
+use Rattle.std.proofs.lemmas.Bool.{eqb-true}
 use Rattle.std.proofs.lemmas.Option.{same_Some}
-use Rattle.std.proofs.lemmas.List.Elements.{All-cons, All-head, All-nil, All-tail}
+use Rattle.std.proofs.lemmas.List.Elements.{All-contains, All-head, All-tail, All-weaker}
 use Rattle.srv6_rules.specs.Packet.{Packet, Content, V6, V4, Unreadable}
 use Rattle.srv6_rules.specs.declared.sid.Behaviour.{Behaviour}
 use Rattle.srv6_rules.specs.declared.sid.Family.{Family}
@@ -16,8 +16,9 @@ use Rattle.srv6_rules.specs.Endpoint.{Endpoint, Onward, Exposed, Delivered, Refu
 use Rattle.srv6_rules.specs.Behaviours.{behaviour_policy}
 use Rattle.srv6_rules.proofs.PublicLaws.{at_sid-shorter, length-spelling}
 use Rattle.net_model.specs.Network.{Network}
+use Rattle.intent_reader.specs.declared.intent.Intent.{Intent}
 use Rattle.intent_reader.specs.declared.intent.Step.{Step}
-use Rattle.intent_reader.specs.declared.intent.Step.TheVariants.{Links, Function}
+use Rattle.intent_reader.specs.declared.intent.Step.TheVariants.{Links, Function, Reach}
 use Rattle.walk_rules.specs.declared.place.How.{How}
 use Rattle.walk_rules.specs.declared.place.Place.{Place}
 use Rattle.walk_rules.specs.declared.place.Outcome.{Outcome}
@@ -28,8 +29,10 @@ use Rattle.walk_rules.specs.Walk.{free_walk_of, walk_of, next_place, decisions}
 use Rattle.walk_rules.proofs.Outcomes.{treated-each}
 use Rattle.walk_rules.proofs.PublicLaws.{onward-each, step-fits, step-other, walk_by-suc, walk_by-zero, walk_by-none}
 use Rattle.leg_table.specs.Sids.{sid_binds, is_binding}
-use Rattle.leg_table.specs.Tasks.{has_link, matches, meets}
+use Rattle.leg_table.specs.Tasks.{has_link}
 use Rattle.leg_table.specs.Trace.{Event, Handed, Crossed, Executed, after_events, after_execution, executed, handed_first, handed_over, is_titled}
+use Rattle.compile_commands.specs.Lists.{IsOfSteps, KeepsToSteps, MayCross}
+use Rattle.compile_commands.proofs.PublicLaws.{keeps-crosses}
 use Rattle.walk_commands.specs.Walk.{GoesOver}
 use Rattle.walk_commands.proofs.HandingOver.{Unbound}
 
@@ -52,20 +55,20 @@ module _ (net : Network) (len : ℕ) where
           subst (λ m. len ≤ mtu_at net m) (eqb-true k link same) (All-head (λ m. len ≤ mtu_at net m) k ks all)
       by_test false other here later = later here
 
-  meets-carried : (t : Step) (e : Event) → meets t e ≡ true → GoesOver net len t → Carried net len e
-  meets-carried (Links set) (Crossed link) h over = among set link h over
-  meets-carried (Links set) (Executed n) h over = tt
-  meets-carried (Function sid) (Crossed link) h over = absurd (cc h)
-  meets-carried (Function sid) (Executed n) h over = tt
+  step-carried : (t : Step) (link : ℕ) → MayCross net t link → GoesOver net len t → len ≤ mtu_at net link
+  step-carried (Links set) link may over = among set link may over
+  step-carried (Function sid) link may over = absurd may
+  step-carried (Reach node) link may over = over link may
 
-  pub carried : (ts : List Step) (es : List Event) → IsTrue (matches ts es) → All (GoesOver net len) ts → All (Carried net len) es
-  carried [] [] h over = All-nil (Carried net len)
-  carried [] (e ∷ es) h over = absurd (cc h)
-  carried (t ∷ ts) [] h over = absurd (cc h)
-  carried (t ∷ ts) (e ∷ es) h over =
-      let both = and_parts (meets t e) (matches ts es) h in
-      All-cons (Carried net len) e es (meets-carried t e both.0 (All-head (GoesOver net len) t ts over))
-      (carried ts es both.1 (All-tail (GoesOver net len) t ts over))
+  event-carried : (ts : List Step) → All (GoesOver net len) ts → (e : Event) → IsOfSteps net ts e → Carried net len e
+  event-carried ts over (Crossed link) is =
+      step-carried is.0 link is.2 (All-contains (GoesOver net len) ts is.0 over is.1)
+  event-carried ts over (Executed n) is = tt
+
+  pub carried : (intent : Intent) (es : List Event) → KeepsToSteps net intent es → All (GoesOver net len) intent.steps
+      → All (Carried net len) es
+  carried intent es keeps over =
+      All-weaker (IsOfSteps net intent.steps) (Carried net len) (event-carried intent.steps over) es (keeps-crosses net intent es keeps)
 
 -- ---- no packet on the way is longer
 
@@ -143,7 +146,7 @@ behind-some f (Some later) h e = (later, refl, same_Some (f later) h e)
 
 module _ (net : Network) (len : ℕ) (pick : ℕ → ℕ) where
   -- what is handed over crosses links that carry so many bytes, and binds no policy
-  abbrev Passes : Handed → Type 0
+  abbrev pub Passes : Handed → Type 0
   Passes h = Unbound net h.sids × All (Carried net len) h.trace
 
   -- a walk that hands over so without MTUs does so with them

@@ -1,6 +1,7 @@
--- Where no SID binds a policy, a packet that fits the links of the intent's steps is small: on no way is it longer than at the headend, it is
--- sent on links of the steps alone, and each stage before its hand-over lowers its hop limit, or sends what was submitted.
-use Rattle.std.proofs.Common.{◌≡◌, ℕ, zero, suc, ◌+◌, ◌≤◌, List, [], ◌∷◌, length, map, Option, Some, None, refl, sym, ap, ◌∙◌, subst, arith}
+-- Where no SID that binds a policy is executed, a packet that fits the links of the intent's steps is small: on no way is it longer than
+-- at the headend, it is sent on links of the steps alone, and each stage before its hand-over lowers its hop limit, or sends what was
+-- submitted.
+use Rattle.std.proofs.Common.{◌≡◌, ℕ, zero, suc, ◌+◌, ◌≤◌, false, List, [], ◌∷◌, length, map, Option, Some, None, refl, sym, ap, ◌∙◌, subst, arith}
 use Rattle.std.specs.Prelude.{All}
 use Rattle.std.proofs.lemmas.List.{length-map}
 use Rattle.std.proofs.lemmas.List.Elements.{All-head, All-tail}
@@ -9,17 +10,19 @@ use Rattle.net_model.specs.Network.{Network}
 use Rattle.walk_rules.specs.declared.place.Place.{Place}
 use Rattle.walk_rules.specs.declared.place.Outcome.{Outcome}
 use Rattle.walk_rules.specs.declared.place.Outcome.TheVariants as outcomes
-use Rattle.walk_rules.specs.Treatment.{Gave, free_step_of, own_len}
+use Rattle.walk_rules.specs.Treatment.{Gave, free_step_of, mtu_at, own_len}
 use Rattle.walk_rules.specs.Walk.{Stage, decisions, free_walk_of, next_place, walk_by}
+use Rattle.leg_table.specs.Sids.{is_binding}
 use Rattle.leg_table.specs.Trace.{Crossed, Handed, after_events, after_execution, behind_stage, handed_first, handed_over, is_titled, through_hand}
 use Rattle.deep_stages.specs.Layers.{PushFits, spelled_content}
 use Rattle.deep_stages.specs.Stages.{over}
 use Rattle.deep_stages.specs.Walks.{DeepStage, alone, behind_own, deep_walk, through_own}
 use Rattle.deep_stages.proofs.PublicLaws.{alone-walk}
 use Rattle.own_hands.specs.Small.{FitAll, SentFits}
-use Rattle.compile_commands.specs.Lists.{BindsNothing}
-use Rattle.walk_commands.proofs.Fitting.{Carried, IsSmall, SmallAfter, behind-some, carried-later, own-small, step-small}
+use Rattle.compile_commands.specs.Lists.{AllFit, BindsNothing}
+use Rattle.walk_commands.proofs.Fitting.{Carried, IsSmall, Passes, SmallAfter, behind-some, carried-later, own-small, step-small}
 use Rattle.walk_commands.proofs.FirstHands.{binds-nothing}
+use Rattle.walk_commands.proofs.HandingOver.{Unbound}
 
 -- ---- stages without headers in front
 
@@ -44,7 +47,7 @@ same-own (Unreadable bytes reason) = refl
 no-push : (gave : Gave) → PushFits [] (over [] gave)
 no-push gave less = absurd (omega (arith, less))
 
-module _ (net : Network) (none : BindsNothing net) (len : ℕ) (pick : ℕ → ℕ) where
+module _ (net : Network) (len : ℕ) (pick : ℕ → ℕ) where
   abbrev walk : ℕ → Option Place → Content → ℕ → List Stage
   walk fuel place content taken = free_walk_of fuel net place content pick taken
 
@@ -60,11 +63,11 @@ module _ (net : Network) (none : BindsNothing net) (len : ℕ) (pick : ℕ → �
   -- of a walk that hands over along links that carry so many bytes, as many stages as there may be
   abbrev FitsAfter : ℕ → ℕ → Type 0
   FitsAfter fuel n = (place : Option Place) (content : Content) (taken : ℕ) (h : Handed)
-      → handed_over net (walk fuel place content taken) ≡ Some h → All (Carried net len) h.trace → IsSmall len content
+      → handed_over net (walk fuel place content taken) ≡ Some h → Passes net len pick h → IsSmall len content
       → Fitting (through_hand (walk n place content taken))
 
   module _ (fuel n : ℕ) (fits : FitsAfter fuel n) (place : Place) (content : Content) (gave : Gave) (taken : ℕ) (h : Handed)
-      (carries : All (Carried net len) h.trace) (small : IsSmall len content) where
+      (passes : Passes net len pick h) (small : IsSmall len content) where
     abbrev Fit : Outcome → Type 0
     Fit o = SentFits net (spelled_content content []) o × Fitting (behind_stage o (through_hand (after n place gave taken o)))
 
@@ -76,32 +79,36 @@ module _ (net : Network) (none : BindsNothing net) (len : ℕ) (pick : ℕ → �
     stage-fits (outcomes.Drop reason told) less e = absurd (cc e)
     stage-fits (outcomes.Again m how) less e =
         let got = behind-some (after_execution net m) (handed_over net (after fuel place gave taken (outcomes.Again m how))) h e in
-        let trace = subst (All (Carried net len)) (sym (ap (λ (x : Handed). x.trace) got.2)) carries in (
+        let trace = subst (All (Carried net len)) (sym (ap (λ (x : Handed). x.trace) got.2)) passes.1 in
+        let sids : Unbound net (m ∷ got.0.sids) = subst (Unbound net) (sym (ap (λ (x : Handed). x.sids) got.2)) passes.0 in (
           tt,
           fits (next_place net place (outcomes.Again m how)) gave.after (taken + 0) got.0 got.1
-              (carried-later net len m (is_titled net m) got.0.trace trace) (less (none m)),
+              (All-tail (λ k. is_binding net k ≡ false) m got.0.sids sids, carried-later net len m (is_titled net m) got.0.trace trace)
+              (less (All-head (λ k. is_binding net k ≡ false) m got.0.sids sids)),
         )
     stage-fits (outcomes.Send link) less e =
         let f : Handed → Handed = after_events (Crossed link ∷ []) in
         let got = behind-some f (handed_over net (after fuel place gave taken (outcomes.Send link))) h e in
         let trace : All (Carried net len) (Crossed link ∷ got.0.trace) =
-        subst (All (Carried net len)) (sym (ap (λ (x : Handed). x.trace) got.2)) carries in
+        subst (All (Carried net len)) (sym (ap (λ (x : Handed). x.trace) got.2)) passes.1 in
         let carried = All-head (Carried net len) (Crossed link) got.0.trace trace in
         let own = own-small len content small in
         let same = same-own content in (
           omega (arith, carried, own, same),
-          fits (next_place net place (outcomes.Send link)) gave.after (taken + 1) got.0 got.1
-              (All-tail (Carried net len) (Crossed link) got.0.trace trace) less,
+          fits (next_place net place (outcomes.Send link)) gave.after (taken + 1) got.0 got.1 (
+            subst (Unbound net) (sym (ap (λ (x : Handed). x.sids) got.2)) passes.0,
+            All-tail (Carried net len) (Crossed link) got.0.trace trace,
+          ) less,
         )
 
   fits-from : (fuel n : ℕ) → FitsAfter fuel n
   unfolding walk_by
-  fits-from fuel zero place content taken h e carries small = tt
-  fits-from zero (suc n) place content taken h e carries small = absurd (cc e)
-  fits-from (suc fuel) (suc n) None content taken h e carries small = tt
-  fits-from (suc fuel) (suc n) (Some place) content taken h e carries small =
+  fits-from fuel zero place content taken h e passes small = tt
+  fits-from zero (suc n) place content taken h e passes small = absurd (cc e)
+  fits-from (suc fuel) (suc n) None content taken h e passes small = tt
+  fits-from (suc fuel) (suc n) (Some place) content taken h e passes small =
       let gave : Gave = free_step_of net place content (pick taken) in
-      let rest = stage-fits fuel n (fits-from fuel n) place content gave taken h carries small gave.outcome
+      let rest = stage-fits fuel n (fits-from fuel n) place content gave taken h passes small gave.outcome
       (step-small net len place content (pick taken) small) e in
       (no-push gave, rest.0, rest.1)
 
@@ -134,23 +141,45 @@ module _ (net : Network) (none : BindsNothing net) (len : ℕ) (pick : ℕ → �
       let rest = stage-few n fuel (few-from n fuel) place gave taken h gave.outcome e in
       omega (arith, rest)
 
-  -- ---- stages over values
+  -- ---- the packet's walk alone
 
-  stages-alone : (fuel : ℕ) (place : Option Place) (content : Content) (taken : ℕ)
-      → through_own (deep_walk fuel net place content [] pick taken) ≡ map alone (through_hand (walk fuel place content taken))
-  stages-alone fuel place content taken =
-      ap through_own (alone-walk fuel net place content pick taken (binds-nothing net none)) ∙ through-alone (walk fuel place content taken)
+  sent-same : (content : Content) (o : Outcome) → SentFits net (spelled_content content []) o → SentFits net content o
+  sent-same content (outcomes.Send link) h = subst (λ (n : ℕ). n ≤ mtu_at net link) (same-own content) h
+  sent-same content (outcomes.Again n how) h = tt
+  sent-same content (outcomes.Hand n how family) h = tt
+  sent-same content outcomes.Local h = tt
+  sent-same content (outcomes.Drop reason error) h = tt
+
+  all-fit : (ss : List Stage) → Fitting ss → AllFit net ss
+  all-fit [] h = tt
+  all-fit (s ∷ ss) h = (sent-same s.before s.gave.outcome h.1, all-fit ss h.2)
 
   module _ (place : Option Place) (content : Content) (taken hand : ℕ) (h : Handed)
       (first : handed_over net (walk hand place content taken) ≡ Some h) where
-    pub plain-fits : All (Carried net len) h.trace → IsSmall len content → (fuel : ℕ)
-        → FitAll net (through_own (deep_walk fuel net place content [] pick taken))
-    plain-fits carries small fuel =
-        subst (FitAll net) (sym (stages-alone fuel place content taken)) (fits-from hand fuel place content taken h first carries small)
+    pub loose-fits : Passes net len pick h → IsSmall len content → (fuel : ℕ) → AllFit net (through_hand (walk fuel place content taken))
+    loose-fits passes small fuel =
+        all-fit (through_hand (walk fuel place content taken)) (fits-from hand fuel place content taken h first passes small)
 
-    pub plain-few : (fuel : ℕ) → length (through_own (deep_walk fuel net place content [] pick taken)) ≤ hand
-    plain-few fuel =
-        let few = few-from hand fuel place content taken h first in
-        let same : length (through_own (deep_walk fuel net place content [] pick taken)) ≡ length (through_hand (walk fuel place content taken))
-        = ap length (stages-alone fuel place content taken) ∙ length-map (through_hand (walk fuel place content taken)) alone in
-        omega (arith, same, few)
+    pub loose-few : (fuel : ℕ) → length (through_hand (walk fuel place content taken)) ≤ hand
+    loose-few fuel = few-from hand fuel place content taken h first
+
+    -- ---- stages over values
+
+    module _ (none : BindsNothing net) where
+      stages-alone : (fuel : ℕ)
+          → through_own (deep_walk fuel net place content [] pick taken) ≡ map alone (through_hand (walk fuel place content taken))
+      stages-alone fuel =
+          ap through_own (alone-walk fuel net place content pick taken (binds-nothing net none))
+          ∙ through-alone (walk fuel place content taken)
+
+      pub plain-fits : Passes net len pick h → IsSmall len content → (fuel : ℕ)
+          → FitAll net (through_own (deep_walk fuel net place content [] pick taken))
+      plain-fits passes small fuel =
+          subst (FitAll net) (sym (stages-alone fuel)) (fits-from hand fuel place content taken h first passes small)
+
+      pub plain-few : (fuel : ℕ) → length (through_own (deep_walk fuel net place content [] pick taken)) ≤ hand
+      plain-few fuel =
+          let few = loose-few fuel in
+          let same : length (through_own (deep_walk fuel net place content [] pick taken)) ≡ length (through_hand (walk fuel place content taken))
+          = ap length (stages-alone fuel) ∙ length-map (through_hand (walk fuel place content taken)) alone in
+          omega (arith, same, few)

@@ -1,5 +1,6 @@
 -- Walks of the compiled list keep to the intent's steps.
-use Rattle.std.proofs.Common.{◌≡◌, ℕ, ◌+◌, ◌^◌, ◌<◌, ◌≤◌, List, [], ◌∷◌, length, length-append, map, Option, Some, refl, sym, ap, ◌∙◌, arith}
+use Rattle.std.proofs.Common.{◌≡◌, ℕ, ◌+◌, ◌^◌, ◌<◌, ◌≤◌, Bool, true, false, List, [], ◌∷◌, length, length-append, map, Option, Some, refl, sym, ap, ◌∙◌, subst, arith}
+use Rattle.std.specs.Prelude.{IsTrue}
 use Rattle.std.proofs.lemmas.List.{length-map}
 use Rattle.v6_addr.specs.declared.address.Addr.{Addr}
 use Rattle.srv6_rules.specs.declared.sid.Family.{Family}
@@ -13,22 +14,24 @@ use Rattle.net_model.specs.Network.{Network}
 use Rattle.net_model.specs.Rules.{IsNetwork}
 use Rattle.net_model.proofs.PublicLaws.{keeps_from_network}
 use Rattle.walk_rules.specs.declared.place.Place.{Place}
-use Rattle.walk_rules.specs.Walk.{choice_at}
+use Rattle.walk_rules.specs.Walk.{choice_at, free_walk_of}
 use Rattle.intent_reader.specs.declared.intent.Intent.{Intent}
+use Rattle.intent_reader.specs.Rules.{has_reach}
 use Rattle.list_pack.specs.SidLists.{list_values}
-use Rattle.leg_table.specs.Realizes.{IsInner, content_lowered, encapsulation_of, encapsulated_for, headend_place, HandsOver, ListRealizes}
-use Rattle.leg_table.specs.Trace.{handed_over}
+use Rattle.leg_table.specs.Realizes.{IsInner, content_lowered, encapsulation_of, encapsulated_for, headend_place, ListRealizes}
+use Rattle.leg_table.specs.Trace.{Handed, handed_over}
 use Rattle.own_hands.specs.Small.{IsSmall}
-use Rattle.own_hands.proofs.PublicLaws.{realizes-either, small-keeps}
+use Rattle.own_hands.proofs.PublicLaws.{small-keeps}
 use Rattle.path_compiler.specs.declared.compiled.Compiled.{Compiled}
 use Rattle.compile_commands.specs.Lists.{IsCompiledFor}
-use Rattle.compile_commands.specs.Lists.{BindsNothing}
+use Rattle.compile_commands.specs.Lists.{BindsNothing, IsSmallFor, IsSmallIf, KeepsIf, KeepsToSteps, LooseIsSmall, trace_steps}
+use Rattle.compile_commands.proofs.PublicLaws.{loose-keeps, met-keeps, realizes-loose, realizes-own, realizes-strict}
 use Rattle.walk_rules.specs.declared.limits.TheConstants.{MAX_STAGES}
 use Rattle.walk_commands.specs.Walk.{Enters, IsEncapsulated, KeepsTo, KeepsToAtFirst, WalksKeep, of_content, of_encapsulating, policy_of, segment_of, walk_at_headend}
-use Rattle.walk_commands.proofs.FirstHands.{binds-nothing, own-first}
-use Rattle.walk_commands.proofs.HandingOver.{hands-within}
-use Rattle.walk_commands.proofs.Fitting.{carried, walk-joins}
-use Rattle.walk_commands.proofs.PlainSmalls.{plain-few, plain-fits}
+use Rattle.walk_commands.proofs.FirstHands.{own-first}
+use Rattle.walk_commands.proofs.HandingOver.{Unbound, hands-within}
+use Rattle.walk_commands.proofs.Fitting.{Passes, carried, walk-joins}
+use Rattle.walk_commands.proofs.PlainSmalls.{loose-few, loose-fits, plain-few, plain-fits}
 use Rattle.walk_commands.proofs.WalkStarts.{values-count}
 
 -- a lowered packet is as long
@@ -108,41 +111,113 @@ module _ (net : Network) (intent : Intent) (c : Compiled) (compiled : IsCompiled
 
 -- ---- packets that keep to the intent
 
--- the outer packet of a small inner packet is spelled, so it is not too big
+module _ (net : Network) (intent : Intent) (c : Compiled) (choices : List ℕ) (inner : Content) (network : IsNetwork net)
+    (compiled : IsCompiledFor net intent c) (some : 0 < length choices) (is : IsInner intent.inner inner) where
+  abbrev small_packet : Packet
+  small_packet = encapsulated_for intent (list_values net c.list) inner intent.hop_limit
+
+  -- the outer packet of a small inner packet is spelled, so it is not too big
+  spelled-enters : IsSpellable small_packet → of_content (policy_of net intent c) inner ≡ Enters (V6 small_packet)
+  spelled-enters spelled =
+      let size = outer-length net intent c compiled intent.inner inner refl is in
+      let fits : length small_packet.payload < 65536 = spelled.payload_len in
+      enters net intent c compiled intent.inner inner refl is (omega (arith, size, fits))
+
+  -- by whether a step is to reach a node
+  small_if : (b : Bool) → has_reach intent.steps ≡ b → IsSmallIf b net intent (list_values net c.list) inner intent.hop_limit
+      → KeepsTo net intent c choices inner
+  small_if false none small =
+      let realizes = (realizes-own net intent none c.list c.need).0 compiled.found.chosen.whole.realizes in
+      let got = small-keeps net intent (list_values net c.list) inner c.need intent.hop_limit choices (keeps_from_network net network)
+      realizes is compiled.within small some in
+      record {
+        outer = V6 small_packet;
+        enters = spelled-enters small.spelled;
+        handed = got.handed;
+        own = got.own;
+        steps = met-keeps net intent got.handed.trace got.steps;
+        lowered = got.content;
+      }
+  small_if true reach small =
+      let realizes = (realizes-loose net intent reach c.list c.need).0 compiled.found.chosen.whole.realizes in
+      let got = loose-keeps net intent (trace_steps intent) c.list inner c.need intent.hop_limit choices realizes is compiled.within small
+      some in
+      record {
+        outer = V6 small_packet;
+        enters = spelled-enters small.spelled;
+        handed = got.handed;
+        own = own-first net (walk_at_headend net intent choices (V6 small_packet)) got.handed got.first got.unbound;
+        steps = subst (λ (b : Bool). KeepsIf b net intent got.handed.trace) (sym reach) got.keeps;
+        lowered = got.content;
+      }
+
 pub small_keeps : (net : Network) (intent : Intent) (c : Compiled) (choices : List ℕ) (inner : Content) → IsNetwork net
     → IsCompiledFor net intent c → 0 < length choices → IsInner intent.inner inner
-    → IsSmall net intent (list_values net c.list) inner intent.hop_limit → KeepsTo net intent c choices inner
+    → IsSmallFor net intent (list_values net c.list) inner intent.hop_limit → KeepsTo net intent c choices inner
 small_keeps net intent c choices inner network compiled some is small =
-    let segments : List ℕ = list_values net c.list in
-    let packet : Packet = encapsulated_for intent segments inner intent.hop_limit in
-    let got = small-keeps net intent segments inner c.need intent.hop_limit choices (keeps_from_network net network)
-    compiled.found.chosen.whole.realizes is compiled.within small some in
-    let size = outer-length net intent c compiled intent.inner inner refl is in
-    let fits : length packet.payload < 65536 = small.spelled.payload_len in
-    record {
-      outer = V6 packet;
-      enters = enters net intent c compiled intent.inner inner refl is (omega (arith, size, fits));
-      handed = got.handed;
-      own = got.own;
-      steps = got.steps;
-      lowered = got.content;
-    }
+    small_if net intent c choices inner network compiled some is (has_reach intent.steps) refl small
 
--- where the list executes no binding SID, no packet on the way is longer than at the headend, and the first hand-over is the own one
-pub strict_keeps : (net : Network) (intent : Intent) (c : Compiled) (choices : List ℕ) (inner : Content)
-    → ListRealizes net intent c.list c.need → intent.hop_limit < 2 ^ 8 → IsCompiledFor net intent c → 0 < length choices
-    → IsEncapsulated net intent c inner → KeepsToAtFirst net intent c choices inner
-strict_keeps net intent c choices inner realizes byte compiled some is =
+-- ---- packets that are handed over first, where no SID that binds a policy is executed
+
+record HandsFirst (net : Network) (intent : Intent) (c : Compiled) (choices : List ℕ) (inner : Content) : Type 0 where
+  fuel : ℕ
+  handed : Handed
+  first : handed_over net (free_walk_of fuel net (Some (headend_place intent))
+      (V6 (encapsulated_for intent (list_values net c.list) inner intent.hop_limit)) (choice_at choices) 0) ≡ Some handed
+  keeps : KeepsToSteps net intent handed.trace
+  content : handed.content ≡ content_lowered inner
+  unbound : Unbound net handed.sids
+
+module _ (net : Network) (intent : Intent) (c : Compiled) (compiled : IsCompiledFor net intent c) (inner : Content)
+    (is : IsInner intent.inner inner) (choices : List ℕ) (some : 0 < length choices) where
+  -- where the list realizes the steps, one event each
+  strict_first : ListRealizes net intent c.list c.need → HandsFirst net intent c choices inner
+  strict_first realizes =
+      let got = realizes.reaches inner is intent.hop_limit compiled.within choices some in
+      record {
+        fuel = got.fuel;
+        handed = got.handed;
+        first = got.first;
+        keeps = met-keeps net intent got.handed.trace got.steps;
+        content = got.content;
+        unbound = got.unbound;
+      }
+
+  -- where a step is to reach a node
+  loose_first : has_reach intent.steps ≡ true → HandsFirst net intent c choices inner
+  loose_first reach =
+      let realizes = (realizes-loose net intent reach c.list c.need).0 compiled.found.chosen.whole.realizes in
+      let got = realizes.reaches.always inner is intent.hop_limit compiled.within choices some in
+      record {
+        fuel = got.fuel;
+        handed = got.handed;
+        first = got.first;
+        keeps = subst (λ (b : Bool). KeepsIf b net intent got.handed.trace) (sym reach) got.keeps;
+        content = got.content;
+        unbound = got.unbound;
+      }
+
+  -- in a network without binding SIDs
+  plain_if : BindsNothing net → (b : Bool) → has_reach intent.steps ≡ b → HandsFirst net intent c choices inner
+  plain_if nothing false none =
+      strict_first ((realizes-strict net intent nothing none c.list c.need).0 compiled.found.chosen.whole.realizes)
+  plain_if nothing true reach = loose_first reach
+
+  plain_first : BindsNothing net → HandsFirst net intent c choices inner
+  plain_first nothing = plain_if nothing (has_reach intent.steps) refl
+
+-- no packet on the way is longer than at the headend, and the first hand-over is the own one
+first_keeps : (net : Network) (intent : Intent) (c : Compiled) (choices : List ℕ) (inner : Content) → intent.hop_limit < 2 ^ 8
+    → IsCompiledFor net intent c → IsEncapsulated net intent c inner → HandsFirst net intent c choices inner
+    → KeepsToAtFirst net intent c choices inner
+first_keeps net intent c choices inner byte compiled is got =
     let len : ℕ = c.header + length (bytes_of inner) in
-    let segments : List ℕ = list_values net c.list in
-    let packet : Packet = encapsulated_for intent segments inner intent.hop_limit in
-    let got : HandsOver net intent segments inner intent.hop_limit choices
-    = realizes.reaches inner is.is_inner intent.hop_limit compiled.within choices some in
+    let packet : Packet = encapsulated_for intent (list_values net c.list) inner intent.hop_limit in
     let size = outer-length net intent c compiled intent.inner inner refl is.is_inner in
     let first : handed_over net (walk_at_headend net intent choices (V6 packet)) ≡ Some got.handed
     = walk-joins net len (choice_at choices) MAX_STAGES _ (V6 packet) 0 got.handed
     (hands-within net (choice_at choices) got.fuel MAX_STAGES _ (V6 packet) 0 got.handed got.first got.unbound (omega (arith, byte)))
-    (got.unbound, carried net len intent.steps got.handed.trace got.steps is.goes_over)
+    (got.unbound, carried net len intent got.handed.trace got.keeps is.goes_over)
     (omega (arith, size)) in
     record {
       keeps = record {
@@ -150,51 +225,100 @@ strict_keeps net intent c choices inner realizes byte compiled some is =
         enters = enters net intent c compiled intent.inner inner refl is.is_inner is.small;
         handed = got.handed;
         own = own-first net (walk_at_headend net intent choices (V6 packet)) got.handed first got.unbound;
-        steps = got.steps;
+        steps = got.keeps;
         lowered = got.content;
       };
       first = first;
     }
 
--- so it is in a network without binding SIDs
-list-plain : (net : Network) (intent : Intent) (c : Compiled) → BindsNothing net → IsCompiledFor net intent c
-    → ListRealizes net intent c.list c.need
-list-plain net intent c none compiled =
-    (realizes-either net intent (list_values net c.list) (binds-nothing net none) c.need).0 compiled.found.chosen.whole.realizes
+pub strict_keeps : (net : Network) (intent : Intent) (c : Compiled) (choices : List ℕ) (inner : Content)
+    → ListRealizes net intent c.list c.need → intent.hop_limit < 2 ^ 8 → IsCompiledFor net intent c → 0 < length choices
+    → IsEncapsulated net intent c inner → KeepsToAtFirst net intent c choices inner
+strict_keeps net intent c choices inner realizes byte compiled some is =
+    first_keeps net intent c choices inner byte compiled is (strict_first net intent c compiled inner is.is_inner choices some realizes)
 
 pub plain_keeps : (net : Network) (intent : Intent) (c : Compiled) (choices : List ℕ) (inner : Content) → BindsNothing net
     → intent.hop_limit < 2 ^ 8 → IsCompiledFor net intent c → 0 < length choices → IsEncapsulated net intent c inner
     → KeepsToAtFirst net intent c choices inner
 plain_keeps net intent c choices inner none byte compiled some is =
-    strict_keeps net intent c choices inner (list-plain net intent c none compiled) byte compiled some is
+    first_keeps net intent c choices inner byte compiled is (plain_first net intent c compiled inner is.is_inner choices some none)
 
--- and such a packet is small, where bytes spell it with its first header
+pub loose_keeps : (net : Network) (intent : Intent) (c : Compiled) (choices : List ℕ) (inner : Content) → IsTrue (has_reach intent.steps)
+    → intent.hop_limit < 2 ^ 8 → IsCompiledFor net intent c → 0 < length choices → IsEncapsulated net intent c inner
+    → KeepsToAtFirst net intent c choices inner
+loose_keeps net intent c choices inner reach byte compiled some is =
+    first_keeps net intent c choices inner byte compiled is (loose_first net intent c compiled inner is.is_inner choices some reach)
+
+-- ---- and such a packet is small, where bytes spell it with its first header
+
+module _ (net : Network) (intent : Intent) (c : Compiled) (inner : Content) (byte : intent.hop_limit < 2 ^ 8)
+    (compiled : IsCompiledFor net intent c) (is : IsEncapsulated net intent c inner)
+    (spelled : IsSpellable (encapsulated_for intent (list_values net c.list) inner intent.hop_limit))
+    (firsts : (choices : List ℕ) → 0 < length choices → HandsFirst net intent c choices inner) where
+  abbrev len : ℕ
+  len = c.header + length (bytes_of inner)
+
+  abbrev packet : Packet
+  packet = encapsulated_for intent (list_values net c.list) inner intent.hop_limit
+
+  size : 40 + length packet.payload ≤ len
+  size = let same = outer-length net intent c compiled intent.inner inner refl is.is_inner in omega (arith, same)
+
+  passes : (choices : List ℕ) (some : 0 < length choices) → Passes net len (choice_at choices) (firsts choices some).handed
+  passes choices some =
+      let g = firsts choices some in (g.unbound, carried net len intent g.handed.trace g.keeps is.goes_over)
+
+  early : (choices : List ℕ) (some : 0 < length choices)
+      → handed_over net (free_walk_of 9999 net (Some (headend_place intent)) (V6 packet) (choice_at choices) 0)
+      ≡ Some (firsts choices some).handed
+  early choices some =
+      let g = firsts choices some in
+      hands-within net (choice_at choices) g.fuel 9999 (headend_place intent) (V6 packet) 0 g.handed g.first g.unbound (omega (arith, byte))
+
+  own_small : BindsNothing net → IsSmall net intent (list_values net c.list) inner intent.hop_limit
+  own_small none = record {
+    spelled = spelled;
+    fits = λ choices fuel some.
+        plain-fits net len (choice_at choices) (Some (headend_place intent)) (V6 packet) 0 9999 (firsts choices some).handed
+        (early choices some) none (passes choices some) size fuel;
+    few = λ choices fuel some.
+        let few = plain-few net len (choice_at choices) (Some (headend_place intent)) (V6 packet) 0 9999 (firsts choices some).handed
+        (early choices some) none fuel in
+        omega (arith, few);
+  }
+
+  first_small : LooseIsSmall net intent (list_values net c.list) inner intent.hop_limit
+  first_small = record {
+    spelled = spelled;
+    fits = λ choices fuel some.
+        loose-fits net len (choice_at choices) (Some (headend_place intent)) (V6 packet) 0 9999 (firsts choices some).handed
+        (early choices some) (passes choices some) size fuel;
+    few = λ choices fuel some.
+        let few = loose-few net len (choice_at choices) (Some (headend_place intent)) (V6 packet) 0 9999 (firsts choices some).handed
+        (early choices some) fuel in
+        omega (arith, few);
+  }
+
+  small-if : BindsNothing net → (b : Bool) → IsSmallIf b net intent (list_values net c.list) inner intent.hop_limit
+  small-if none false = own_small none
+  small-if none true = first_small
+
 pub plain_small : (net : Network) (intent : Intent) (c : Compiled) (inner : Content) → BindsNothing net → intent.hop_limit < 2 ^ 8
     → IsCompiledFor net intent c → IsEncapsulated net intent c inner
     → IsSpellable (encapsulated_for intent (list_values net c.list) inner intent.hop_limit)
-    → IsSmall net intent (list_values net c.list) inner intent.hop_limit
+    → IsSmallFor net intent (list_values net c.list) inner intent.hop_limit
 plain_small net intent c inner none byte compiled is spelled =
-    let len : ℕ = c.header + length (bytes_of inner) in
-    let segments : List ℕ = list_values net c.list in
-    let packet : Packet = encapsulated_for intent segments inner intent.hop_limit in
-    let place : Option Place = Some (headend_place intent) in
-    let size = outer-length net intent c compiled intent.inner inner refl is.is_inner in
-    let realizes = list-plain net intent c none compiled in
-    let got : (choices : List ℕ) → 0 < length choices → HandsOver net intent segments inner intent.hop_limit choices
-    = λ choices some. realizes.reaches inner is.is_inner intent.hop_limit compiled.within choices some in
-    record {
-      spelled = spelled;
-      fits = λ choices fuel some.
-          let g = got choices some in
-          plain-fits net none len (choice_at choices) place (V6 packet) 0 g.fuel g.handed g.first
-          (carried net len intent.steps g.handed.trace g.steps is.goes_over) (omega (arith, size)) fuel;
-      few = λ choices fuel some.
-          let g = got choices some in
-          let first = hands-within net (choice_at choices) g.fuel 9999 (headend_place intent) (V6 packet) 0 g.handed g.first g.unbound
-          (omega (arith, byte)) in
-          let few = plain-few net none len (choice_at choices) place (V6 packet) 0 9999 g.handed first fuel in
-          omega (arith, few);
-    }
+    small-if net intent c inner byte compiled is spelled
+    (λ choices some. plain_first net intent c compiled inner is.is_inner choices some none) none (has_reach intent.steps)
+
+pub loose_small : (net : Network) (intent : Intent) (c : Compiled) (inner : Content) → IsTrue (has_reach intent.steps)
+    → intent.hop_limit < 2 ^ 8 → IsCompiledFor net intent c → IsEncapsulated net intent c inner
+    → IsSpellable (encapsulated_for intent (list_values net c.list) inner intent.hop_limit)
+    → IsSmallFor net intent (list_values net c.list) inner intent.hop_limit
+loose_small net intent c inner reach byte compiled is spelled =
+    subst (λ (b : Bool). IsSmallIf b net intent (list_values net c.list) inner intent.hop_limit) (sym reach)
+    (first_small net intent c inner byte compiled is spelled
+    (λ choices some. loose_first net intent c compiled inner is.is_inner choices some reach))
 
 pub walks_keep : (net : Network) (intent : Intent) (c : Compiled) (choices : List ℕ) → IsNetwork net → intent.hop_limit < 2 ^ 8
     → IsCompiledFor net intent c → 0 < length choices → WalksKeep net intent c choices
@@ -202,4 +326,5 @@ walks_keep net intent c choices network byte compiled some = record {
   small = λ inner is small. small_keeps net intent c choices inner network compiled some is small;
   strict = λ realizes inner is. strict_keeps net intent c choices inner realizes byte compiled some is;
   plain = λ none inner is. plain_keeps net intent c choices inner none byte compiled some is;
+  loose = λ reach inner is. loose_keeps net intent c choices inner reach byte compiled some is;
 }

@@ -1,6 +1,6 @@
 -- The command `walk`: the inner packets of the input, encapsulated at the headend of the intent of a file with the list that
 -- the intent is compiled to, in the network that another file describes (RFC 8986 sections 5.1 and 5.2).
-use Rattle.std.specs.Prelude.{◌≡◌, ℕ, ◌+◌, ◌≤◌, true, false, IsTrue, if◌then◌else◌, List, [], ◌∷◌, codes, length, map, All, Option, Some, Result, Ok, Err, IsSomeAnd, ⊤, None}
+use Rattle.std.specs.Prelude.{◌≡◌, ℕ, ◌+◌, ◌≤◌, true, false, IsTrue, if◌then◌else◌, List, [], ◌∷◌, codes, length, map, All, Option, Some, Result, Ok, Err, IsSomeAnd, IsSome, ⊤, None, slice_get}
 use Rattle.v6_addr.specs.declared.address.Addr.{Addr}
 use Rattle.pcap_io.specs.declared.frame.Body.{Body}
 use Rattle.pcap_io.specs.declared.frame.Body.TheVariants as bodies
@@ -19,22 +19,21 @@ use Rattle.net_model.specs.Rules.{same_family}
 use Rattle.walk_rules.specs.declared.place.Ended.TheVariants as ends
 use Rattle.walk_rules.specs.declared.place.How.TheVariants.{Submitted}
 use Rattle.walk_rules.specs.declared.place.Place.{Place}
-use Rattle.walk_rules.specs.Walk.{Stage, walk_of, choice_at}
+use Rattle.walk_rules.specs.Walk.{Stage, walk_of, choice_at, far_end}
 use Rattle.walk_rules.specs.Treatment.{mtu_at}
 use Rattle.intent_reader.specs.declared.intent.Intent.{Intent}
+use Rattle.intent_reader.specs.Rules.{has_reach}
 use Rattle.intent_reader.specs.declared.intent.Step.{Step}
-use Rattle.intent_reader.specs.declared.intent.Step.TheVariants.{Links, Function}
+use Rattle.intent_reader.specs.declared.intent.Step.TheVariants.{Links, Function, Reach}
 use Rattle.list_pack.specs.SidLists.{list_values}
 use Rattle.leg_table.specs.Realizes.{headend_place, IsInner, ListRealizes, content_lowered}
-use Rattle.leg_table.specs.Tasks.{matches}
 use Rattle.leg_table.specs.Trace.{Handed, handed_over}
 use Rattle.own_hands.specs.Counting.{handed_at_depth}
-use Rattle.own_hands.specs.Small.{IsSmall}
 use Rattle.path_compiler.specs.declared.compiled.Compiled.{Compiled}
 use Rattle.path_compiler.specs.declared.compiled.CompileFault.{CompileFault}
 use Rattle.path_compiler.specs.declared.compiled.CompileFault.TheVariants as faults
 use Rattle.compile_commands.specs.Lists.{IsCompiledFor, IsLeastFor}
-use Rattle.compile_commands.specs.Lists.{BindsNothing}
+use Rattle.compile_commands.specs.Lists.{BindsNothing, IsSmallFor, KeepsToSteps}
 use Rattle.packet_walk.specs.Schedule.{Coming}
 use Rattle.srx_edge.specs.Edge.{file_named}
 use Rattle.walk_commands.specs.declared.headend.Headend.{Headend}
@@ -177,26 +176,27 @@ walk_output net headend choices schedule input = after (packets_in input) (walke
 abbrev pub no_list : List ℕ → Output
 no_list told = record { pieces = ForErr told ∷ []; status = statuses.NoAnswer }
 
--- a packet of so many bytes goes over each link of a step
+-- a packet of so many bytes goes over each link of a step's set, and on the way to a node over each link that leads to a node
 abbrev pub GoesOver : Network → ℕ → Step → Type 0
 GoesOver net len (Links set) = All (λ link. len ≤ mtu_at net link) set
 GoesOver net len (Function sid) = Unit {0}
+GoesOver net len (Reach node) = (link : ℕ) → IsSome (far_end (slice_get net.links link)) → len ≤ mtu_at net link
 
 -- an inner packet that the headend encapsulates and that is small enough: bytes spell it, its hop limit or TTL can be lowered, the outer
--- packet is not too big, and it goes over each link of each of the intent's steps
+-- packet is not too big, and it goes over each link that one of the intent's steps may cross
 pub record IsEncapsulated (net : Network) (intent : Intent) (c : Compiled) (inner : Content) : Type 0 where
   pub is_inner : IsInner intent.inner inner
   pub small : c.header + length (bytes_of inner) ≤ most_len
   pub goes_over : All (GoesOver net (c.header + length (bytes_of inner))) intent.steps
 
--- it enters, its walk's trace up to its own hand-over is the intent's steps, and what is handed over there is the inner packet with
+-- it enters, its walk's trace up to its own hand-over keeps to the intent's steps, and what is handed over there is the inner packet with
 -- its hop limit or TTL lowered by one; the own hand-over is the first at depth 0, where the depth is counted by outcomes
 pub record KeepsTo (net : Network) (intent : Intent) (c : Compiled) (choices : List ℕ) (inner : Content) : Type 0 where
   pub outer : Content
   pub enters : of_content (policy_of net intent c) inner ≡ Enters outer
   pub handed : Handed
   pub own : handed_at_depth net 0 (walk_at_headend net intent choices outer) ≡ Some handed
-  pub steps : IsTrue (matches intent.steps handed.trace)
+  pub steps : KeepsToSteps net intent handed.trace
   pub lowered : handed.content ≡ content_lowered inner
 
 -- and that is what its walk hands over first
@@ -205,14 +205,17 @@ pub record KeepsToAtFirst (net : Network) (intent : Intent) (c : Compiled) (choi
   pub first : handed_over net (walk_at_headend net intent choices keeps.outer) ≡ Some keeps.handed
 
 -- what the walks of a list keep to: every inner packet of the intent that may be encapsulated and is small keeps to the intent, also where
--- the list executes SIDs that bind policies. Where it executes none, so does every inner packet that fits the links of the intent's steps,
--- with the first hand-over of its walk; and so it is in a network in which no SID binds a policy
+-- the list executes SIDs that bind policies. Where it executes none, so does every inner packet that fits the links that the intent's steps
+-- may cross, with the first hand-over of its walk; and so it is in a network in which no SID binds a policy, and for an intent with a step
+-- that is to reach a node
 pub record WalksKeep (net : Network) (intent : Intent) (c : Compiled) (choices : List ℕ) : Type 0 where
-  pub small : (inner : Content) → IsInner intent.inner inner → IsSmall net intent (list_values net c.list) inner intent.hop_limit
+  pub small : (inner : Content) → IsInner intent.inner inner → IsSmallFor net intent (list_values net c.list) inner intent.hop_limit
       → KeepsTo net intent c choices inner
   pub strict : ListRealizes net intent c.list c.need → (inner : Content) → IsEncapsulated net intent c inner
       → KeepsToAtFirst net intent c choices inner
   pub plain : BindsNothing net → (inner : Content) → IsEncapsulated net intent c inner → KeepsToAtFirst net intent c choices inner
+  pub loose : IsTrue (has_reach intent.steps) → (inner : Content) → IsEncapsulated net intent c inner
+      → KeepsToAtFirst net intent c choices inner
 
 -- the output of a list, whose walks keep to the intent
 abbrev pub ListWants : Network → Intent → List ℕ → List ℕ → List ℕ → Compiled → Output → Type 0

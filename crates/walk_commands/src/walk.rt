@@ -46,16 +46,16 @@ pub fn walk_of_words(alloc: Global, words: &[String]) -> Result<Option<WalkWords
     }))
 }
 
-/// Walks the inner packets of the input, in the order of a schedule as `run` does, from the
-/// headend of the intent of a file, encapsulated with the list that the intent is compiled to in
-/// the network that another file describes; the list may execute SIDs that bind policies. Each
-/// inner packet that is small crosses and executes exactly the intent's steps up to its own
+/// Walks the inner packets of the input, in the order of a schedule as `run` does, from the headend
+/// of the intent of a file, encapsulated with the list that the intent is compiled to in the
+/// network that another file describes; the list may execute SIDs that bind policies, where no step
+/// is to reach a node. Each inner packet that is small keeps to the intent's steps up to its own
 /// hand-over, as the law `a_walk_keeps_to_the_intent` says. Decision d of each packet, counted in
-/// its sends from 0, takes the choice at d modulo the number of choices. The description is judged, then the
-/// intent, each before the next is read; where there is no list nothing is written but a line, and
-/// the input is not read. Packets that are not read or that the headend drops have their lines
-/// before the first stage of any packet, by their numbers. What comes after the last frame of a
-/// capture is refused once all packets were walked. (own rule)
+/// its sends from 0, takes the choice at d modulo the number of choices. The description is judged,
+/// then the intent, each before the next is read; where there is no list nothing is written but a
+/// line, and the input is not read. Packets that are not read or that the headend drops have their
+/// lines before the first stage of any packet, by their numbers. What comes after the last frame of
+/// a capture is refused once all packets were walked. (own rule)
 pub fn walk<F: Files, S: Source, O: Sink, E: Sink>(
     alloc: Global,
     file: &str,

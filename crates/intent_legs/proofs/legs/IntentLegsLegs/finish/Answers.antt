@@ -1,11 +1,10 @@
-use Rattle.std.proofs.Common.{◌∙◌}
-use Rattle.intent_legs.proofs.Tables.{finish-same, strict-suits, strict-table}
+use Rattle.std.proofs.Common.{ap, ◌∙◌}
+use Rattle.list_pack.specs.Value.{LegsValue}
+use Rattle.intent_legs.proofs.Tables.{seen-strict}
 use Rattle.intent_legs.proofs.legs.IntentLegsLegs.finish.Goals as goal
 
 pub returns-in-Strict : goal.returns-in-Strict
 returns-in-Strict c =
-    let kind = c.self.inside.kind in
-    let t = c.in-Strict.legs in
     c.finish.ensures
-    ∙ finish-same t c.args.self.now (strict-table kind t c.args.self.now c.self.view_is c.in-Strict.is)
-    (strict-suits kind t c.self.invariant c.in-Strict.is) c.args.position c.args.via c.args.next
+    ∙ ap (λ (v : LegsValue). v.finish c.args.position c.args.via c.args.next)
+    (seen-strict c.self.inside.kind c.in-Strict.legs c.args.self.now c.self.view_is c.self.invariant c.in-Strict.is)
