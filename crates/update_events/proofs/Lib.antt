@@ -1,0 +1,14 @@
+pub mod Steps
+pub mod Fronts
+pub mod Seats
+pub mod Turning
+pub mod Ends
+pub mod Editing
+pub mod Coming
+pub mod Starting
+pub mod Loops
+pub mod Packets
+pub mod Driving
+pub mod Tracks
+pub mod Seated
+pub mod Over

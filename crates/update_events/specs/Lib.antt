@@ -1,0 +1,5 @@
+pub mod Arriving
+pub mod Moving
+pub mod Events
+pub mod Going
+pub mod Over

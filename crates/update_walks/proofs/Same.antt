@@ -1,0 +1,204 @@
+-- What same stages have in common.
+use Rattle.std.proofs.Common.{◌≡◌, ◌≢◌, ℕ, Bool, List, [], ◌∷◌, ◌++◌, All, Option, Some, slice_get, refl, sym, ap, ◌∙◌, subst}
+use Rattle.std.proofs.lemmas.List.Elements.{All-cons, All-head, All-nil, All-tail}
+use Rattle.srv6_rules.specs.declared.sid.Reason.{Reason}
+use Rattle.srv6_rules.specs.declared.sid.Reason.TheVariants as reasons
+use Rattle.net_model.specs.declared.net.Hit.{Hit}
+use Rattle.net_model.specs.declared.net.Hit.TheVariants as hits
+use Rattle.net_model.specs.declared.parts.Link.{Link}
+use Rattle.net_model.specs.Network.{Network}
+use Rattle.walk_rules.specs.declared.place.How.{How}
+use Rattle.walk_rules.specs.declared.place.How.TheVariants.{Arrived, Submitted, Through}
+use Rattle.walk_rules.specs.declared.place.Outcome.{Outcome}
+use Rattle.walk_rules.specs.declared.place.Outcome.TheVariants as outcomes
+use Rattle.walk_rules.specs.declared.place.Place.{Place}
+use Rattle.walk_rules.specs.declared.place.Ended.{Ended}
+use Rattle.walk_rules.specs.declared.place.Ended.TheVariants as ends
+use Rattle.walk_rules.specs.Walk.{Stage, end_by, end_of, far_end, left_or_stages}
+use Rattle.update_plan.specs.Lookups.{SameHit}
+use Rattle.update_flight.specs.Tables.{HasRoute}
+use Rattle.update_walks.specs.Alike.{LooksAs, SameGave, SameHow, SameOutcome, SamePlace, SameSidAt, SameStage, SameStages}
+use Rattle.update_walks.proofs.Cases.{EachSame, same-each}
+
+module _ (a b : Network) where
+  -- ---- a stage has a route where the other has
+
+  outcome-route : (x y : Outcome) → SameOutcome a b x y → ((told : Bool) → y ≢ outcomes.Drop reasons.NoRoute told)
+      → (told : Bool) → x ≢ outcomes.Drop reasons.NoRoute told
+  outcome-route x y same =
+      same-each a b (λ x y. ((told : Bool) → y ≢ outcomes.Drop reasons.NoRoute told) → (told : Bool) → x ≢ outcomes.Drop reasons.NoRoute told)
+      (record {
+        again = λ m n how on sid goes route told e. cc;
+        hand = λ m n how on family sid goes route told e. cc;
+        send = λ link route told e. route told e;
+        local_ = λ route told e. route told e;
+        drop_ = λ reason tells route told e. route told e;
+      })
+      x y same
+
+  pub routes-same : (ss ts : List Stage) → SameStages a b ss ts → All HasRoute ts → All HasRoute ss
+  routes-same [] [] same all = All-nil HasRoute
+  routes-same [] (t ∷ ts) same all = absurd same
+  routes-same (s ∷ ss) [] same all = absurd same
+  routes-same (s ∷ ss) (t ∷ ts) same all =
+      All-cons HasRoute s ss (outcome-route s.gave.outcome t.gave.outcome same.0.gave.outcome (All-head HasRoute t ts all))
+      (routes-same ss ts same.1 (All-tail HasRoute t ts all))
+
+  -- ---- stages that begin with a front
+
+  pub record Split (ss first more : List Stage) : Type 0 where
+    pub front : List Stage
+    pub rest : List Stage
+    pub is : ss ≡ front ++ rest
+    pub same : SameStages a b front first
+    pub later : SameStages a b rest more
+
+  pub split-same : (ss first more : List Stage) → SameStages a b ss (first ++ more) → Split ss first more
+  split-same ss [] more same = record { front = []; rest = ss; is = refl; same = tt; later = same }
+  split-same [] (t ∷ first) more same = absurd same
+  split-same (s ∷ ss) (t ∷ first) more same =
+      let later = split-same ss first more same.1 in
+      record {
+        front = s ∷ later.front;
+        rest = later.rest;
+        is = ap (λ (xs : List Stage). s ∷ xs) later.is;
+        same = (same.0, later.same);
+        later = later.later;
+      }
+
+  -- ---- how they end
+
+  module _ (looks : LooksAs a b) where
+    end-by-same : (p q : Place) → p.node ≡ q.node → (x y : Outcome) → SameOutcome a b x y → end_by a p x ≡ end_by b q y
+    end-by-same p q node x y same =
+        same-each a b (λ x y. end_by a p x ≡ end_by b q y)
+        (record {
+          again = λ m n how on sid goes. refl;
+          hand = λ m n how on family sid goes. refl;
+          send = λ link. ap (λ (ls : List Link). left_or_stages link (far_end (slice_get ls link))) looks.links;
+          local_ = ap (λ (n : ℕ). ends.Delivered n) node;
+          drop_ = λ reason told. ap (λ (n : ℕ). ends.Dropped n reason) node;
+        })
+        x y same
+
+    pub ends-same : (ss ts : List Stage) → SameStages a b ss ts → end_of a ss ≡ end_of b ts
+    ends-same [] [] same = refl
+    ends-same [] (t ∷ ts) same = absurd same
+    ends-same (s ∷ ss) [] same = absurd same
+    ends-same (s ∷ []) (t ∷ []) same =
+        end-by-same s.place t.place same.0.place.node s.gave.outcome t.gave.outcome same.0.gave.outcome
+    ends-same (s ∷ []) (t ∷ u ∷ ts) same = absurd same.1
+    ends-same (s ∷ r ∷ ss) (t ∷ []) same = absurd same.1
+    ends-same (s ∷ r ∷ ss) (t ∷ u ∷ ts) same = ends-same (r ∷ ss) (u ∷ ts) same.1
+
+-- ---- what is hidden doesn't matter
+
+module _ (a b : Network) (hidden : List Hit) where
+  abbrev veiled : Network
+  veiled = record a { hidden = hidden }
+
+  sid-shown : (m n : ℕ) → SameSidAt veiled b m n → SameSidAt a b m n
+  sid-shown m n h = (
+    h.0,
+    h.1,
+    h.2,
+    h.3,
+    record {
+      node = h.4.node;
+      prefix = h.4.prefix;
+      behaviour = h.4.behaviour;
+      csid = h.4.csid;
+      block_len = h.4.block_len;
+      psp = h.4.psp;
+      usp = h.4.usp;
+      usd = h.4.usd;
+      links = h.4.links;
+      title = h.4.title;
+    },
+  )
+
+  -- and the other way round
+
+  sid-veiled : (m n : ℕ) → SameSidAt a b m n → SameSidAt veiled b m n
+  sid-veiled m n h = (
+    h.0,
+    h.1,
+    h.2,
+    h.3,
+    record {
+      node = h.4.node;
+      prefix = h.4.prefix;
+      behaviour = h.4.behaviour;
+      csid = h.4.csid;
+      block_len = h.4.block_len;
+      psp = h.4.psp;
+      usp = h.4.usp;
+      usd = h.4.usd;
+      links = h.4.links;
+      title = h.4.title;
+    },
+  )
+
+  pub hit-veiled : (h g : Hit) → SameHit a b h g → SameHit veiled b h g
+  hit-veiled (hits.Sid m) (hits.Sid n) same = sid-veiled m n same
+  hit-veiled (hits.Sid m) hits.Address same = absurd same
+  hit-veiled (hits.Sid m) (hits.Route n) same = absurd same
+  hit-veiled (hits.Sid m) hits.Nothing same = absurd same
+  hit-veiled hits.Address (hits.Sid n) same = absurd same
+  hit-veiled hits.Address hits.Address same = tt
+  hit-veiled hits.Address (hits.Route n) same = absurd same
+  hit-veiled hits.Address hits.Nothing same = absurd same
+  hit-veiled (hits.Route m) (hits.Sid n) same = absurd same
+  hit-veiled (hits.Route m) hits.Address same = absurd same
+  hit-veiled (hits.Route m) (hits.Route n) same = same
+  hit-veiled (hits.Route m) hits.Nothing same = absurd same
+  hit-veiled hits.Nothing (hits.Sid n) same = absurd same
+  hit-veiled hits.Nothing hits.Address same = absurd same
+  hit-veiled hits.Nothing (hits.Route n) same = absurd same
+  hit-veiled hits.Nothing hits.Nothing same = tt
+
+  -- of outcomes and stages
+
+  how-shown : (h k : How) → SameHow veiled b h k → SameHow a b h k
+  how-shown (Arrived table) (Arrived other) same = same
+  how-shown (Arrived table) (Submitted other) same = same
+  how-shown (Arrived table) (Through n lower) same = same
+  how-shown (Submitted table) (Arrived other) same = same
+  how-shown (Submitted table) (Submitted other) same = same
+  how-shown (Submitted table) (Through n lower) same = same
+  how-shown (Through m lower) (Arrived other) same = same
+  how-shown (Through m lower) (Submitted other) same = same
+  how-shown (Through m lower) (Through n low) same = (sid-shown m n same.0, same.1)
+
+  outcome-shown : (x y : Outcome) → SameOutcome veiled b x y → SameOutcome a b x y
+  outcome-shown x y same =
+      same-each veiled b (λ x y. SameOutcome a b x y)
+      (record {
+        again = λ m n how on sid goes. (sid-shown m n sid, how-shown how on goes);
+        hand = λ m n how on family sid goes. (sid-shown m n sid, how-shown how on goes, refl);
+        send = λ link. refl;
+        local_ = tt;
+        drop_ = λ reason told. (refl, refl);
+      })
+      x y same
+
+  stage-shown : (s t : Stage) → SameStage veiled b s t → SameStage a b s t
+  stage-shown s t same = record {
+    place = record {
+      node = same.place.node;
+      how = how-shown s.place.how t.place.how same.place.how;
+      family = same.place.family;
+    };
+    before = same.before;
+    gave = record {
+      outcome = outcome-shown s.gave.outcome t.gave.outcome same.gave.outcome;
+      after = same.gave.after;
+      error = same.gave.error;
+    };
+  }
+
+  pub stages-shown : (ss ts : List Stage) → SameStages veiled b ss ts → SameStages a b ss ts
+  stages-shown [] [] same = tt
+  stages-shown [] (t ∷ ts) same = absurd same
+  stages-shown (s ∷ ss) [] same = absurd same
+  stages-shown (s ∷ ss) (t ∷ ts) same = (stage-shown s t same.0, stages-shown ss ts same.1)
