@@ -208,7 +208,7 @@ fn no_call_is_left_that_could_fail(rt: HostRuntime) -> Result<(), Fail> {
 fn words_that_are_no_command(rt: HostRuntime) -> Result<(), Fail> {
     let one = serve_words(rt.alloc(), &["show", "x"], &NONE)?;
     assert_eq!(rt; one.status, Status::Usage);
-    let usage = "usage: srv6 compile|check|walk|run|trace|replay|show|gen\n";
+    let usage = "usage: srv6 compile|check|walk|run|trace|replay|show|gen|update\n";
     assert_eq!(rt; one.err.as_slice(), usage.as_bytes());
     assert_eq!(rt; one.out.len(), 0);
     let zero = serve_words(rt.alloc(), &["run", "net.toml", "A", "0", "1,0"], &NONE)?;

@@ -17,6 +17,7 @@ use Rattle.walk_commands.specs.Walk.{WalkWords, walk_shape, walk_words, walk_wor
 use Rattle.trace_commands.specs.Trace.{TraceWords, trace_shape, trace_words, trace_words_seen}
 use Rattle.trace_commands.specs.Replay.{ReplayWords, replay_shape, replay_words, replay_words_seen}
 use Rattle.run_commands.specs.Show.{is_show, show_shape}
+use Rattle.update_commands.specs.Update.{UpdateWords, update_shape, update_words, update_words_seen}
 use Rattle.generate_commands.specs.Gen.{GenWords, gen_shape, gen_words, gen_words_seen}
 
 -- a command whose words these are, or else what comes after it in the list of the commands
@@ -47,6 +48,9 @@ replay_by words = commands.Replay words.file words.trace
 abbrev pub gen_by : GenWords → Command
 gen_by words = commands.Gen words.size words.made
 
+abbrev pub update_by : UpdateWords → Command
+update_by words = commands.Update words.old words.new words.intent words.events
+
 -- the list of the commands; their verbs differ, so that its order says nothing
 abbrev pub command_of : List (List ℕ) → Command
 command_of words =
@@ -57,12 +61,13 @@ command_of words =
     (or_else trace_by (trace_words words)
     (or_else replay_by (replay_words words)
     (or_else gen_by (gen_words words)
+    (or_else update_by (update_words words)
     (if is_show words then commands.Show
-    else commands.Unknown)))))))
+    else commands.Unknown))))))))
 
 -- the line that says how the program is called
 unfoldable pub usage_line : List ℕ
-usage_line = line (codes "usage: srv6 compile|check|walk|run|trace|replay|show|gen")
+usage_line = line (codes "usage: srv6 compile|check|walk|run|trace|replay|show|gen|update")
 
 -- words that are no command have the line that says how the program is called
 abbrev pub usage_shape : Shape
@@ -83,6 +88,7 @@ shape_of (commands.Check file intent cert) = check_shape file intent cert
 shape_of (commands.Walk file intent choices schedule) = walk_shape file intent choices schedule
 shape_of (commands.Trace file node choices) = trace_shape file node choices
 shape_of (commands.Replay file trace) = replay_shape file trace
+shape_of (commands.Update old new intent events) = update_shape old new intent events
 shape_of commands.Show = show_shape
 shape_of (commands.Gen n made) = gen_shape n made
 shape_of commands.Unknown = usage_shape
@@ -96,6 +102,7 @@ command_seen (asked.Walk words) = walk_by (walk_words_seen words)
 command_seen (asked.Trace words) = trace_by (trace_words_seen words)
 command_seen (asked.Replay words) = replay_by (replay_words_seen words)
 command_seen (asked.Gen words) = gen_by (gen_words_seen words)
+command_seen (asked.Update words) = update_by (update_words_seen words)
 command_seen asked.Show = commands.Show
 command_seen asked.Unknown = commands.Unknown
 
@@ -108,6 +115,7 @@ HasChoices (asked.Walk words) = 0 < length words.choices.items
 HasChoices (asked.Trace words) = 0 < length words.choices.items
 HasChoices (asked.Replay words) = ⊤
 HasChoices (asked.Gen words) = ⊤
+HasChoices (asked.Update words) = ⊤
 HasChoices asked.Show = ⊤
 HasChoices asked.Unknown = ⊤
 

@@ -10,6 +10,7 @@ pub data Command : Type 0 where
   Walk : List ℕ → List ℕ → List ℕ → List ℕ → Command
   Trace : List ℕ → List ℕ → List ℕ → Command
   Replay : List ℕ → List ℕ → Command
+  Update : List ℕ → List ℕ → List ℕ → List ℕ → Command
   Show : Command
   Gen : ℕ → Made → Command
   Unknown : Command

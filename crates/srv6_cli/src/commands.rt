@@ -16,10 +16,12 @@ use srx_edge::{Files, Sink, Source};
 use std::alloc::{AllocError, Global};
 use trace_commands::replay::{self, ReplayWords, replay_of_words};
 use trace_commands::trace::{self, TraceWords, trace_of_words};
+use update_commands::update;
+use update_commands::words::{UpdateWords, update_of_words};
 use walk_commands::walk::{self, WalkWords, walk_of_words};
 
 /// The line that says how the program is called. (own rule)
-pub const USAGE: &[u8] = b"usage: srv6 compile|check|walk|run|trace|replay|show|gen\n";
+pub const USAGE: &[u8] = b"usage: srv6 compile|check|walk|run|trace|replay|show|gen|update\n";
 
 /// What the words ask for: one of the commands, by its words. (own rule)
 #[derive(Debug, Drop)]
@@ -40,6 +42,9 @@ pub enum Asked<'a> {
     Replay(ReplayWords<'a>),
     /// A text of a generated network, or what walks through it come to.
     Gen(GenWords),
+    /// The inner packets of the input while the tables pass from the description of a file to that of
+    /// another.
+    Update(UpdateWords<'a>),
     /// The headers of the packets of the input as lines.
     Show,
     /// Nothing that there is.
@@ -71,6 +76,9 @@ fn asked_of_words(alloc: Global, words: &[String]) -> Result<Asked<'_>, AllocErr
     }
     if let Some(words) = gen_of_words(words) {
         return Ok(Asked::Gen(words));
+    }
+    if let Some(words) = update_of_words(alloc, words)? {
+        return Ok(Asked::Update(words));
     }
     if is_show(words) {
         return Ok(Asked::Show);
@@ -134,6 +142,18 @@ pub fn command<F: Files, S: Source, O: Sink, E: Sink>(
         }
         Asked::Replay(words) => replay::replay(alloc, words.file, words.trace, files, out),
         Asked::Gen(words) => generate(alloc, words.size, words.made, out),
+        Asked::Update(words) => {
+            let names = (words.old, words.new, words.intent);
+            update::update(
+                alloc,
+                names,
+                words.events.as_slice(),
+                files,
+                input,
+                out,
+                err,
+            )
+        }
         Asked::Show => show::show(alloc, input, out),
         Asked::Unknown => usage(),
     }

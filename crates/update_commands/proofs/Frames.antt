@@ -1,0 +1,58 @@
+-- Same stages send the same frames, and the stages that are told are those that a packet takes.
+use Rattle.std.proofs.Common.{◌≡◌, ℕ, suc, ◌+◌, List, [], ◌∷◌, ◌++◌, Option, Some, None, refl, sym, ap, ap₂, ◌∙◌, subst}
+use Rattle.std.specs.List.{filter_map}
+use Rattle.pcap_io.specs.Capture.{written_frame_bytes}
+use Rattle.srv6_rules.specs.Packet.{Content, Packet, bytes_of}
+use Rattle.net_model.specs.declared.parts.Link.{Link}
+use Rattle.net_model.specs.declared.parts.Node.{Node}
+use Rattle.net_model.specs.Network.{Network}
+use Rattle.walk_rules.specs.declared.place.Ended.{Ended}
+use Rattle.walk_rules.specs.declared.place.Ended.TheVariants as ends
+use Rattle.walk_rules.specs.declared.place.Outcome.{Outcome}
+use Rattle.walk_rules.specs.Treatment.{Gave}
+use Rattle.walk_rules.specs.Walk.{Stage}
+use Rattle.packet_walk.specs.Flight.{InFlight, staged}
+use Rattle.update_walks.specs.Alike.{LooksAs, SameGave, SameOutcome, SameStages}
+use Rattle.update_walks.proofs.Cases.{EachSame, same-each}
+use Rattle.command_output.specs.Lines.{packet_line}
+use Rattle.run_commands.specs.Capture.{frame_by, frame_of_error, frame_of_gave, frames_of}
+use Rattle.update_events.specs.Moving.{Happening, Staged}
+use Rattle.update_commands.specs.Whole.{stages_told}
+use Rattle.update_commands.proofs.Entered.{tellings}
+
+module _ (a b : Network) (number : ℕ) where
+  frame-same : (x y : Gave) → SameGave a b x y → frame_of_gave number x ≡ frame_of_gave number y
+  frame-same x y same =
+      same-each a b (λ o p. frame_by number o x.after x.error ≡ frame_by number p y.after y.error)
+      (record {
+        again = λ m n how on sid goes. refl;
+        hand = λ m n how on family sid goes. refl;
+        send = λ link. ap (λ (c : Content). written_frame_bytes number (link + 1) (bytes_of c)) same.after;
+        local_ = refl;
+        drop_ = λ reason told. ap (frame_of_error number) same.error;
+      })
+      x.outcome y.outcome same.outcome
+
+  pub frames-same : (ss ts : List Stage) → SameStages a b ss ts → frames_of number ss ≡ frames_of number ts
+  frames-same [] [] same = refl
+  frames-same [] (t ∷ ts) same = absurd same
+  frames-same (s ∷ ss) [] same = absurd same
+  frames-same (s ∷ ss) (t ∷ ts) same =
+      ap₂ (λ (xs ys : List ℕ). xs ++ ys) (frame-same s.gave t.gave same.0.gave) (frames-same ss ts same.1)
+
+-- a line is the same with the same names
+pub line-same : (a b : Network) (number : ℕ) (end : Ended) → a.nodes ≡ b.nodes → a.links ≡ b.links
+    → packet_line a number end ≡ packet_line b number end
+line-same a b number (ends.Left link) nodes links =
+    ap (λ (ls : List Link). packet_line (record a { links = ls }) number (ends.Left link)) links
+line-same a b number (ends.Delivered node) nodes links =
+    ap (λ (ns : List Node). packet_line (record a { nodes = ns }) number (ends.Delivered node)) nodes
+line-same a b number (ends.Dropped node reason) nodes links =
+    ap (λ (ns : List Node). packet_line (record a { nodes = ns }) number (ends.Dropped node reason)) nodes
+line-same a b number ends.Stages nodes links = refl
+
+-- the stages that are told
+pub stages-tellings : (number : ℕ) (net : Network) (p : InFlight) (steps : List Stage) (behind : List Happening)
+    → stages_told (tellings number net p steps ++ behind) ≡ steps ++ stages_told behind
+stages-tellings number net p [] behind = refl
+stages-tellings number net p (s ∷ more) behind = ap (λ (ss : List Stage). s ∷ ss) (stages-tellings number net (staged net p) more behind)

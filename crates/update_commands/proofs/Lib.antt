@@ -1,0 +1,14 @@
+pub mod Lists
+pub mod Tracking
+pub mod Entered
+pub mod Waiting
+pub mod Owning
+pub mod Telling
+pub mod Frames
+pub mod Taking
+pub mod Hands
+pub mod Keeping
+pub mod NoLists
+pub mod Steps
+pub mod Starting
+pub mod UpdateEnds

@@ -1,0 +1,163 @@
+-- What events do to packets of an update: what is so of all of them, and of one that entered.
+use Rattle.std.proofs.Common.{◌≡◌, ◌≢◌, ◌⊎◌, inl, inr, ℕ, zero, suc, ◌+◌, ◌<◌, ◌≤◌, nat_le, nat_eq, Bool, true, false, if◌then◌else◌, List, [], ◌∷◌, ◌++◌, length, length-append, slice_get, slice_set, Option, Some, None, Result, Ok, Err, refl, sym, ap, ◌∙◌, subst, arith}
+use Rattle.std.proofs.lemmas.Bool.{eqb-true, eqb-false, leb-true, le-leb}
+use Rattle.std.proofs.lemmas.Option.{slice_get_within}
+use Rattle.net_model.specs.declared.net.EntryId.{EntryId}
+use Rattle.net_model.specs.Network.{Network}
+use Rattle.walk_rules.specs.declared.place.Ended.{Ended}
+use Rattle.walk_rules.specs.Walk.{Stage}
+use Rattle.packet_walk.specs.Flight.{Flight, InFlight, IsCounted, packet_in, stage_in, staged, turned, within}
+use Rattle.packet_walk.proofs.PublicLaws.{packet-behind, staged-counted, turned-ended, turned-other, turned-staged}
+use Rattle.update_plan.specs.Changes.{added_entries, removed_entries}
+use Rattle.update_plan.specs.Joined.{joined_of}
+use Rattle.update_flight.specs.declared.edit.Busy.{Busy}
+use Rattle.update_flight.specs.declared.edit.Edit.{Edit}
+use Rattle.update_flight.specs.Interleaving.{Enter, PassOver, own_of}
+use Rattle.update_flight.specs.Tables.{HasRoute, KeepsOwn}
+use Rattle.update_flight.specs.Transition.{IsTransition, Transition, answer_of, edit_count, edited, entered, is_before_switch, turned_in}
+use Rattle.update_flight.proofs.Kept.{kept-edit, kept-move, kept-turn, turn-length}
+use Rattle.update_flight.proofs.OwnStages.{own-stage, own-staged}
+use Rattle.update_flight.proofs.Whole.{own-kept}
+use Rattle.updates.specs.Update.{Update, tables_after, tables_between, tables_now}
+use Rattle.run_commands.specs.declared.enters.Stays.{Stays}
+use Rattle.run_commands.specs.Entry.{Entry, Staying, Entering}
+use Rattle.update_events.specs.declared.seat.Seat.{Seat}
+use Rattle.update_events.specs.declared.seat.Seat.TheVariants as seats
+use Rattle.update_events.specs.Moving.{Doing, Happening, Staged, Stayed, Edited, Waits, Moving, Sides, after_entering, after_staying, as_in_flight, coming_by, doing, editing, entered_count, side_of, stepping, told_of_edit, told_of_turn, turning}
+use Rattle.update_commands.specs.Whole.{is_of, told_of}
+use Rattle.update_commands.proofs.Lists.{get-front, get-seam, set-elsewhere, set-here}
+
+-- ---- happenings of other packets
+
+module _ (number : ℕ) where
+  pub told-edit : (numbers : List ℕ) (answer : Result Edit Busy) → told_of number (told_of_edit numbers answer) ≡ []
+  told-edit numbers (Ok edit) = refl
+  told-edit numbers (Err busy) = refl
+
+  pub other-number : (other : ℕ) → other ≢ number → nat_eq other number ≡ false
+  other-number other apart = by (nat_eq other number) refl
+    where
+      by : (b : Bool) → nat_eq other number ≡ b → b ≡ false
+      by true e = absurd (apart (eqb-true other number e))
+      by false e = refl
+
+  told-where : (other : ℕ) (u : Update) (p : InFlight) (e : Option Ended) → other ≢ number
+      → told_of number (told_of_turn other u (Some (record p { ended = e }))) ≡ []
+  told-where other u p None apart = rw (other-number other apart) refl
+  told-where other u p (Some end) apart = refl
+
+  pub told-turn : (other : ℕ) (u : Update) (o : Option InFlight) → other ≢ number → told_of number (told_of_turn other u o) ≡ []
+  told-turn other u None apart = refl
+  told-turn other u (Some p) apart = told-where other u p p.ended apart
+
+  pub same-number : nat_eq number number ≡ true
+  same-number = by (nat_eq number number) refl
+    where
+      by : (b : Bool) → nat_eq number number ≡ b → b ≡ true
+      by true e = refl
+      by false e = absurd (eqb-false number number e refl)
+
+  -- and one of its own
+  pub told-own : (s : Stage) (e : Option Ended) → told_of number (Staged number s e ∷ []) ≡ Staged number s e ∷ []
+  told-own s e = rw same-number refl
+
+  pub told-stayed : (stays : Stays) → told_of number (Stayed number stays ∷ []) ≡ Stayed number stays ∷ []
+  told-stayed stays = rw same-number refl
+
+  pub told-stay : (other : ℕ) (h : Happening) → is_of number h ≡ false → told_of number (h ∷ []) ≡ []
+  told-stay other h is = rw is refl
+
+-- ---- what is so of packets and tables
+
+module _ (old new : Network) where
+  -- the update is one between two descriptions, and the packets have the numbers of their frames
+  pub record IsThrough (m : Moving) : Type 0 where
+    pub joined : m.update.joined ≡ joined_of old new
+    pub added : m.update.transition.added ≡ added_entries old new
+    pub removed : m.update.transition.removed ≡ removed_entries old new
+    pub is : IsTransition m.update.transition
+    pub counts : length m.numbers ≡ length m.update.transition.packets.packets
+    pub each : (at packet : ℕ) → slice_get m.seats at ≡ Some (seats.Entered packet)
+        → (before : ℕ) × (packet ≡ suc before) × (slice_get m.numbers before ≡ Some (suc at))
+
+  pub tables-are : (m : Moving) → IsThrough m → tables_now m.update ≡ tables_between old new m.update.transition.done
+  tables-are m t = λ i. tables_after (t.joined i) (t.added i) (t.removed i) m.update.transition.done
+
+  -- ---- it stays so
+
+  pub through-edited : (m : Moving) → IsThrough m → IsThrough (editing m).after
+  through-edited m t = record {
+    joined = t.joined;
+    added = t.added;
+    removed = t.removed;
+    is = kept-edit m.update.transition t.is;
+    counts = t.counts;
+    each = t.each;
+  }
+
+  pub through-turned : (number k : ℕ) (m : Moving) → IsThrough m → IsThrough (turning number k m).after
+  through-turned number k m t = record {
+    joined = t.joined;
+    added = t.added;
+    removed = t.removed;
+    is = kept-turn (tables_now m.update) k m.update.transition t.is;
+    counts = t.counts ∙ sym (turn-length (within (tables_now m.update) m.update.transition.packets) k);
+    each = t.each;
+  }
+
+  pub through-stayed : (i : ℕ) (seat : Seat) (m : Moving) → slice_get m.seats i ≡ Some seat → IsThrough m → IsThrough (after_staying i m)
+  through-stayed i seat m there t = record {
+    joined = t.joined;
+    added = t.added;
+    removed = t.removed;
+    is = t.is;
+    counts = t.counts;
+    each = λ at packet found. by at packet found (nat_eq i at) refl;
+  }
+    where
+      by : (at packet : ℕ) → slice_get (slice_set m.seats i seats.Gone) at ≡ Some (seats.Entered packet) → (b : Bool) → nat_eq i at ≡ b
+          → (before : ℕ) × (packet ≡ suc before) × (slice_get m.numbers before ≡ Some (suc at))
+      by at packet found true e =
+          let same : i ≡ at = eqb-true i at e in
+          let gone : slice_get (slice_set m.seats i seats.Gone) i ≡ Some seats.Gone =
+          set-here m.seats i seats.Gone (slice_get_within m.seats i seat there) in
+          let here : slice_get (slice_set m.seats i seats.Gone) i ≡ Some (seats.Entered packet) =
+          subst (λ (n : ℕ). slice_get (slice_set m.seats i seats.Gone) n ≡ Some (seats.Entered packet)) (sym same) found in
+          absurd (cc)
+      by at packet found false e =
+          t.each at packet (sym (set-elsewhere m.seats i at seats.Gone (eqb-false i at e)) ∙ found)
+
+  pub through-entered : (i : ℕ) (seat : Seat) (p : InFlight) (m : Moving) → slice_get m.seats i ≡ Some seat → IsThrough m
+      → IsThrough (after_entering i p m)
+  through-entered i seat p m there t = record {
+    joined = t.joined;
+    added = t.added;
+    removed = t.removed;
+    is = kept-move (λ (n : ℕ). m.update.joined) m.update.transition (Enter p p) t.is;
+    counts = let a = length-append m.numbers (suc i ∷ []) in
+        let b = length-append m.update.transition.packets.packets ((if is_before_switch m.update.transition then p else p) ∷ []) in
+        let c = t.counts in
+        omega (arith, a, b, c);
+    each = λ at packet found. by at packet found (nat_eq i at) refl;
+  }
+    where
+      seat_now : Seat
+      seat_now = seats.Entered (entered_count m + 1)
+
+      by : (at packet : ℕ) → slice_get (slice_set m.seats i seat_now) at ≡ Some (seats.Entered packet) → (b : Bool) → nat_eq i at ≡ b
+          → (before : ℕ) × (packet ≡ suc before) × (slice_get (m.numbers ++ suc i ∷ []) before ≡ Some (suc at))
+      by at packet found true e =
+          let same : i ≡ at = eqb-true i at e in
+          let mine : slice_get (slice_set m.seats i seat_now) i ≡ Some seat_now =
+          set-here m.seats i seat_now (slice_get_within m.seats i seat there) in
+          let here : slice_get (slice_set m.seats i seat_now) i ≡ Some (seats.Entered packet) =
+          subst (λ (n : ℕ). slice_get (slice_set m.seats i seat_now) n ≡ Some (seats.Entered packet)) (sym same) found in
+          let number : entered_count m + 1 ≡ packet = cc in
+          let count = t.counts in (
+            entered_count m,
+            (let s : packet ≡ suc (entered_count m) = omega (arith, number) in s),
+            get-seam m.numbers (suc i) (entered_count m) (sym count) ∙ ap (λ (n : ℕ). Some (suc n)) same,
+          )
+      by at packet found false e =
+          let got = t.each at packet (sym (set-elsewhere m.seats i at seat_now (eqb-false i at e)) ∙ found) in
+          (got.0, got.1, get-front m.numbers (suc i ∷ []) got.0 (suc at) got.2)

@@ -1,0 +1,57 @@
+//! The command `update`.
+
+ghost use Rattle.command_output.specs.Answers.{Commands};
+ghost use Rattle.command_output.specs.Outside.{outside};
+ghost use Rattle.update_commands.specs.Update.{update_shape};
+
+use crate::start::{Start, start_of};
+use command_inputs::{intents_of_file, network_of_file, packets_of_input};
+use command_output::{Halt, Status, Text, Told};
+use srx_edge::{Files, Sink, Source};
+use std::alloc::Global;
+use update_events::{Change, drive_update};
+
+/// Runs the inner packets of the input, encapsulated at the headend of one intent, while the nodes'
+/// tables pass from an old description to a new one. (own rule)
+pub fn update<F: Files, S: Source, O: Sink, E: Sink>(
+    alloc: Global,
+    words: (&str, &str, &str),
+    events: &[u32],
+    files: &mut F,
+    input: &mut S,
+    out: &mut O,
+    err: &mut E,
+) -> Result<Told, Halt>
+    ensures { Commands (update_shape words.entry.0.now words.entry.1.now words.entry.2.now events.now) result
+        (outside (F.seen files.old) (S.seen input.old) (O.seen out.old) (E.seen err.old))
+        (outside (F.seen files.new) (S.seen input.new) (O.seen out.new) (E.seen err.new)) }
+{
+    let old = network_of_file(alloc, files, words.0)?;
+    let new = network_of_file(alloc, files, words.1)?;
+    let both = intents_of_file(alloc, files, &old, &new, words.2)?;
+    let start = start_of(alloc, &old, &new, &both)?;
+    let (plan, sides) = match start {
+        Start::Lists(plan, sides) => (plan, sides),
+        Start::NoList(line) => {
+            return Ok(Told {
+                line,
+                status: Status::NoAnswer,
+            });
+        }
+    };
+    old.keeps_rules();
+    new.keeps_rules();
+    let packets = packets_of_input(alloc, input)?;
+    let change = Change {
+        net: &old,
+        sides: &sides,
+        events,
+    };
+    match drive_update(alloc, &change, plan, &packets, out, err)? {
+        Some(refusal) => Err(Halt::Refused(refusal)),
+        None => Ok(Told {
+            line: Text::Fixed(b""),
+            status: Status::Done,
+        }),
+    }
+}
