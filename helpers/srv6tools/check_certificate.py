@@ -16,6 +16,7 @@ from .description import Sid, read_network
 from .files import read_bytes
 from .intent import read_intent
 from .legs import Edges, Legs, Rooms
+from .loose import legs_of
 from .report import Certificate, Potential, certificate_in
 
 State = tuple[int, Sid | None, int]  # position, SID and room
@@ -44,12 +45,10 @@ class Checker:
     def _states(self) -> Iterator[State]:
         """All states in their order."""
         yield START
-        for position, node in enumerate(self.legs.stands):
-            done = self.legs.steps[position - 1].function if position else None
-            for sid in self.legs.sids_at(node):
-                if sid.goes_on and (sid.title is None or sid.title == done):
-                    for room in range(self.rooms.most(sid) + 1):
-                        yield position, sid, room
+        for position in range(len(self.legs.stands)):
+            for sid in self.legs.states_at(position):
+                for room in range(self.rooms.most(sid) + 1):
+                    yield position, sid, room
 
     def name(self, state: State) -> str:
         """A state as it is written in a certificate."""
@@ -135,7 +134,7 @@ def main(words: Sequence[str]) -> int:
 
 def _work(tool: str, words: argparse.Namespace) -> int:
     with progress(tool, "going through the states"):
-        legs = Legs(read_network(words.net), read_intent(words.intent))
+        legs = legs_of(read_network(words.net), read_intent(words.intent))
         text = read_bytes(words.cert).decode("latin-1")
         checker, certificate = Checker(legs), certificate_in(text)
         if bad := checker.first_bad_line(certificate):

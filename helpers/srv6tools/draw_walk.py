@@ -25,7 +25,14 @@ The network's links are grey; one that leaves the network ends at a point. Each 
 colour, and an edge for each link that it crosses, with the numbers of its sends over it, counted
 from 1. An ICMPv6 error is a note at the node that sends it. A capture doesn't tell what becomes
 of a packet at the node where its last send ends, nor of a packet of which nothing is sent; the
-lines of `srv6 run` do."""
+lines of `srv6 run` do.
+
+Before an update of a network, both ways of its packets in one picture: those in the old
+description whole, those in the new one, which has the same nodes and links, in dashes.
+
+  srv6 walk OLD INTENT < INPUT > OLD-CAPTURE
+  srv6 walk NEW INTENT < INPUT > NEW-CAPTURE
+  draw-walk --new NEW-CAPTURE OLD OLD-CAPTURE"""
 
 
 @dataclass(slots=True)
@@ -87,20 +94,24 @@ def _sender_of(net: Network, packet: int, error: bytes) -> str:
     raise Fault(f"the error about packet {packet} comes from {source}, which no node has")
 
 
-def _draw(drawing: Drawing, walk: Walk, colour: str) -> None:
-    """The walk of a packet: where it comes from, the links that it crosses, and its error."""
-    net, packet = drawing.net, walk.packet
+def _draw(drawing: Drawing, walk: Walk, colour: str, is_new: bool = False) -> None:
+    """The walk of a packet: where it comes from, the links that it crosses, and its error; one in
+    the new description in dashes.
+    """
+    net = drawing.net
+    packet = f"{walk.packet}, new" if is_new else f"{walk.packet}"
     drawing.entry(f"packet {packet}", quoted(_start_of(net, walk)), colour)
+    more = ", penwidth=2, style=dashed" if is_new else ", penwidth=2"
     for name, sends in walk.over().items():
         link = net.links[name]
         label = f"packet {packet}: send {', '.join(sends)} over {name}"
-        drawing.edge(quoted(link.start), end_of(link), label, colour, ", penwidth=2")
+        drawing.edge(quoted(link.start), end_of(link), label, colour, more)
     if walk.error:
         note = quoted(f"error about {packet}")
         kind = ERRORS.get(walk.error[40], f"type {walk.error[40]}")
         label = f'label="{kind}\\ncode {walk.error[41]}"'
         drawing.lines.append(f'  {note} [shape=note, color="{colour}", {label}];')
-        sender = quoted(_sender_of(net, packet, walk.error))
+        sender = quoted(_sender_of(net, walk.packet, walk.error))
         drawing.edge(sender, note, f"packet {packet}: error", colour, ", style=dashed")
 
 
@@ -115,24 +126,35 @@ def main(words: Sequence[str]) -> int:
     parser.add_argument(
         "--used", action="store_true", help="leave out nodes and links that no packet meets"
     )
+    parser.add_argument(
+        "--new", metavar="CAPTURE", help="draw the walks in the new description too, in dashes"
+    )
     return run_tool(parser, functools.partial(_work, parser.prog), words)
+
+
+def _walks_in(net: Network, capture: str) -> dict[int, Walk]:
+    with opened(capture) as file:
+        return walks_of(net, sent_from(file, capture), capture)
 
 
 def _work(tool: str, words: argparse.Namespace) -> None:
     with progress(tool, "drawing"):
         net = read_network(words.net)
-        with opened(words.capture) as file:
-            walks = walks_of(net, sent_from(file, words.capture), words.capture)
+        walks = _walks_in(net, words.capture)
+        new = _walks_in(net, words.new) if words.new else {}
         for packet in words.packets:
-            if packet not in walks:
-                raise Fault(f"{words.capture} has nothing of packet {packet}")
-        shown = [walks[packet] for packet in words.packets or walks]
+            if packet not in walks and packet not in new:
+                raise Fault(f"{words.new or words.capture} has nothing of packet {packet}")
+        packets = words.packets or list(walks | new)
+        shown = [by[packet] for packet in packets for by in (walks, new) if packet in by]
         drawing = Drawing(net)
         if words.used:
             nodes = [_start_of(net, walk) for walk in shown]
             drawing.begin([link for walk in shown for link in walk.links], nodes)
         else:
             drawing.begin()
-        for place, walk in enumerate(shown):
-            _draw(drawing, walk, COLOURS[place % len(COLOURS)])
+        for place, packet in enumerate(packets):
+            for by in (walks, new):
+                if packet in by:
+                    _draw(drawing, by[packet], COLOURS[place % len(COLOURS)], by is new)
     print(drawing.text())

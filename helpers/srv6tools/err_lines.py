@@ -1,5 +1,5 @@
-"""The lines that `srv6` writes on `err`: refusals, answers that there aren't, and what became of
-packets.
+"""The lines that `srv6` writes on `err`: refusals, answers that there aren't, what became of
+packets, and the edits of an update.
 """
 
 import re
@@ -8,6 +8,9 @@ from dataclasses import dataclass
 _REFUSED = re.compile(r"refused ([0-9]{1,10}) ([A-Za-z0-9]+)((?: [^ ]+)*)")
 _NO_ANSWER = re.compile(r"no answer (NoList|TooLong|HopLimit)(?: ([0-9]{1,20}))?")
 _PACKET = re.compile(r"packet ([0-9]{1,10}): (.*)")
+_EDIT = re.compile(
+    r"edit (add|remove) (route|sid) ([0-9]{1,10})|edit (switch)|edit (busy) ([0-9]{1,10})"
+)
 _OUTCOMES = (
     ("not read", re.compile(r"not read, (?P<reason>[A-Za-z]+)")),
     ("left", re.compile(r"left (?P<place>[^ ]+)")),
@@ -44,7 +47,16 @@ class PacketLine:
     place: str | None = None  # the link or the node
 
 
-def err_line_of(line: str) -> Refusal | NoAnswer | PacketLine | None:
+@dataclass(frozen=True, slots=True)
+class EditLine:
+    """A line `edit ..` of an update."""
+
+    kind: str  # add, remove, switch or busy
+    table: str | None = None  # of an entry that is added or removed: route or sid
+    number: int | None = None  # the entry's in both descriptions joined, or of busy the packet's
+
+
+def err_line_of(line: str) -> Refusal | NoAnswer | PacketLine | EditLine | None:
     """What a line on `err` says; None of any other line."""
     if match := _REFUSED.fullmatch(line):
         return Refusal(int(match[1]), match[2], tuple(match[3].split()))
@@ -55,4 +67,8 @@ def err_line_of(line: str) -> Refusal | NoAnswer | PacketLine | None:
             if found := shape.fullmatch(match[2]):
                 parts = found.groupdict()
                 return PacketLine(int(match[1]), outcome, parts.get("reason"), parts.get("place"))
+    if match := _EDIT.fullmatch(line):
+        number = match[3] or match[6]
+        kind = match[1] or match[4] or match[5]
+        return EditLine(kind, match[2], int(number) if number else None)
     return None

@@ -11,13 +11,16 @@ from .items import Item, items_of
 
 @dataclass(frozen=True, slots=True)
 class Step:
-    """A step: links, or the title of a function."""
+    """A step: links, the title of a function, or a node that is reached over any links."""
 
     number: int  # from 1
     links: tuple[str, ...] = ()
     function: str | None = None
+    reach: str | None = None
 
     def __str__(self) -> str:
+        if self.reach:
+            return f"reach {self.reach}"
         return f"function {self.function}" if self.function else f"links {', '.join(self.links)}"
 
 
@@ -40,6 +43,11 @@ class Intent:
     def family(self) -> int:
         """The family of the inner packets, 6 or 4."""
         return 6 if self.inner == "ipv6" else 4
+
+    @property
+    def is_loose(self) -> bool:
+        """Whether some step reaches a node."""
+        return any(step.reach for step in self.steps)
 
     def executes(self, title: str | None, position: int) -> int | None:
         """The steps done once a SID with this title, or none, is executed behind so many; None
@@ -74,10 +82,12 @@ def intent_of(root: dict[str, Any], path: str) -> Intent:
 
 
 def _step(item: Item) -> Step:
-    if item.has("links") == item.has("function"):
-        raise item.fault("a step has exactly one of `links` and `function`")
+    if [item.has(key) for key in ("links", "function", "reach")].count(True) != 1:
+        raise item.fault("a step has exactly one of `links`, `function` and `reach`")
     if item.has("function"):
         return Step(item.number, function=item.text("function"))
+    if item.has("reach"):
+        return Step(item.number, reach=item.text("reach"))
     links = tuple(item.texts("links"))
     if not links:
         raise item.fault("`links` has no links")

@@ -1,15 +1,16 @@
 """largest-inner: the longest inner packet that goes over each link of an intent's steps."""
 
 import argparse
-from collections.abc import Iterator, Sequence
+from collections.abc import Iterable, Iterator, Sequence
 from dataclasses import dataclass
 
 from .command import Fault, Parser, Status, run_tool, tool_name
 from .description import MOST_MTU, Network, read_network
 from .intent import Intent, read_intent
 from .legs import Legs
+from .loose import legs_of
 from .program import run_program
-from .pushed_headers import Stage
+from .pushed_headers import Lost, Stage
 from .report import PathStep, Report, certificate_in, report_of
 
 SAY = tool_name("srv6-say")
@@ -19,8 +20,9 @@ UNASKED = 1280  # bytes that an IPv6 node may send without a look at the path (R
 DESCRIPTION = """\
 Prints `largest-inner N` for the list of `srv6 compile NET INTENT`: the headers in front and a
 packet inside of at most N bytes are within the MTU of each link of each step, whichever equal next
-hop is chosen; where SIDs of the list bind policies, with the headers that they push. The next line
-says which links leave the least room. A longer packet is dropped where its bytes there are more
+hop is chosen; where SIDs of the list bind policies, with the headers that they push. Of a step
+that reaches a node these are the links that the list may take. The next line says which links
+leave the least room. A longer packet is dropped where its bytes there are more
 than the MTU of the link taken; behind a SID that took the routing header out it may still pass.
 Where no packet passes, or there is no list, the status is 3."""
 
@@ -59,7 +61,7 @@ class Least:
 def pushed_along(net: Network, intent: Intent, path: Sequence[PathStep]) -> Pushed:
     """The headers that SIDs of a list push."""
     found = Pushed({}, 0)
-    if not any(sid.binds for sid in net.sids):
+    if intent.is_loose or not any(sid.binds for sid in net.sids):
         return found
     legs, most = Legs(net, intent), 0
     for leg in legs.along([step.prefix for step in path]):
@@ -71,15 +73,30 @@ def pushed_along(net: Network, intent: Intent, path: Sequence[PathStep]) -> Push
     return Pushed(found.by_step, most)
 
 
-def least_of(net: Network, intent: Intent, pushed: Pushed) -> Least:
-    """The least that any link of any step carries beside pushed headers, in bytes."""
+def links_of(net: Network, intent: Intent, path: Sequence[PathStep]) -> Iterator[tuple[str, int]]:
+    """The links of each step, each with its step, from 1; where a step reaches a node, those that
+    the list may take over any links.
+    """
+    if not intent.is_loose:
+        yield from ((name, step.number) for step in intent.steps for name in step.links)
+        return
+    legs: Legs = legs_of(net, intent)
+    position, sid = 0, None
+    for leg in legs.along([step.prefix for step in path]):
+        start = legs.start(position, sid)
+        if not isinstance(start, Lost):
+            yield from legs.links_on(start, leg.sid).items()
+        position, sid = leg.position, leg.sid
+
+
+def least_of(net: Network, links: Iterable[tuple[str, int]], pushed: Pushed) -> Least:
+    """The least that any of the links carries beside pushed headers, in bytes."""
     rooms: dict[str, tuple[int, int]] = {}
-    for step in intent.steps:
-        for name in step.links:
-            if name not in net.links:
-                raise Fault(f"{intent.path}: step {step.number}: no link is called {name!r}")
-            room = net.links[name].mtu - pushed.by_step.get(step.number, 0)
-            rooms[name] = min(rooms.get(name, (room, step.number)), (room, step.number))
+    for name, number in links:
+        if name not in net.links:
+            raise Fault(f"{net.path}: no link is called {name!r}, which step {number} has")
+        room = net.links[name].mtu - pushed.by_step.get(number, 0)
+        rooms[name] = min(rooms.get(name, (room, number)), (room, number))
     least = min((room for room, _ in rooms.values()), default=MOST_MTU)
     if not rooms or MOST_MTU - pushed.most < least:
         return Least(MOST_MTU - pushed.most, (), pushed.most)
@@ -87,9 +104,12 @@ def least_of(net: Network, intent: Intent, pushed: Pushed) -> Least:
     return Least(least, tuple(narrow), pushed.most)
 
 
-def lines_of(net: Network, intent: Intent, report: Report, pushed: Pushed) -> Iterator[str]:
+def lines_of(
+    net: Network, intent: Intent, report: Report, path: Sequence[PathStep]
+) -> Iterator[str]:
     """What is said of a list."""
-    least = least_of(net, intent, pushed)
+    pushed = pushed_along(net, intent, path)
+    least = least_of(net, links_of(net, intent, path), pushed)
     most = least.room - report.header
     if most < LEAST_BYTES[intent.family]:
         raise Fault(
@@ -126,7 +146,7 @@ def compiled(net: str, intent: str) -> tuple[Report, list[PathStep]]:
 def _work(words: argparse.Namespace) -> int:
     report, path = compiled(words.net, words.intent)
     net, intent = read_network(words.net), read_intent(words.intent)
-    lines = list(lines_of(net, intent, report, pushed_along(net, intent, path)))
+    lines = list(lines_of(net, intent, report, path))
     print("\n".join(lines))
     return Status.DONE
 

@@ -62,6 +62,21 @@ class Legs:
         """The SIDs of a node."""
         return self._by_node.get(node, [])
 
+    def standing_at(self, position: int) -> list[Sid]:
+        """The SIDs of the nodes where a packet may stand with so many steps done."""
+        return self.sids_at(self.stands[position])
+
+    def states_at(self, position: int) -> Iterator[Sid]:
+        """The SIDs of the states at a position, in their order."""
+        done = self.steps[position - 1].function if position else None
+        for sid in self.standing_at(position):
+            if self.goes_on(sid) and (sid.title is None or sid.title == done):
+                yield sid
+
+    def goes_on(self, sid: Sid) -> bool:
+        """Whether a list may go on behind a SID."""
+        return sid.goes_on
+
     def sids_ahead(self, position: int) -> list[Sid]:
         """The SIDs of the nodes where the walk stands from a position on; to no other ones does a
         leg lead.
@@ -130,24 +145,34 @@ class Legs:
         """The SIDs of a list, and those on headers that they push, that are executed before a link
         is crossed.
         """
-        position = 0
+        position, sid = 0, None
         for leg in self.along(prefixes):
-            if any(step.links for step in self.steps[position : leg.position]):
+            start = self.start(position, sid)
+            if isinstance(start, Lost) or self.crosses(start, leg.sid):
                 return
             yield leg.sid
-            position = leg.position
+            position, sid = leg.position, leg.sid
             stages = self.headers.stages(position, leg.sid) if leg.sid.binds else iter(())
             for stage in itertools.islice(stages, 1, None):
                 if isinstance(stage, Lost) or stage.sid is None:
                     return
                 yield stage.sid
 
+    def crosses(self, start: Start, sid: Sid) -> bool:
+        """Whether a packet crosses a link on its way to a SID."""
+        return self.ride(start, sid).position > start.position
+
+    def links_on(self, start: Start, sid: Sid) -> dict[str, int]:
+        """The links that a packet may take on its way to a SID, each with its step, from 1."""
+        steps = self.steps[start.position : self.ride(start, sid).position]
+        return {link: step.number for step in reversed(steps) for link in step.links}
+
     def _find(self, start: Start) -> Iterator[Leg]:
-        for sid in self._ahead[start.position]:
+        for sid in self.sids_ahead(start.position):
             ride = self.ride(start, sid)
             if ride.sid is not sid or (to := self.executes(sid, ride.position)) is None:
                 continue
-            if sid.goes_on:
+            if self.goes_on(sid):
                 yield Leg(sid, to, ride.lowered + 1, False)
             if sid.exposes(self.intent.family) and to == len(self.steps):
                 yield Leg(sid, to, ride.lowered, True)
@@ -158,7 +183,7 @@ def _stands(net: Network, intent: Intent) -> list[str]:
         raise Fault(f"{intent.path}: headend: there is no node {intent.headend!r}")
     stands = [intent.headend]
     for step in intent.steps:
-        stands.append(_end_of(net, intent, step) if step.links else stands[-1])
+        stands.append(_end_of(net, intent, step) if step.links else step.reach or stands[-1])
     return stands
 
 

@@ -119,6 +119,9 @@ class Stop(enum.Enum):
     ADDRESS = "a look-up finds the node's address"
     LINKS = "a link is none of the next step"
     FUNCTION = "links are met, and the next step is a function"
+    LEAVES = "a link leaves the network, and the next step reaches a node"
+    LOOP = "links lead into a loop"
+    DIFFER = "links lead to different SIDs, or to one with different steps done"
     NO_STEP = "links are met, and no step is left"
 
 

@@ -25,6 +25,7 @@ from .say_others import (
     explain_verdict,
     is_swapped,
 )
+from .say_updates import explain_update, net_at_fault, net_without_answer
 
 FORMS = {
     "run": "run NET NODE [CHOICES [SCHEDULE]] < INPUT > CAPTURE",
@@ -33,12 +34,16 @@ FORMS = {
     "compile": "compile NET INTENT > CERT",
     "check": "check NET INTENT CERT",
     "walk": "walk NET INTENT [CHOICES [SCHEDULE]] < INPUT > CAPTURE",
+    "update": "update OLD NEW INTENT [EVENTS] < INPUT > CAPTURE",
     "show": "show < INPUT",
     "gen": "gen N net|intent|sum",
 }
 WORDS_OF = {
     "run": (2, 4), "trace": (2, 3), "replay": (2, 2), "compile": (2, 2), "check": (3, 3),
-    "walk": (2, 4), "show": (0, 0), "gen": (2, 2),
+    "walk": (2, 4), "update": (3, 4), "show": (0, 0), "gen": (2, 2),
+}  # fmt: skip
+FILES_OF = {
+    "check": 3, "replay": 2, "compile": 2, "walk": 2, "run": 1, "trace": 1, "update": 3,
 }  # fmt: skip
 NUMBERS = re.compile(r"(0|[1-9][0-9]*)(,(0|[1-9][0-9]*))*")
 DESCRIPTION = """\
@@ -69,8 +74,12 @@ class Run:
     @property
     def files(self) -> list[str]:
         """The words that name files, in the order in which they are read."""
-        count = {"check": 3, "replay": 2, "compile": 2, "walk": 2, "run": 1, "trace": 1}
-        return list(self.words[1 : 1 + count.get(self.command, 0)])
+        return list(self.words[1 : 1 + FILES_OF.get(self.command, 0)])
+
+    @property
+    def reads_input(self) -> bool:
+        """Whether the command reads an input."""
+        return self.command in ("run", "trace", "walk", "show", "update")
 
 
 def main(words: Sequence[str]) -> int:
@@ -148,11 +157,12 @@ def _explained(run: Run) -> Iterator[str]:
         case Status.USAGE:
             yield from _usage(run)
         case Status.NO_ANSWER if isinstance(said, NoAnswer) and run.command != "gen":
-            yield from explain_no_answer(said.why, said.number, run.word(1), run.word(2))
+            net, intent = _net_and_intent(run)
+            yield from explain_no_answer(said.why, said.number, net, intent)
         case Status.SAYS_NO:
             yield from explain_verdict(run.word(1), run.files[-1], run.verdict, run.command)
         case Status.OUTSIDE_FAULT:
-            yield from explain_fault(run.files, run.command in ("run", "trace", "walk", "show"))
+            yield from explain_fault(run.files, run.reads_input)
             yield from _order_of_files(run)
         case Status.NO_MEMORY:
             yield "there wasn't enough memory"
@@ -160,11 +170,23 @@ def _explained(run: Run) -> Iterator[str]:
             yield f"srv6 was ended by signal {status - 128}"
 
 
+def _net_and_intent(run: Run) -> tuple[str, str]:
+    """The description that a line is of, none where it is of an update's two, and the second file
+    of the command.
+    """
+    if run.command != "update":
+        return run.word(1), run.word(2)
+    old, new, intent = run.words[1:4]
+    if run.status == Status.NO_ANSWER:
+        return net_without_answer(old, new, intent), intent
+    return net_at_fault(old, new, intent, run.last), intent
+
+
 def _refused(run: Run, said: Refusal) -> Iterator[str]:
     number, name, fields = said.number, said.name, said.fields
-    net, second = run.word(1), run.word(2)
-    has_intent = run.command in ("compile", "check", "walk")
-    if has_intent and number != 2 and is_swapped(net, second):
+    net, second = _net_and_intent(run)
+    has_intent = run.command in ("compile", "check", "walk", "update")
+    if has_intent and number != 2 and net and is_swapped(net, second):
         yield f"{net} looks like an intent and {second} like a description:"
         yield "the description comes first"
     elif number == 2 and fields[:1] == (str(FILE_LIMIT),):
@@ -172,11 +194,13 @@ def _refused(run: Run, said: Refusal) -> Iterator[str]:
         yield f"{big[0]} has more than {FILE_LIMIT} bytes, which is the most that a file may have"
     elif number == 2 or 11 <= number <= 17 or 49 <= number <= 54:
         yield from explain_input(number, fields)
+    elif number in (47, 48) or number == 32 and not net:
+        yield from explain_update(TomlFile(run.word(1)), TomlFile(run.word(2)), name, fields)
     elif 21 <= number <= 32:
         yield from explain_text(TomlFile(net), name, fields)
     elif number == 33:
         yield from explain_text(TomlFile(second), fields[0], fields[1:])
-    elif 34 <= number <= 38:
+    elif 34 <= number <= 38 or number == 46:
         yield from explain_intent(TomlFile(net), TomlFile(second), name, fields)
     elif number == 39:
         yield from explain_node(TomlFile(net), second)
@@ -210,7 +234,8 @@ def _wrong_words(run: Run) -> Iterator[str]:
     elif run.command == "gen":
         yield "N is a number from 2 to 47, and behind it stands net, intent or sum"
     else:
-        for place, name, limit in ((3, "CHOICES", 4096), (4, "SCHEDULE", 65536)):
+        places = ((3, "CHOICES", 4096), (4, "SCHEDULE", 65536))
+        for place, name, limit in ((4, "EVENTS", 65536),) if run.command == "update" else places:
             word = run.word(place)
             numbers = word.split(",")
             if word and (not NUMBERS.fullmatch(word) or len(numbers) > limit):

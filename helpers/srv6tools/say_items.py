@@ -219,13 +219,14 @@ def _why(
     item = file.item(table, number)
     if name == "MissingKey":
         if table == "step":
-            return None, "a step has `links` or a `function`"
+            return None, "a step has `links`, a `function` or a `reach`"
         return None, f"the key `{key}` is missing"
     if name == "UnknownKey":
         known = [one.name for one in KEYS[table]]
         unknown = [one for one in item if one not in known]
         if not unknown and table == "step":
-            return "function", "a step has `links` or a `function`, not both"
+            key = "function" if "function" in item else "reach"
+            return key, "a step has one of `links`, `function` and `reach`, not two"
         one = unknown[0]
         return one, f"`{one}` is no key of a {table}; {near(one, known, 'keys')}"
     for one in KEYS[table]:
@@ -365,7 +366,10 @@ _OF_JOINING = {
 def explain_intent(
     net: TomlFile, file: TomlFile, name: str, fields: Sequence[str]
 ) -> Iterator[str]:
-    """What one of the faults 34 to 38 means."""
+    """What one of the faults 34 to 38, or 46, means."""
+    if name == "LooseLimit":
+        yield from _too_many_sids(net, file, int(fields[0]))
+        return
     number = int(fields[0]) if fields else 0
     nodes = [one["name"] for one in net.items("node")]
     if number == 0 and name == "UnknownName":
@@ -376,9 +380,12 @@ def explain_intent(
     number = number or len(file.items("step"))
     at, links = _stands_at(net, file, number), {one["name"]: one for one in net.items("link")}
     step = file.item("step", number)
+    reach = step.get("reach")
     functions = [one["title"] for one in net.items("sid") if "title" in one and one["node"] == at]
     key, why = "links", ""
     match name:
+        case "UnknownName" if reach is not None:
+            key, why = "reach", f'there is no node "{reach}"; {near(reach, nodes, "nodes")}'
         case "UnknownName":
             for link in step.get("links", []):
                 if link not in links:
@@ -387,12 +394,14 @@ def explain_intent(
         case "DoubleLink":
             twice = [one for one in step["links"] if step["links"].count(one) > 1]
             why = f'the link "{twice[0]}" stands twice'
+        case "Broken" if reach is not None:
+            key, why = "reach", f"{reach} is where the step stands already"
         case "Broken":
             why = _why_broken(links, step["links"], at)
         case "NoFunction":
             key, why = "function", _why_no_function(net, step["function"], at, functions)
         case "NotFunctionLast":
-            at = links[step["links"][0]].get("to") if step.get("links") else at
+            at = links[step["links"][0]].get("to") if step.get("links") else reach or at
             functions = [
                 one["title"] for one in net.items("sid") if "title" in one and one["node"] == at
             ]
@@ -404,6 +413,16 @@ def explain_intent(
     yield from file.quote("step", number, key)
 
 
+def _too_many_sids(net: TomlFile, file: TomlFile, most: int) -> Iterator[str]:
+    reaches = [place for place, step in enumerate(file.items("step"), 1) if "reach" in step]
+    count = len(net.items("sid"))
+    yield f"{net.path} has {count} SIDs, and an intent with a step that reaches a node may"
+    yield f"have {most}; without `reach`, each step with its links, there may be as many as ever"
+    for place in reaches[:1]:
+        yield f"{file.path}: {file.where('step', place)}:"
+        yield from file.quote("step", place, "reach")
+
+
 def _stands_at(net: TomlFile, file: TomlFile, number: int) -> str | None:
     """The node where a step stands."""
     ends = {link["name"]: link.get("to") for link in net.items("link")}
@@ -411,6 +430,7 @@ def _stands_at(net: TomlFile, file: TomlFile, number: int) -> str | None:
     for step in file.items("step")[: number - 1]:
         if step.get("links"):
             at = ends.get(step["links"][0])
+        at = step.get("reach", at)
     return at
 
 

@@ -112,7 +112,7 @@ KEYS = {
         _number("max_containers", 1, 127, "10"), _number("traffic_class", 0, 255, "0"),
         _number("flow_label", 0, 1_048_575, "0"),
     ),
-    "step": (_names("links", False), _name("function", False)),
+    "step": (_names("links", False), _name("function", False), _name("reach", False)),
 }  # fmt: skip
 
 MOST = {

@@ -10,7 +10,7 @@ from collections.abc import Callable, Iterator, Sequence
 from typing import Any
 
 from .command import Fault, Parser, Status, progress, run_tool
-from .err_lines import NoAnswer, PacketLine, Refusal, err_line_of
+from .err_lines import EditLine, NoAnswer, PacketLine, Refusal, err_line_of
 from .files import INPUT_LIMIT, STDIN, decoded, read_bytes, read_input
 from .report import HEAD as CERTIFICATE_HEAD
 from .report import NO_LIST, Certificate, Potential, Report, certificate_of, report_of
@@ -102,6 +102,8 @@ def err_json(line: str, number: int, name: str) -> Json:
             return {"line": "no answer", "why": answer.why, "number": answer.number}
         case PacketLine() as packet:
             return packet_json(packet)
+        case EditLine() as edit:
+            return edit_json(edit)
     if line.startswith("usage: "):
         return {"line": "usage"}
     raise Fault(f"{name}: line {number}: srv6 writes no such line on err: {line[:60]!r}")
@@ -115,6 +117,18 @@ def packet_json(packet: PacketLine) -> Json:
     if packet.place is not None:
         found[_PLACE_NAMES[packet.outcome]] = packet.place
     return found
+
+
+def edit_json(edit: EditLine) -> Json:
+    """A line of an update, with the entry or the packet that it names."""
+    found: Json = {"line": "edit", "edit": edit.kind}
+    match edit.kind:
+        case "switch":
+            return found
+        case "busy":
+            return found | {"packet": edit.number}
+        case _:
+            return found | {"table": edit.table, "item": edit.number}
 
 
 def of_trace(lines: list[str], name: str) -> Json:
@@ -227,7 +241,7 @@ _FIRST_LINES = (
     ("report", re.compile(f"# container .*|{NO_LIST}")),
     ("certificate", re.compile("#.*")),
     ("show", re.compile("packet [0-9]+")),
-    ("err", re.compile("packet [0-9]+: .*|refused [0-9].*|no answer .*|usage: .*")),
+    ("err", re.compile("packet [0-9]+: .*|edit .*|refused [0-9].*|no answer .*|usage: .*")),
     ("verdict", re.compile("least .*|ok .*|none|no [0-9].*")),
     ("summary", re.compile("nodes [0-9]+")),
 )

@@ -16,7 +16,7 @@ from .command import Fault, Status, tool_name
 from .description import Link, Network
 from .err_lines import PacketLine, err_line_of
 from .intent import read_intent
-from .legs import Legs
+from .loose import legs_of
 from .program import Answer, run_program
 from .report import certificate_in
 from .shown import Shown, shown_in
@@ -209,7 +209,7 @@ class _Entry:
         path = certificate_in(answer.out.decode("latin-1")).path
         if not path:
             return ()
-        legs = Legs(self.net, read_intent(self.intent))
+        legs = legs_of(self.net, read_intent(self.intent))
         own = legs.executed_first([step.prefix for step in path])
         return tuple(str(sid.prefix) for sid in own)
 

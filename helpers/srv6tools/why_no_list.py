@@ -11,6 +11,7 @@ from .description import Sid, read_network
 from .err_lines import NoAnswer, err_line_of
 from .intent import Step, read_intent
 from .legs import Edges, Legs, Rooms
+from .loose import legs_of
 from .places import Halt, Stop
 from .program import run_program
 from .pushed_headers import Lost, Start
@@ -123,6 +124,8 @@ class Reasons:
         """Why no list goes on from a SID to another; nothing where one comes to it without a
         step.
         """
+        if to.binds and not self.legs.goes_on(to):
+            return "it binds a policy, and where a step reaches a node no list executes such a SID"
         ride = self.legs.ride(start, to)
         if ride.halt:
             return self._crossed(ride.position) + self._why_halted(ride.halt, ride.position)
@@ -181,6 +184,12 @@ class Reasons:
                 return f"{sends}, and all steps are done"
             case Stop.FUNCTION:
                 return f"{sends}, and what comes next is {self.step(position)}"
+            case Stop.LEAVES:
+                return f"{sends}, which leaves the network, and {self.step(position)} isn't done"
+            case Stop.LOOP:
+                return f"{sends}, and so it may come to {place.node} again, and for ever"
+            case Stop.DIFFER:
+                return f"{sends}, behind which it comes to other SIDs, or with other steps done"
             case Stop.LINKS:
                 wanted = self.legs.steps[position].links
                 off = [link for link in halt.via.links if link not in wanted] if halt.via else []
@@ -205,6 +214,9 @@ class Reasons:
         if step.function:
             yield from self._of_function(step)
             return
+        if step.reach:
+            yield from self._of_reach(step.reach)
+            return
         wanted = set(step.links)
         links = ", ".join(step.links)
         crossing = [
@@ -226,6 +238,14 @@ class Reasons:
         more = f" and {len(routes) - MOST_NAMES} more" if len(routes) > MOST_NAMES else ""
         named = ", ".join(routes[:MOST_NAMES]) or "none"
         yield f"routes of {node} over {links} alone: {named}{more}"
+
+    def _of_reach(self, node: str) -> Iterator[str]:
+        legs, family = self.legs, self.legs.intent.family
+        sids = [sid for sid in legs.sids_at(node) if legs.goes_on(sid) or sid.exposes(family)]
+        yield f"SIDs at {node} that a list may execute: {self._listed(sids)}"
+        into = [link.name for link in legs.net.links.values() if link.end == node]
+        more = f" and {len(into) - MOST_NAMES} more" if len(into) > MOST_NAMES else ""
+        yield f"links to {node}: {', '.join(into[:MOST_NAMES]) or 'none'}{more}"
 
     def _of_function(self, step: Step) -> Iterator[str]:
         legs, node = self.legs, self.legs.stands[self.position]
@@ -251,7 +271,7 @@ def _work(tool: str, words: argparse.Namespace) -> int:
         if told := _there_is_one(words.net, words.intent):
             print(told)
             return Status.NO_ANSWER
-        search = Search(Legs(read_network(words.net), read_intent(words.intent)))
+        search = Search(legs_of(read_network(words.net), read_intent(words.intent)))
         if search.has_list:
             raise Fault("srv6 finds no list, and this tool finds one, so it can't say why")
         lines = list(Reasons(search).lines())

@@ -30,6 +30,18 @@ class DrawWalk(ToolCase):
         self.assertNotIn("grey60", out)
         self.assertIn('"B" -> "C" [label="packet 1: send 1 over bc1"', out)
 
+    def test_both_descriptions(self):
+        old = self.capture((1, 2, PACKET), (1, 4, PACKET))
+        new = self.file("new.pcap", b"".join(raw_capture([(1, 3, PACKET), (2, 1, PACKET)])))
+        ran = run_here("draw-walk", "--used", "--new", new, M2, old)
+        self.assertEqual(ran.status, 0)
+        self.assertIn('"B" -> "C" [label="packet 1: send 1 over bc1"', ran.out)
+        dashed = [line for line in ran.out.splitlines() if "new: send" in line]
+        self.assertEqual(len(dashed), 2)
+        self.assertTrue(all(line.endswith(", penwidth=2, style=dashed];") for line in dashed))
+        self.assertIn('label="packet 1, new: send 1 over bc2"', dashed[0])
+        self.named_answer(run_here("draw-walk", "--new", new, M2, old, "3"), [1])
+
     def test_misfits(self):
         for frames, wants in (
             ([(1, 9, PACKET)], "crosses link 9"),

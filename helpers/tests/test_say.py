@@ -4,6 +4,7 @@ import json
 import os
 import struct
 import unittest
+import unittest.mock
 from collections.abc import Iterator
 from dataclasses import dataclass
 from pathlib import Path
@@ -97,10 +98,12 @@ INTENTS = (
     ("33 Text Limit step 0", INTENT[:STEPS] + "step = []\n", "there are 0"),
     ("33 Text Limit step 1", INTENT.replace('["ab"]', "[]"), "`links` has 0 members"),
     ("33 Text MissingKey step 2 links", INTENT.replace('links = ["bc1"]', ""), "`function`"),
-    ("33 Text UnknownKey step 1", INTENT.replace('["ab"]', '["ab"]\nfunction = "v"'), "not both"),
+    ("33 Text UnknownKey step 1", INTENT.replace('["ab"]', '["ab"]\nfunction = "v"'), "not two"),
     ("34 UnknownName 0", INTENT.replace('headend = "A"', 'headend = "Q"'), "the nodes are A, B"),
     ("34 UnknownName 2", INTENT.replace("bc1", "bc9"), "did you mean bc"),
     ("35 Broken 1", INTENT.replace('"ab"', '"cd"'), 'step 1, which stands at A: the link "cd"'),
+    ("34 UnknownName 2", INTENT.replace('links = ["bc1"]', 'reach = "Q"'), 'there is no node "Q"'),
+    ("35 Broken 1", INTENT.replace('links = ["ab"]', 'reach = "A"'), "stands already"),
     (
         "35 Broken 4",
         INTENT.replace("function", 'links = ["ce"]\n\n[[step]]\nfunction'),
@@ -236,6 +239,33 @@ class Say(ToolCase):
             with self.subTest(words):
                 text = "\n".join(say._explained(say.Run(words, 2, "usage: srv6 ..")))
                 self.assertIn(wants, text)
+
+    def test_updates(self):
+        old = COMPRESSED
+        vpn = 'prefix = "fcbb:bb00:f001::/48"'
+        new_table = '[[route]]\nnode = "D"\nprefix = "2001:db8::/32"\nvia = ["ce"]\n'
+        for line, new, wants in (
+            ("47 Conflict route 3 route 3", old.replace(', "bc2"]', "]"), "fcbb:bb00:4::/48, and"),
+            ("47 Conflict sid 4 sid 4", old.replace(vpn, vpn.replace("f001", "f003")), '"vpn"'),
+            ("47 Conflict node 4 route 6", old + new_table, "2001:db8::/32 holds 2001:db8::d/128"),
+            ("48 Differs link 3", old.replace('"bc2"', '"bc3"'), "link 3 isn't the same in"),
+            ("48 Differs link 5", old[: old.index('[[link]]\nname = "ce"')], "has no link 5, and"),
+            ("32 Limit route 0", old, "has more routes than a description may"),
+        ):
+            with self.subTest(line):
+                files = [self.file("old.toml", old), self.file("new.toml", new)]
+                run = say.Run(("update", *map(str, files), "intent"), 1, f"refused {line}")
+                with unittest.mock.patch.dict(os.environ, SRV6=self.fake_program("other\n")):
+                    self.assertIn(wants, "\n".join(say._explained(run)))
+
+    @needs_program
+    def test_updates_name_the_description(self):
+        good = self.file("good.toml", COMPRESSED)
+        bad = self.file("bad.toml", COMPRESSED.replace("[[block]]", "[[blokc]]"))
+        line = "refused 24 UnknownKey net 0"
+        for first, second in ((bad, good), (good, bad)):
+            words = ("update", str(first), str(second), str(EXAMPLES / "intent.toml"))
+            self.assertIn("bad.toml", "\n".join(say._explained(say.Run(words, 1, line))))
 
     def test_verdicts(self):
         cert = self.file("cert", "srv6 certificate 1\npotential 0 - 0 5 4\nnone\nend\n")

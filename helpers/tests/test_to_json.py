@@ -37,7 +37,15 @@ refused 16 CutFrame 6
     "err of a refusal": "refused 31 DoublePrefix route 3\n",
     "err without an answer": "no answer TooLong 12\n",
     "err without a list": "no answer NoList\n",
-    "err of usage": "usage: srv6 compile|check|walk|run|trace|replay|show|gen\n",
+    "err of usage": "usage: srv6 compile|check|walk|run|trace|replay|show|gen|update\n",
+    "err of an update": """\
+edit add route 7
+edit add sid 7
+edit switch
+edit busy 1
+packet 1: left ce
+edit remove route 2
+""",
     "trace": """\
 srv6 trace 1
 packet 1 6 B 60
@@ -217,7 +225,7 @@ class WorkedRows(ToolCase):
         for args in sorted(ROWS.glob("*/*/args")):
             words = args.read_text().split("\n")
             command = words[0]
-            if command in ("run", "walk") or command == "gen" and words[2] != "sum":
+            if command in ("run", "walk", "update") or command == "gen" and words[2] != "sum":
                 texts = {"stderr": "err"}
             else:
                 kind = "summary" if command == "gen" else kinds.get(command, command)
