@@ -70,11 +70,11 @@ _srv6() {
         return
     fi
     if ((${#words[@]} == 1)); then
-        mapfile -t COMPREPLY < <(compgen -W 'run trace replay compile check walk show gen' -- "$current")
+        mapfile -t COMPREPLY < <(compgen -W 'run trace replay compile check walk update show gen' -- "$current")
         return
     fi
     case ${words[1]}:${#words[@]} in
-    run:2 | trace:2 | replay:2 | compile:[23] | check:[23] | walk:[23])
+    run:2 | trace:2 | replay:2 | compile:[23] | check:[23] | walk:[23] | update:[234])
         _srv6_files '*.toml' "$current"
         ;;
     replay:3 | check:4)
@@ -97,7 +97,7 @@ _srv6() {
 declare -gA _srv6_options=(
     [all-paths]='--table --json --dot --most=any'
     [check-certificate]=''
-    [draw-walk]='--used'
+    [draw-walk]='--used --new=file'
     [from-linux]='--ipv4=file --node=any --address=any --source=any --link=any'
     [largest-inner]=''
     [linux-route]='--kernel=any'
