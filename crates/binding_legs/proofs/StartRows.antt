@@ -1,10 +1,10 @@
 -- The rows of starts, as they grow.
 use Rattle.std.proofs.Common.{◌≡◌, ℕ, ◌+◌, ◌<◌, ◌≤◌, Bool, true, false, ◌&&◌, nat_le, if◌then◌else◌, List, [], ◌∷◌, ◌++◌, length, slice_get, Option, Some, None, refl, sym, ap, ◌∙◌, subst, arith, inl, inr, length-append}
-use Rattle.std.proofs.lemmas.Bool.{cases_lt, le-leb, lt-leb}
-use Rattle.std.proofs.lemmas.Option.{slice_get_within, slice_get_past, same_Some}
+use Rattle.std.proofs.lemmas.Bool.{cases_lt, le-leb}
+use Rattle.std.proofs.lemmas.Option.{slice_get_within}
 use Rattle.net_model.specs.Network.{Network}
 use Rattle.intent_reader.specs.declared.intent.Intent.{Intent}
-use Rattle.leg_table.specs.Sids.{is_sid_at, node_at, sid_suits, step_before}
+use Rattle.leg_table.specs.Sids.{is_sid_at}
 use Rattle.leg_table.proofs.Options.{get-before, get-pushed}
 use Rattle.binding_starts.specs.declared.starts.Start.{Start}
 use Rattle.binding_starts.specs.Starts.{binding_start, start_behind}
@@ -16,14 +16,12 @@ pub record AreStartsBelow (net : Network) (intent : Intent) (position count : �
   pub each : (sid : ℕ) → sid < count → slice_get row sid ≡ Some (binding_start net intent position (Some sid))
 
 module _ (net : Network) (intent : Intent) (position : ℕ) where
-  pub none-below : AreStartsBelow net intent position 0 []
-  none-below = record { long = refl; each = λ sid low. absurd (omega arith) }
-
   -- the start behind a SID, by whether it is one of the position
   pub start-at : (sid : ℕ) → position ≤ length intent.steps → is_sid_at net intent position sid ≡ true
       → start_behind net intent position sid (slice_get net.sids sid) ≡ binding_start net intent position (Some sid)
   start-at sid within at =
-      sym (ap (λ (b : Bool). if b && is_sid_at net intent position sid then start_behind net intent position sid (slice_get net.sids sid) else None)
+      sym (ap (λ (b : Bool). if b && is_sid_at net intent position sid then start_behind net intent position sid
+      (slice_get net.sids sid) else None)
       (le-leb position (length intent.steps) within)
       ∙ ap (λ (b : Bool). if b then start_behind net intent position sid (slice_get net.sids sid) else None) at)
 
@@ -36,19 +34,9 @@ module _ (net : Network) (intent : Intent) (position : ℕ) where
       by_low true = refl
       by_low false = refl
 
-  -- beyond the last position, and beyond the last SID, there is none
-  pub no-start-past : (sid : ℕ) → length intent.steps < position → None ≡ binding_start net intent position (Some sid)
-  no-start-past sid past =
-      ap (λ (b : Bool). if b && is_sid_at net intent position sid then start_behind net intent position sid (slice_get net.sids sid) else None)
-      (sym (lt-leb position (length intent.steps) past))
-
-  pub no-start-beyond : (sid : ℕ) → length net.sids ≤ sid → None ≡ binding_start net intent position (Some sid)
-  no-start-beyond sid past =
-      no-start-at sid
-      (ap (sid_suits sid (node_at net intent position) (step_before intent.steps position)) (slice_get_past net.sids sid past))
-
   pub one-more : (count : ℕ) (row more : List (Option Start)) (start : Option Start) → AreStartsBelow net intent position count row
-      → start ≡ binding_start net intent position (Some count) → more ≡ row ++ start ∷ [] → AreStartsBelow net intent position (count + 1) more
+      → start ≡ binding_start net intent position (Some count) → more ≡ row ++ start ∷ []
+      → AreStartsBelow net intent position (count + 1) more
   one-more count row more start below is e =
       let size = length-append row (start ∷ []) in
       let long = below.long in
@@ -64,16 +52,9 @@ module _ (net : Network) (intent : Intent) (position : ℕ) where
         ];
       }
 
-  pub whole-row : (row : List (Option Start)) → AreStartsBelow net intent position (length net.sids) row
-      → AreStartsAt net intent position row
-  whole-row row below = record { count = below.long; each = below.each }
-
 -- ---- the row of each position
 
 module _ (net : Network) (intent : Intent) where
-  pub no-rows : AreStarts net intent 0 []
-  no-rows = record { long = refl; each = λ position row there. absurd (omega (arith, slice_get_within [] position row there)) }
-
   pub row-more : (count : ℕ) (rows more : List (List (Option Start))) (row : List (Option Start)) → AreStarts net intent count rows
       → AreStartsAt net intent count row → more ≡ rows ++ row ∷ [] → AreStarts net intent (count + 1) more
   row-more count rows more row are is e =
@@ -86,7 +67,8 @@ module _ (net : Network) (intent : Intent) where
             let within = slice_get_within more position other there in
             elim (cases_lt position count) [
               | inl less ↦
-                  are.each position other (sym (get-before rows row position (omega (arith, less, long))) ∙ sym (ap (λ xs. slice_get xs position) e) ∙ there)
+                  are.each position other (sym (get-before rows row position (omega (arith, less, long)))
+                  ∙ sym (ap (λ xs. slice_get xs position) e) ∙ there)
               | inr least ↦
                   let same : position ≡ count = omega (arith, within, least, sized) in
                   let got : Path (Option (List (Option Start))) (Some row) (Some other) =
@@ -95,20 +77,3 @@ module _ (net : Network) (intent : Intent) where
                   (subst (λ (n : ℕ). AreStartsAt net intent n row) (sym same) is)
             ];
       }
-
-  -- what stands in the rows
-  pub start-in : (rows : List (List (Option Start))) → AreStarts net intent (length intent.steps + 1) rows → (position sid : ℕ)
-      → (row : List (Option Start)) (start : Option Start) → slice_get rows position ≡ Some row → slice_get row sid ≡ Some start
-      → start ≡ binding_start net intent position (Some sid)
-  start-in rows are position sid row start there found =
-      let at = are.each position row there in
-      let size = at.count in
-      let within = slice_get_within row sid start found in
-      same_Some start (binding_start net intent position (Some sid)) (sym found ∙ at.each sid (omega (arith, size, within)))
-
-  pub none-in : (rows : List (List (Option Start))) → AreStarts net intent (length intent.steps + 1) rows → (position sid : ℕ)
-      → (row : List (Option Start)) → slice_get rows position ≡ Some row → length row ≤ sid
-      → None ≡ binding_start net intent position (Some sid)
-  none-in rows are position sid row there past =
-      let size = (are.each position row there).count in
-      no-start-beyond net intent position sid (omega (arith, size, past))

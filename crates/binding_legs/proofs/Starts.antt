@@ -25,6 +25,3 @@ module _ (net : Network) (intent : Intent) (position : ℕ) (via : Option ℕ) (
       → way_along net (drop start.done intent.steps) start.place next ≡ binding_way net intent position via next
   way-from start h =
       ap (λ (o : Option Start). option_and_then (λ (s : Start). behind_of net next (ride_from net intent next s)) o) h
-
-  pub no-way : None ≡ binding_start net intent position via → None ≡ binding_way net intent position via next
-  no-way h = ap (λ (o : Option Start). option_and_then (λ (s : Start). behind_of net next (ride_from net intent next s)) o) h

@@ -3,20 +3,14 @@ use Rattle.std.proofs.Common.{◌≡◌, ℕ, Bool, true, if◌then◌else◌, l
 use Rattle.std.specs.Option.{option_map, option_and_then}
 use Rattle.net_model.specs.Network.{Network}
 use Rattle.intent_reader.specs.declared.intent.Intent.{Intent}
-use Rattle.list_pack.specs.declared.types.Leg.{Leg}
-use Rattle.leg_table.specs.Course.{behind_with, behind_of, finish_from_behind}
-use Rattle.leg_table.specs.Leg.{left_behind, if_none_left, finish_behind, leg_behind, leg_with}
-use Rattle.leg_table.specs.Ride.{Ride}
+use Rattle.leg_table.specs.Course.{behind_of, finish_from_behind, leg_from_behind}
+use Rattle.leg_table.specs.Leg.{finish_behind, leg_behind}
 use Rattle.leg_table.specs.Sids.{is_last}
-use Rattle.leg_table.specs.declared.step_links.Behind.{Behind}
+use Rattle.leg_table.proofs.PublicLaws.{leg-by, finish-by}
 use Rattle.binding_starts.specs.declared.starts.Start.{Start}
 use Rattle.binding_starts.specs.Starts.{binding_ride, binding_start, leads_on, ride_from}
 use Rattle.binding_starts.specs.Value.{binding_finish, binding_leg}
 use Rattle.binding_legs.specs.Table.{binding_way}
-
--- the leg of a way that leaves some of the steps
-abbrev pub leg_from_behind : ℕ → Behind → Leg
-leg_from_behind count b = leg_with count b.lowered b.left
 
 module _ (net : Network) (intent : Intent) (position : ℕ) (via : Option ℕ) (next : ℕ) where
   way-ride : binding_way net intent position via next ≡ behind_of net next (binding_ride net intent position via next)
@@ -28,34 +22,17 @@ module _ (net : Network) (intent : Intent) (position : ℕ) (via : Option ℕ) (
       by_start None = refl
       by_start (Some s) = refl
 
-  leg-by : (o : Option Ride) → option_map (leg_from_behind (length intent.steps)) (behind_of net next o) ≡ leg_behind net (length intent.steps) next o
-  leg-by None = refl
-  leg-by (Some r) = by_left (left_behind net next r)
-    where
-      by_left : (o : Option ℕ)
-          → option_map (leg_from_behind (length intent.steps)) (option_map (behind_with r.lowered) o)
-          ≡ option_map (leg_with (length intent.steps) r.lowered) o
-      by_left None = refl
-      by_left (Some left) = refl
-
   pub leg-way : leads_on net next ≡ true
       → option_map (leg_from_behind (length intent.steps)) (binding_way net intent position via next)
       ≡ binding_leg net intent position via next
   leg-way leads =
-      ap (option_map (leg_from_behind (length intent.steps))) way-ride ∙ leg-by (binding_ride net intent position via next)
-      ∙ ap (λ (b : Bool). if b then leg_behind net (length intent.steps) next (binding_ride net intent position via next) else None) (sym leads)
-
-  finish-by : (o : Option Ride) → option_and_then finish_from_behind (behind_of net next o) ≡ finish_behind net next o
-  finish-by None = refl
-  finish-by (Some r) = by_left (left_behind net next r)
-    where
-      by_left : (o : Option ℕ)
-          → option_and_then finish_from_behind (option_map (behind_with r.lowered) o) ≡ option_and_then (if_none_left r.lowered) o
-      by_left None = refl
-      by_left (Some left) = refl
+      ap (option_map (leg_from_behind (length intent.steps))) way-ride
+      ∙ leg-by net next (length intent.steps) (binding_ride net intent position via next)
+      ∙ ap (λ (b : Bool). if b then leg_behind net (length intent.steps) next (binding_ride net intent position via next) else None)
+      (sym leads)
 
   pub finish-way : is_last net intent.inner next ≡ true
       → option_and_then finish_from_behind (binding_way net intent position via next) ≡ binding_finish net intent position via next
   finish-way last =
-      ap (option_and_then finish_from_behind) way-ride ∙ finish-by (binding_ride net intent position via next)
+      ap (option_and_then finish_from_behind) way-ride ∙ finish-by net next (binding_ride net intent position via next)
       ∙ ap (λ (b : Bool). if b then finish_behind net next (binding_ride net intent position via next) else None) (sym last)

@@ -13,13 +13,11 @@ use crate::rows::{Row, starts_of};
 use base::NoMemory;
 use binding_starts::Start;
 use intent_reader::Intent;
-use leg_table::{Behind, StrictLegs, is_last, lowered_at_the_end};
+use leg_table::{Behind, StrictLegs, headend_place, if_none_left, is_last, leg_with};
 use list_pack::{Leg, Legs, ListLegs, Shape};
 use net_model::Net;
-use srv6_rules::Family;
 use std::alloc::Global;
 use std::marker::Model;
-use walk_rules::{How, Place};
 
 /// The legs of an intent through binding SIDs in a network: those of strict steps, and a start for
 /// each position and SID, so that each question is a look-up or two. (own rule)
@@ -44,8 +42,8 @@ impl<'a> Model for BindingLegs<'a> {
 }
 
 impl<'a> BindingLegs<'a> {
-    /// The legs of an intent that keeps the rules in a flat network. The header of each binding SID of
-    /// each position is run once, for at most 1,000 stages. (own rule)
+    /// The legs of an intent that keeps the rules in a flat network. The header of each binding SID
+    /// of each position is run once, for at most 1,000 stages. (own rule)
     pub fn build(
         alloc: Global,
         net: &'a Net,
@@ -100,11 +98,7 @@ impl<'a> BindingLegs<'a> {
     {
         match via {
             None if position == 0 => Some(Start {
-                place: Place {
-                    node: self.intent.headend,
-                    how: How::Submitted { table: 0 },
-                    family: Family::V6,
-                },
+                place: headend_place(self.intent),
                 done: 0,
             }),
             None => None,
@@ -160,10 +154,7 @@ impl<'a> Legs for BindingLegs<'a> {
             return None;
         }
         match self.way(position, via, next) {
-            Some(behind) => Some(Leg {
-                to: self.steps() - behind.left,
-                hops: behind.lowered + 1,
-            }),
+            Some(behind) => Some(leg_with(self.steps(), behind.lowered, behind.left)),
             None => None,
         }
     }
@@ -173,7 +164,7 @@ impl<'a> Legs for BindingLegs<'a> {
             return None;
         }
         match self.way(position, via, next) {
-            Some(behind) => lowered_at_the_end(&behind),
+            Some(behind) => if_none_left(behind.lowered, behind.left),
             None => None,
         }
     }

@@ -1,11 +1,12 @@
 //! The legs of an intent through binding SIDs.
 //!
 //! `BindingLegs` is the table of strict legs with a start for each position and SID: from where a
-//! packet goes on behind that SID, which is behind the whole walk of the header that it pushes where
-//! it binds a policy. `build` runs each such header once; a leg and a finish are the way from the
-//! start to the next SID, as behind any other.
+//! packet goes on behind that SID, which is behind the whole walk of the header that it pushes
+//! where it binds a policy. `build` runs each such header once; a leg and a finish are the way from
+//! the start to the next SID, as behind any other.
 //!
-//! `specs/Table.antt` says what the table holds; what a search sees of it stands in `binding_starts`.
+//! `specs/Table.antt` says what the table holds; what a search sees of it stands in
+//! `binding_starts`.
 #![tactic(auto)]
 
 mod legs;

@@ -13,8 +13,8 @@ use leg_table::StrictLegs;
 use net_model::Net;
 use std::alloc::Global;
 
-/// The starts behind all SIDs at a position, by the SIDs' numbers; none behind one that isn't of the
-/// position, or from which no packet goes on. (own rule)
+/// The starts behind all SIDs at a position, by the SIDs' numbers; none behind one that isn't of
+/// the position, or from which no packet goes on. (own rule)
 pub type Row = Seq<Option<Start>>;
 
 /// the start behind a SID at a position

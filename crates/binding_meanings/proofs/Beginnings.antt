@@ -1,6 +1,5 @@
 -- From where a packet goes on to its next SID: the walk from behind the SID that it executed last is one to its start, and one from there.
-use Rattle.std.proofs.Common.{◌≡◌, ℕ, suc, ◌+◌, ◌≤◌, Bool, true, false, ◌==◌, ◌&&◌, nat_le, if◌then◌else◌, List, [], length, take, drop, Option, Some, None, slice_get, refl, sym, ap, ◌∙◌, subst, arith, eqb-true}
-use Rattle.std.specs.Prelude.{is_some}
+use Rattle.std.proofs.Common.{◌≡◌, ℕ, suc, ◌+◌, ◌≤◌, true, ◌==◌, ◌&&◌, nat_le, List, [], length, take, drop, Option, Some, None, slice_get, refl, sym, ap, ◌∙◌, subst, arith, eqb-true}
 use Rattle.std.specs.Option.{option_map, option_and_then}
 use Rattle.std.proofs.lemmas.Bool.{and_parts, leb-true}
 use Rattle.std.proofs.lemmas.List.{length-drop}
@@ -15,7 +14,6 @@ use Rattle.net_model.specs.declared.parts.NamedPolicy.{NamedPolicy}
 use Rattle.net_model.specs.Network.{Network}
 use Rattle.net_model.specs.Keeps.{Keeps}
 use Rattle.walk_rules.specs.declared.place.Place.{Place}
-use Rattle.walk_rules.specs.Relation.{IsHow}
 use Rattle.walk_rules.proofs.PublicLaws.{sid-how}
 use Rattle.intent_reader.specs.Rules.{IsIntent, stand_after}
 use Rattle.intent_reader.specs.declared.intent.Step.{Step}
@@ -24,24 +22,20 @@ use Rattle.leg_table.specs.Leg.{place_behind}
 use Rattle.leg_table.specs.Realizes.{headend_place}
 use Rattle.leg_table.specs.Sids.{is_sid_at, node_at}
 use Rattle.leg_table.specs.Trace.{Event}
-use Rattle.leg_table.proofs.RideFacts.{StartFacts, sid-at, intent-stands, stand_after-split, stand_after-append}
+use Rattle.leg_table.proofs.RideFacts.{StartFacts, start_from, sid-at, stand_after-append}
 use Rattle.leg_table.proofs.Arrivals.{drop-drop}
 use Rattle.own_hands.specs.OwnHands.{most_stages}
 use Rattle.deep_walks.specs.Moves.{End, Got, left_by, got_after, end_with}
 use Rattle.deep_walks.specs.Choices.{EndsWith}
 use Rattle.deep_walks.specs.Deep.{Deep, Bared, Met, open_at, pushed_at, met_move, met_bottom, tunnel_of, AreJoined}
 use Rattle.deep_walks.specs.Rests.{opened_at, rest_open, open_move}
-use Rattle.deep_walks.proofs.PublicLaws.{map_parts, behind-parts, behind-from, one-each, opens-on, open-joined, tunnel-opens}
+use Rattle.deep_walks.proofs.PublicLaws.{if_parts, map_parts, behind-parts, behind-from, one-each, opens-on, open-joined, tunnel-opens}
 use Rattle.deep_choices.specs.Look.{step_events}
 use Rattle.deep_choices.proofs.PublicLaws.{policy-head, tunnel-starts, steps-joined}
 use Rattle.binding_starts.specs.declared.starts.Start.{Start}
 use Rattle.binding_starts.specs.Starts.{start_after, start_pushed, start_onward, start_behind, binding_start}
 use Rattle.binding_meanings.specs.Kind.{under_policy, onward_by, onward_at, onward_of}
 use Rattle.binding_meanings.proofs.Machine.{network_world, own_got, GoesOnAs, Alone, Below}
-
-if-parts : {A : Type 0} (b : Bool) (o : Option A) (y : A) → (if b then o else None) ≡ Some y → (b ≡ true) × (o ≡ Some y)
-if-parts true o y h = (refl, h)
-if-parts false o y h = cc
 
 none-before : {E N R : Type 0} (o : Option (Got E N R)) → o ≡ option_map (got_after [] []) o
 none-before None = refl
@@ -77,19 +71,6 @@ module _ (net : Network) (keeps : Keeps net) (intent : Intent) (is_intent : IsIn
     pub met_back : (e : MetEnd) → EndsWith step_events (met_move (network_world net)) (steps_at position) deep e
         → EndsWith step_events (met_move (network_world net)) (steps_at st.done) (open_at st.place p) e
     pub opens : (pick : ℕ → ℕ) (taken : ℕ) → Opens position deep st p pick taken
-
-  -- where the walk stands after so many steps, the others go on
-  pub facts-at : (position : ℕ) (place : Place) → position ≤ length intent.steps → node_at net intent position ≡ Some place.node
-      → IsHow net place.node place.how → place.family ≡ families.V6 → StartFacts net intent position place
-  facts-at position place within stands how family =
-      record {
-        within = within;
-        stands = stands;
-        rest = ap is_some (sym (stand_after-split net intent.headend place.node intent.steps position stands))
-            ∙ (intent-stands net intent is_intent).0;
-        how = how;
-        family = family;
-      }
 
   -- right behind a SID, or at the headend
   opens-there : (position : ℕ) (place : Place) (p : Packet) (pick : ℕ → ℕ) (taken : ℕ)
@@ -131,7 +112,7 @@ module _ (net : Network) (keeps : Keeps net) (intent : Intent) (is_intent : IsIn
       record {
         sid = s.0;
         there = s.1;
-        facts = facts-at position (place_behind v s.0) within s.2 (sid-how net v s.0 keeps s.1) refl;
+        facts = start_from net keeps intent is_intent position (place_behind v s.0) within s.2 (sid-how net v s.0 keeps s.1) refl;
       }
 
   pub joined : (position : ℕ) (place : Place) → StartFacts net intent position place → AreJoined (network_world net) (steps_at position)
@@ -171,7 +152,7 @@ module _ (net : Network) (keeps : Keeps net) (intent : Intent) (is_intent : IsIn
           ∙ ap (option_and_then (λ k. stand_after net k (take behind.done (steps_at position)))) facts.stands
           ∙ behind.lands in
           record {
-            started = facts-at start.done e.result (omega (arith, done, within, few, a))
+            started = start_from net keeps intent is_intent start.done e.result (omega (arith, done, within, few, a))
                 (subst (λ (n : ℕ). node_at net intent n ≡ Some e.result.node) done stands) behind.place.1 behind.family;
             after = omega (arith, done);
             left = behind.left ∙ drop-drop position behind.done intent.steps ∙ ap (λ (n : ℕ). drop n intent.steps) done;
@@ -226,18 +207,19 @@ module _ (net : Network) (keeps : Keeps net) (intent : Intent) (is_intent : IsIn
   pub begins : (position : ℕ) (via : Option ℕ) (p : Packet) (st : Start) → binding_start net intent position via ≡ Some st
       → Begins position via p st
   begins position None p st h =
-      let a = if-parts (position == 0) (Some (record { place = headend_place intent; done = 0 })) st h in
+      let a = if_parts (position == 0) (Some (record { place = headend_place intent; done = 0 })) st h in
       let zero : position ≡ 0 = eqb-true position 0 a.0 in
-      let facts : StartFacts net intent 0 (headend_place intent) = facts-at 0 (headend_place intent) (omega arith) refl tt refl in
+      let facts : StartFacts net intent 0 (headend_place intent) = start_from net keeps intent is_intent 0 (headend_place intent)
+      (omega arith) refl tt refl in
       subst (λ (st : Start). Begins position None p st) (same_Some _ _ a.1)
       (subst (λ (n : ℕ). Begins n None p (record { place = headend_place intent; done = 0 })) (sym zero)
       (begins-there 0 None p (headend_place intent) refl facts))
   begins position (Some v) p st h =
-      let a = if-parts (nat_le position (length intent.steps) && is_sid_at net intent position v) _ st h in
+      let a = if_parts (nat_le position (length intent.steps) && is_sid_at net intent position v) _ st h in
       let b = and_parts (nat_le position (length intent.steps)) (is_sid_at net intent position v) a.0 in
       let at = at-sid position v (leb-true position (length intent.steps) b.0) b.1 in
       let c : start_behind net intent position v (Some at.sid) ≡ Some st = ap (start_behind net intent position v) (sym at.there) ∙ a.1 in
-      let d = if-parts (goes_on at.sid) _ st c in
+      let d = if_parts (goes_on at.sid) _ st c in
       by_policy at.sid at.there at.facts (behaviour_policy at.sid.behaviour) refl d.1
     where
       named-start : (s : SidEntry) (there : slice_get net.sids v ≡ Some s) (facts : StartFacts net intent position (place_behind v s))

@@ -19,7 +19,7 @@ use Rattle.intent_reader.specs.Rules.{IsIntent}
 use Rattle.intent_reader.specs.declared.intent.Step.{Step}
 use Rattle.intent_reader.specs.declared.intent.Intent.{Intent}
 use Rattle.list_places.specs.Places as lists
-use Rattle.list_places.specs.Places.{Tunnel, active, behind_of, next_of, Along}
+use Rattle.list_places.specs.Places.{Tunnel, active, Along}
 use Rattle.list_places.proofs.PublicLaws.{along-hop, along-exposes, along-only}
 use Rattle.list_pack.specs.SidLists.{list_sid, IsSidPrefix}
 use Rattle.list_pack.specs.Value.{IsVia}
@@ -35,7 +35,6 @@ use Rattle.leg_table.proofs.Arrivals.{into-stands}
 use Rattle.leg_table.specs.Leg.{leg_with}
 use Rattle.leg_table.specs.Nests.{PlaceKeeps}
 use Rattle.leg_table.specs.OneLeg.{LegKind, AlwaysHands, HandsOver, BecomesOf, Ended, Moved, prefix_in}
-use Rattle.leg_table.specs.Ride.{Ride}
 use Rattle.leg_table.specs.Ride as rides
 use Rattle.leg_table.specs.Sids.{sid_address, sid_exposes, hands_over}
 use Rattle.leg_table.specs.Trace.{Handed, executed}
@@ -57,7 +56,8 @@ use Rattle.binding_meanings.specs.Kind.{onward_of, hand_on, binding_kind}
 use Rattle.binding_meanings.proofs.Machine.{network_world, GoesOnAs, hand-on, hand-parts, hand-from, onward-goes}
 use Rattle.binding_meanings.proofs.Beginnings.{OwnEnd, Begins, begins}
 use Rattle.binding_meanings.proofs.Executed.{goes-on-from, executed-left}
-use Rattle.binding_meanings.proofs.Ways.{there, Comes, comes-by, WayTo, leg-from, finish-from}
+use Rattle.binding_starts.proofs.Ways.{WayTo, leg-from, finish-from}
+use Rattle.binding_meanings.proofs.Ways.{there, Comes, comes-by}
 use Rattle.binding_meanings.proofs.Leading.{joined-at, behind-is, FirstRide, first-ride}
 use Rattle.binding_meanings.proofs.Starting.{StartsOne, starts-one}
 use Rattle.binding_meanings.proofs.Up.{prefix-is}
@@ -100,7 +100,8 @@ module _ (net : Network) (keeps : Keeps net) (intent : Intent) (is_intent : IsIn
         got = g.0;
         left = [];
         gives = g.1;
-        along = ap (λ (h : Handed). left_by step_events ts h.trace) g.2 ∙ all-left ts a.0.trace (kept-parts (matches ts a.0.trace) hands.0 a.2).0;
+        along = ap (λ (h : Handed). left_by step_events ts h.trace) g.2
+            ∙ all-left ts a.0.trace (kept-parts (matches ts a.0.trace) hands.0 a.2).0;
       } in
       let one = choices-one step_events (own_move (network_world net)) ts d
       ((choices-rows step_events (own_move (network_world net)) ts d).1 rows) in

@@ -26,6 +26,7 @@ use Rattle.deep_walks.specs.Moves.{Done, Got, End, left_by, got_after, got_by, g
 use Rattle.deep_walks.specs.Choices.{EndsWith}
 use Rattle.deep_walks.specs.Deep.{Deep, Bared, Look, Executes, Pushes, Met, Onward, Under, open_at, pushed_at, own_by, own_move, met_by}
 use Rattle.deep_walks.specs.Rests.{rest_of, RestEnds}
+use Rattle.deep_walks.proofs.PublicLaws.{if_parts}
 use Rattle.deep_choices.specs.Look.{at_how, look_bound, look_onward, look_at_sid, look_in, look_by, look_at, step_events}
 use Rattle.deep_choices.specs.Meets.{met_below, met_content}
 use Rattle.binding_meanings.specs.Kind.{under_policy, onward_by, onward_at, onward_of, own_limit}
@@ -45,6 +46,10 @@ pub first-move : (net : Network) (fuel : ℕ) (place : Place) (q : Packet) (pick
 unfolding got_of
 first-move net zero place q pick taken g h = cc
 first-move net (suc m) place q pick taken g h = (m, h)
+
+pub none-left : (us : List Step) → length us ≡ 0 → us ≡ []
+none-left [] h = refl
+none-left (u ∷ us) h = absurd (omega arith)
 
 -- a policy that a SID binds is there
 policy-there : {X : Type 0} (xs : List X) (i : ℕ) → i < length xs → (x : X) × (slice_get xs i ≡ Some x)
@@ -164,10 +169,6 @@ module _ (net : Network) (n : ℕ) where
         few = omega arith;
       }
 
-  if-parts : {A : Type 0} (b : Bool) (o : Option A) (y : A) → (if b then o else None) ≡ Some y → (b ≡ true) × (o ≡ Some y)
-  if-parts true o y h = (refl, h)
-  if-parts false o y h = cc
-
   -- so many steps are left
   pub left-executed : (ts : List Step) (left : ℕ) → left_after net n ts ≡ Some left → (us : List Step) × LeftBy ts us × (length us ≡ left)
   left-executed ts left h = by_title (is_titled net n) refl ts h
@@ -180,7 +181,7 @@ module _ (net : Network) (n : ℕ) where
       by_title true e (Links set ∷ ts) h = cc
       by_title true e (Reach node ∷ ts) h = cc
       by_title true e (Function sid ∷ ts) h =
-          let got = if-parts (sid == n) (Some (length ts)) left h in
+          let got = if_parts (sid == n) (Some (length ts)) left h in
           (ts, left-in e sid ts got.0, same_Some _ _ got.1)
 
   -- and the other way round

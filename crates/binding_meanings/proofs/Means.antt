@@ -1,6 +1,5 @@
 -- The paths of legs through binding SIDs are the legal lists that realize the intent.
-use Rattle.std.proofs.Common.{◌≡◌, ℕ, ◌+◌, ◌<◌, true, List, [], length, map, Option, Some, None, sym, ap, ◌∙◌, zero-add}
-use Rattle.srv6_rules.specs.declared.sid.SidEntry.{SidEntry}
+use Rattle.std.proofs.Common.{◌≡◌, ℕ, ◌+◌, ◌<◌, List, [], length, map, Some, None, sym, ap, ◌∙◌, zero-add}
 use Rattle.srv6_rules.specs.Packet.{Packet, Content}
 use Rattle.net_model.specs.Network.{Network}
 use Rattle.net_model.specs.Keeps.{Keeps}
@@ -15,19 +14,19 @@ use Rattle.list_pack.specs.declared.types.Cost.{Cost}
 use Rattle.list_pack.specs.Costs.{Move, cost_of, start}
 use Rattle.list_pack.specs.Least.{step_of}
 use Rattle.list_pack.specs.PathLists.{list_of}
-use Rattle.list_pack.specs.SidLists.{list_values}
+use Rattle.list_pack.specs.SidLists.{list_values, prefixes_in}
 use Rattle.list_pack.specs.Meaning.{AreSidsOf, Means}
 use Rattle.list_pack.specs.Value.{KeepsLaws}
 use Rattle.leg_table.proofs.Options.{kept-from, kept-parts}
 use Rattle.leg_table.specs.Meant.{HandsInner, IsRealizing, IsExecuting, IsHanding}
 use Rattle.leg_table.specs.OneLeg.{LegKind, LegLaws, KindLaws, HandsOver}
 use Rattle.leg_table.specs.Realizes.{IsInner}
-use Rattle.leg_table.specs.Table.{shape_by, node_by}
 use Rattle.leg_table.specs.Tasks.{matches}
 use Rattle.leg_table.specs.Trace.{Handed}
 use Rattle.leg_table.specs.Value.{AnyWay}
 use Rattle.leg_table.proofs.FlatNets.{FlatFacts, flat-facts}
 use Rattle.leg_table.proofs.ListShapes.{suits-by, there}
+use Rattle.leg_table.proofs.Shapes.{sid-shape}
 use Rattle.leg_table.proofs.Stays.{stays-follow}
 use Rattle.leg_table.proofs.Meanings as means
 use Rattle.own_hands.specs.Small.{IsSmall, KeepsTo}
@@ -59,16 +58,12 @@ module _ (net : Network) (intent : Intent) (network : IsNetwork net) (flat : IsF
 
   sids-of : AreSidsOf (binding_legs_value net intent) net
   sids-of n is =
-      let s = there net keeps intent n is in (
+      let s = there net keeps intent n is in
+      let is_shape = sid-shape net n s.0 s.1 in (
         s.0,
         s.1,
-        record {
-          prefix = ap (λ (o : Option SidEntry). (shape_by net.blocks o).prefix) s.1;
-          block = ap (λ (o : Option SidEntry). (shape_by net.blocks o).block) s.1;
-          lbl = ap (λ (o : Option SidEntry). (shape_by net.blocks o).lbl) s.1;
-          csid = ap (λ (o : Option SidEntry). (shape_by net.blocks o).csid) s.1;
-        },
-        sym (ap node_by s.1),
+        record { prefix = is_shape.0.prefix; block = is_shape.0.block; lbl = is_shape.0.lbl; csid = is_shape.0.csid },
+        is_shape.1,
       )
 
   -- the laws of one leg and one finish
@@ -176,29 +171,9 @@ module _ (net : Network) (intent : Intent) (network : IsNetwork net) (flat : IsF
   pub binding-means : KeepsLaws (binding_legs_value net intent)
       → Means (binding_legs_value net intent) net (OwnListRealizes net intent) (OwnListExecutes net intent) (OwnListHands net intent)
   binding-means laws =
-      let kind = means.kind-means k AnyWay (binding-kind_laws laws) in
-      record {
-        sids = kind.sids;
-        suits = kind.suits;
-        lists = λ moves c cost.
-            let is = kind.lists moves c cost in
-            record {
-              of_path = is.of_path;
-              legal = is.legal;
-              realizes = realizes-of _ _ is.realizes;
-              executes = executes-of _ _ is.executes;
-            };
-        paths = λ list need legal real.
-            let path = kind.paths list need legal (to-realizes list need real) in
-            record {
-              moves = path.moves;
-              hops = path.hops;
-              cost = path.cost;
-              within = path.within;
-              whole = λ executes. path.whole (to-executes _ _ executes);
-            };
-        handing = λ list hop legal hands. kind.handing list hop legal (to-handing list hop hands);
-      }
+      means.means-as k AnyWay (binding-kind_laws laws) (OwnListRealizes net intent) (OwnListExecutes net intent) (OwnListHands net intent)
+      (λ list need legal real executes. realizes-of list need real) executes-of
+      (λ list need legal real. (to-realizes list need real, to-executes list (length (prefixes_in list)))) to-handing
 
   -- what is small on such a path keeps to the intent
   pub path-keeps : KeepsLaws (binding_legs_value net intent) → (moves : List Move) (c : Cost)

@@ -14,11 +14,11 @@ use Rattle.walk_rules.specs.Treatment.{allow_of}
 use Rattle.intent_reader.specs.Rules.{IsIntent}
 use Rattle.intent_reader.specs.declared.intent.Intent.{Intent}
 use Rattle.list_places.specs.Places as lists
-use Rattle.list_places.specs.Places.{Tunnel, active, next_of, form, stays_routed, Along}
+use Rattle.list_places.specs.Places.{Tunnel, next_of, form, stays_routed, Along}
 use Rattle.list_places.proofs.PublicLaws.{along-onward, along-tired, along-next, along-exposed}
 use Rattle.list_pack.specs.declared.types.Leg.{Leg}
 use Rattle.leg_table.proofs.FlatNets.{FlatFacts}
-use Rattle.leg_table.proofs.Handing.{Free}
+use Rattle.leg_table.proofs.Handing.{Free, above-free}
 use Rattle.leg_table.specs.OneLeg.{LegKind, OnWay, GoesOver, HandsOver}
 use Rattle.leg_table.specs.Ride.{Ride}
 use Rattle.leg_table.specs.Trace.{Handed, executed}
@@ -35,7 +35,9 @@ use Rattle.binding_meanings.proofs.Machine.{network_world, own_got, hand-parts, 
 use Rattle.binding_meanings.proofs.Beginnings.{Begins, begins}
 use Rattle.binding_meanings.proofs.Executed.{goes-on-from, look-into, first-move}
 use Rattle.binding_meanings.proofs.Ridden.{OwnGot, ridden}
-use Rattle.binding_meanings.proofs.Ways.{there, Comes, comes-to, leg-parts, finish-parts, leads-on-sid, last-sid}
+use Rattle.leg_table.proofs.PublicLaws.{last-sid}
+use Rattle.binding_starts.proofs.Ways.{leg-parts, finish-parts, leads-on-sid}
+use Rattle.binding_meanings.proofs.Ways.{there, Comes, comes-to}
 use Rattle.binding_meanings.proofs.Up.{active-is}
 
 module _ (net : Network) (keeps : Keeps net) (facts : FlatFacts net) (intent : Intent) (is_intent : IsIntent net intent) (t : Tunnel) where
@@ -182,10 +184,6 @@ module _ (net : Network) (keeps : Keeps net) (facts : FlatFacts net) (intent : I
           (λ fuel pick chosen. refl) pick h w)
 
   -- ---- over a finish
-
-  above-free : (lowered hop : ℕ) → Free lowered hop → 0 < hop → lowered < hop
-  above-free lowered hop (inl none) positive = omega arith
-  above-free lowered hop (inr low) positive = low
 
   pub finish-over : (x : lists.ListPlace) (position : ℕ) (via : Option ℕ) (next lowered : ℕ) (hop : ℕ) (p : Packet) (pick : ℕ → ℕ)
       (taken : ℕ) (h : Handed)

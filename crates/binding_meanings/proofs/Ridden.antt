@@ -1,5 +1,5 @@
 -- A walk that comes to the own hand-over goes along the ride to the next SID, which lets the packet through.
-use Rattle.std.proofs.Common.{◌≡◌, ℕ, zero, suc, ◌+◌, ◌-◌, ◌%◌, ◌<◌, inl, inr, Bool, true, false, ◌&&◌, nat_le, if◌then◌else◌, List, [], ◌∷◌, Some, refl, sym, ap, ◌∙◌, subst, arith}
+use Rattle.std.proofs.Common.{◌≡◌, ℕ, zero, suc, ◌+◌, ◌-◌, ◌%◌, ◌<◌, inl, Bool, true, false, ◌&&◌, nat_le, if◌then◌else◌, List, [], ◌∷◌, Some, refl, sym, ap, ◌∙◌, subst}
 use Rattle.std.specs.Prelude.{is_some}
 use Rattle.std.proofs.lemmas.Bool.{leb-false}
 use Rattle.std.proofs.lemmas.Option.{same_Some}
@@ -14,9 +14,9 @@ use Rattle.intent_reader.specs.Rules.{stand_after}
 use Rattle.intent_reader.specs.declared.intent.Step.{Step}
 use Rattle.leg_table.specs.Ride.{Ride, one_if, ride_of, with_hop_limit}
 use Rattle.leg_table.specs.Trace.{Event, Crossed}
-use Rattle.leg_table.proofs.Handing.{Free, same_destination}
+use Rattle.leg_table.proofs.Handing.{Free, free-on, same_left, same_destination}
 use Rattle.leg_table.proofs.RideFacts.{IsSent, ride-each}
-use Rattle.leg_table.proofs.Rides.{arrived}
+use Rattle.leg_table.proofs.Rides.{arrived, same_packet}
 use Rattle.deep_walks.specs.Moves.{Got, Fork, link_of, got_after, got_by, got_of}
 use Rattle.deep_walks.specs.Deep.{Bared, Loses, arrives, open_at, own_by}
 use Rattle.deep_walks.proofs.PublicLaws.{map_parts, arrives-parts}
@@ -37,22 +37,6 @@ module _ (net : Network) (keeps : Keeps net) where
     pub gives : own_got net fuel (open_at r.place (with_hop_limit (q.hop_limit - r.lowered) q)) pick chosen ≡ Some rest
     pub sids : rest.sids ≡ g.sids
 
-  hop-same : (q : Packet) → q ≡ with_hop_limit (q.hop_limit - 0) q
-  hop-same q = ap (λ n. with_hop_limit n q) (omega arith)
-
-  hop-lowered : (lower : Bool) (q : Packet) (k : ℕ)
-      → with_hop_limit ((lowered lower q).hop_limit - k) (lowered lower q) ≡ with_hop_limit (q.hop_limit - (one_if lower + k)) q
-  hop-lowered true q k = let e : q.hop_limit - 1 - k ≡ q.hop_limit - (1 + k) = omega arith in ap (λ n. with_hop_limit n q) e
-  hop-lowered false q k = let e : q.hop_limit - k ≡ q.hop_limit - (0 + k) = omega arith in ap (λ n. with_hop_limit n q) e
-
-  -- a lowering more, of a packet whose hop limit allows it
-  free-before : (lower : Bool) (k : ℕ) (q : Packet) → (lower ≡ true → 1 < q.hop_limit) → Free k (lowered lower q).hop_limit
-      → Free (one_if lower + k) q.hop_limit
-  free-before true k q high (inl none) = let h = high refl in inr (omega arith)
-  free-before true k q high (inr low) = let h = high refl in inr (omega arith)
-  free-before false k q high (inl none) = inl (omega arith)
-  free-before false k q high (inr low) = inr (omega arith)
-
   here : (ts : List Step) (place : Place) (n : ℕ) (q : Packet) (fuel : ℕ) (pick : ℕ → ℕ) (taken : ℕ) (g : OwnGot)
       → own_got net fuel (open_at place q) pick taken ≡ Some g
       → Ridden (record { sid = n; place = place; left = ts; lowered = 0 }) q pick g
@@ -62,7 +46,7 @@ module _ (net : Network) (keeps : Keeps net) where
         fuel = fuel;
         chosen = taken;
         rest = g;
-        gives = ap (λ (p : Packet). own_got net fuel (open_at place p) pick taken) (sym (hop-same q)) ∙ h;
+        gives = ap (λ (p : Packet). own_got net fuel (open_at place p) pick taken) (same_packet q) ∙ h;
         sids = refl;
       }
 
@@ -87,11 +71,11 @@ module _ (net : Network) (keeps : Keeps net) where
         let on = rest n (suc taken) a.0
         (subst (λ (at : Place). own_got net n (open_at at (lowered lower q)) pick (suc taken) ≡ Some a.0) same b.2) in
         record {
-          free = free-before lower r.lowered q high on.free;
+          free = free-on lower r.lowered q high on.free;
           fuel = on.fuel;
           chosen = on.chosen;
           rest = on.rest;
-          gives = ap (λ (p : Packet). own_got net on.fuel (open_at r.place p) pick on.chosen) (sym (hop-lowered lower q r.lowered))
+          gives = ap (λ (p : Packet). own_got net on.fuel (open_at r.place p) pick on.chosen) (sym (same_left q lower r.lowered))
               ∙ on.gives;
           sids = on.sids ∙ ap (λ (g : OwnGot). g.sids) a.2;
         }

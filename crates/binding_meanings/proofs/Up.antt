@@ -35,9 +35,11 @@ use Rattle.binding_starts.specs.Value.{binding_leg, binding_finish}
 use Rattle.binding_meanings.specs.Kind.{hand_on, binding_kind}
 use Rattle.binding_meanings.proofs.Machine.{own_got, hand-parts, hand-from, leads-on}
 use Rattle.binding_meanings.proofs.Beginnings.{begins}
-use Rattle.binding_meanings.proofs.Executed.{goes-on-from, left-executed}
+use Rattle.binding_meanings.proofs.Executed.{none-left, goes-on-from, left-executed}
 use Rattle.binding_meanings.proofs.Leading.{behind-is, led}
-use Rattle.binding_meanings.proofs.Ways.{there, comes-to, leg-parts, finish-parts, leads-on-sid, last-sid}
+use Rattle.leg_table.proofs.PublicLaws.{last-sid}
+use Rattle.binding_starts.proofs.Ways.{leg-parts, finish-parts, leads-on-sid}
+use Rattle.binding_meanings.proofs.Ways.{there, comes-to}
 
 module _ (net : Network) (keeps : Keeps net) (facts : FlatFacts net) (intent : Intent) (is_intent : IsIntent net intent) (t : Tunnel) where
   abbrev k : LegKind
@@ -113,10 +115,6 @@ module _ (net : Network) (keeps : Keeps net) (facts : FlatFacts net) (intent : I
       }
 
   -- ---- from a finish
-
-  none-left : (us : List Step) → length us ≡ 0 → us ≡ []
-  none-left [] h = refl
-  none-left (u ∷ us) h = absurd (omega arith)
 
   pub finish-up : (x : lists.ListPlace) (position : ℕ) (via : Option ℕ) (next lowered : ℕ) (hop : ℕ) (p : Packet) (pick : ℕ → ℕ) (taken : ℕ)
       → t.inner ≡ intent.inner → binding_finish net intent position via next ≡ Some lowered → OnWay k t x hop p next

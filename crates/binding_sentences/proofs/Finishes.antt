@@ -37,16 +37,14 @@ use Rattle.binding_meanings.specs.Kind.{onward_of, hand_on}
 use Rattle.binding_sentences.specs.Sentences.{may_go_on, IsHandedAt, IsBindingFinish}
 use Rattle.binding_meanings.proofs.Machine.{network_world, own_got, hand-on, hand-parts, hand-from, onward-goes}
 use Rattle.binding_meanings.proofs.Beginnings.{Begins, begins}
-use Rattle.binding_meanings.proofs.Executed.{left-executed, executed-left}
+use Rattle.binding_meanings.proofs.Executed.{none-left, left-executed, executed-left}
 use Rattle.binding_meanings.proofs.Leading.{joined-at, led, FirstRide, first-ride}
 use Rattle.binding_sentences.proofs.Sentences.{Same}
 use Rattle.binding_sentences.proofs.Tests.{looked, start-tests, tests-via, head-same}
 use Rattle.binding_meanings.proofs.Starting.{starts-one}
-use Rattle.binding_meanings.proofs.Ways.{there, finish-parts, finish-from, last-sid}
-
-none-left : (us : List Step) → length us ≡ 0 → us ≡ []
-none-left [] h = refl
-none-left (u ∷ us) h = absurd (omega arith)
+use Rattle.leg_table.proofs.PublicLaws.{last-sid}
+use Rattle.binding_starts.proofs.Ways.{finish-parts, finish-from}
+use Rattle.binding_meanings.proofs.Ways.{there}
 
 module _ (net : Network) (keeps : Keeps net) (intent : Intent) (is_intent : IsIntent net intent) where
   abbrev OwnEnd : Type 0

@@ -47,7 +47,8 @@ use Rattle.binding_meanings.proofs.Executed.{goes-on-from, left-executed, execut
 use Rattle.binding_meanings.proofs.Leading.{joined-at, ride-ends, ends-with, first-ride}
 use Rattle.binding_sentences.proofs.Tests.{looked, start-tests, tests-via, head-same}
 use Rattle.binding_meanings.proofs.Starting.{starts-one}
-use Rattle.binding_meanings.proofs.Ways.{there, leg-parts, leg-from, leads-on-sid}
+use Rattle.binding_starts.proofs.Ways.{leg-parts, leg-from, leads-on-sid}
+use Rattle.binding_meanings.proofs.Ways.{there}
 
 -- ---- the one walk of what is met for all choices
 

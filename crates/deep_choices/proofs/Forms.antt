@@ -1,17 +1,17 @@
 -- A node does the same with packets that differ in their hop limit alone, but that it drops what cannot be lowered.
-use Rattle.std.proofs.Common.{◌≡◌, ℕ, ◌-◌, ◌<◌, ◌≤◌, Bool, true, false, ◌&&◌, nat_le, if◌then◌else◌, List, [], ◌∷◌, slice_get, Option, Some, None, refl, sym, ap, ◌∙◌, subst, arith}
+use Rattle.std.proofs.Common.{◌≡◌, ℕ, ◌-◌, ◌<◌, Bool, true, false, nat_le, if◌then◌else◌, List, [], ◌∷◌, slice_get, Option, Some, None, refl, sym, ap, ◌∙◌}
 use Rattle.std.specs.Prelude.{◌↔◌}
 use Rattle.intent_reader.specs.declared.intent.Step.{Step}
 use Rattle.srv6_rules.specs.declared.sid.Behaviour.{Behaviour}
 use Rattle.srv6_rules.specs.declared.sid.Reason.TheVariants as reasons
 use Rattle.srv6_rules.specs.declared.sid.SidEntry.{SidEntry}
 use Rattle.srv6_rules.specs.Behaviours.{behaviour_policy}
-use Rattle.srv6_rules.specs.Packet.{Packet, Content}
+use Rattle.srv6_rules.specs.Packet.{Packet}
 use Rattle.srv6_rules.specs.Endpoint.{Endpoint, Onward, Exposed, Delivered, Refused, at_sid}
 use Rattle.net_model.specs.declared.parts.NamedPolicy.{NamedPolicy}
 use Rattle.net_model.specs.Network.{Network}
 use Rattle.walk_rules.specs.declared.place.Place.{Place}
-use Rattle.walk_rules.specs.Treatment.{allow_of, lowered}
+use Rattle.walk_rules.specs.Treatment.{allow_of}
 use Rattle.walk_rules.specs.Way.{Way, Away, Over, Own, Into, way_of}
 use Rattle.leg_table.specs.Ride.{with_hop_limit}
 use Rattle.hop_limits.specs.HopLimits.{Course, GoesOn, IsShown, EndsThere, Takes, IsEnd, at_hop}
@@ -21,7 +21,7 @@ use Rattle.deep_walks.specs.Deep.{AreJoined, Loses}
 use Rattle.deep_walks.specs.Needs.{Forms, look_of}
 use Rattle.deep_walks.proofs.PublicLaws.{need}
 use Rattle.deep_choices.proofs.Handing.{hands, always-from}
-use Rattle.deep_choices.specs.Look.{look_links, look_bound, look_onward, look_at_sid, look_in, look_by, look_at, world}
+use Rattle.deep_choices.specs.Look.{look_bound, look_onward, look_at_sid, look_in, look_by, look_at, world}
 use Rattle.deep_choices.specs.Walks.{AlwaysHandsFrom}
 use Rattle.deep_choices.specs.Kinds.{of_hop_limit, kind_links, kind_bound, kind_onward, kind_at_sid, kind_in, kind_by, kind_at}
 
@@ -108,7 +108,8 @@ module _ (net : Network) (place : Place) where
   way-shows hop form Own = refl
   way-shows hop form (Into n) = in-shows n hop form (slice_get net.sids n)
 
-  pub look-shows : (form : Packet) (hop : ℕ) → look_at net place (with_hop_limit hop form) ≡ look_of of_hop_limit (kind_at net place form) hop
+  pub look-shows : (form : Packet) (hop : ℕ)
+      → look_at net place (with_hop_limit hop form) ≡ look_of of_hop_limit (kind_at net place form) hop
   look-shows form hop = way-shows hop form (way_of net place form.destination)
 
 abbrev pub network-forms : (net : Network) (limit : ℕ) → Forms (world net limit) Packet

@@ -8,7 +8,7 @@ use Rattle.walk_rules.specs.declared.place.Place.{Place}
 use Rattle.walk_rules.specs.Walk.{choice_at}
 use Rattle.intent_reader.specs.declared.intent.Step.{Step}
 use Rattle.leg_table.specs.Trace.{Event, Handed}
-use Rattle.leg_table.specs.Tasks.{meets, matches, is_done}
+use Rattle.leg_table.specs.Tasks.{matches, is_done}
 use Rattle.leg_table.specs.Tasks as tasks
 use Rattle.leg_table.proofs.PublicLaws.{matches-by}
 use Rattle.own_hands.specs.OwnHands.{most_stages}

@@ -25,7 +25,9 @@ use Rattle.deep_choices.specs.Look.{leads, look_links, look_bound, look_onward, 
 module _ (net : Network) (t : Step) where
   -- links that lie in the step lead to one place
   abbrev OnePlace : Type 0
-  OnePlace = (place : Place) (k l : ℕ) → IsTrue (is_in step_events t k) → IsTrue (is_in step_events t l) → leads net place k ≡ leads net place l
+  OnePlace =
+      (place : Place) (k l : ℕ) → IsTrue (is_in step_events t k) → IsTrue (is_in step_events t l)
+      → leads net place k ≡ leads net place l
 
   links-on : OnePlace → (place : Place) (set : List ℕ) (p : Packet) → LooksOn step_events t (look_links net place set p)
   links-on one place [] p = one place
@@ -36,7 +38,8 @@ module _ (net : Network) (t : Step) where
   over-on one place set p true = tt
   over-on one place set p false = links-on one place set p
 
-  bound-on : (place : Place) (n : ℕ) (b : Behaviour) (q : Packet) (o : Option NamedPolicy) → LooksOn step_events t (look_bound net place n b q o)
+  bound-on : (place : Place) (n : ℕ) (b : Behaviour) (q : Packet) (o : Option NamedPolicy)
+      → LooksOn step_events t (look_bound net place n b q o)
   bound-on place n b q None = tt
   bound-on place n b q (Some named) = tt
 

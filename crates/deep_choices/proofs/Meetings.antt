@@ -1,16 +1,15 @@
 -- A packet comes to its first execution along steps, for all choices, exactly where there is a leg.
-use Rattle.std.proofs.Common.{◌≡◌, ℕ, ◌<◌, List, [], ◌∷◌, length, Option, Some, refl, sym, ap, ◌∙◌}
+use Rattle.std.proofs.Common.{◌≡◌, ℕ, List, [], ◌∷◌, Some, refl, sym, ap, ◌∙◌}
 use Rattle.std.specs.Prelude.{◌↔◌}
 use Rattle.srv6_rules.specs.Packet.{Packet, Content}
 use Rattle.net_model.specs.Network.{Network}
 use Rattle.walk_rules.specs.declared.place.Place.{Place}
 use Rattle.walk_rules.specs.Walk.{choice_at}
 use Rattle.intent_reader.specs.declared.intent.Step.{Step}
-use Rattle.leg_table.specs.Trace.{Event}
 use Rattle.own_hands.specs.OwnHands.{most_stages}
 use Rattle.deep_walks.specs.Moves.{End, left_by}
 use Rattle.deep_walks.specs.Choices.{ForAllChoices, Reaches, SameEnd}
-use Rattle.deep_walks.specs.Deep.{AreJoined, Met, deep_at, met_move, open_at, pushed_at}
+use Rattle.deep_walks.specs.Deep.{AreJoined, Met, deep_at, met_move}
 use Rattle.deep_walks.specs.Legs.{LegBehind, ride_of}
 use Rattle.deep_walks.proofs.PublicLaws.{map_parts, map_from, leg-behind, leg-each, ride-all, ride-each}
 use Rattle.deep_choices.specs.Look.{step_events, world}

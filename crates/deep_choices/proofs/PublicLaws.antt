@@ -2,7 +2,7 @@
 pub use Rattle.deep_choices.proofs.Machine.{walks-same, meets-same}
 pub use Rattle.deep_choices.proofs.Joins.{steps-joined}
 pub use Rattle.deep_choices.proofs.Handing.{hands-have, have-hands, hands-each}
-pub use Rattle.deep_choices.proofs.Rides.{machine-rides}
+pub use Rattle.deep_choices.proofs.Rides.{all-same, machine-rides}
 pub use Rattle.deep_choices.proofs.Starts.{policy-head, tunnel-starts}
 pub use Rattle.deep_choices.proofs.Forms.{look-shows, network-forms, hands-need}
 pub use Rattle.deep_choices.proofs.Intents.{own-path, own-sids}

@@ -22,6 +22,7 @@ use Rattle.intent_reader.specs.declared.intent.Step.TheVariants.{Links, Function
 use Rattle.leg_table.specs.Ride.{Ride, one_if, more_lowered, all_in_step, ride_on, ride_over, ride_by, ride_end, with_hop_limit}
 use Rattle.leg_table.specs.Ride as rides
 use Rattle.leg_table.proofs.Links.{far_end-is}
+use Rattle.leg_table.proofs.Rides.{arrived, same_packet}
 use Rattle.deep_walks.specs.Moves.{End, all_in, end_by, end_of}
 use Rattle.deep_walks.specs.Deep.{Deep, Met, Loses, open_at, met_by, met_move}
 use Rattle.deep_walks.specs.Legs.{ride_of}
@@ -35,14 +36,12 @@ lt-shift r h k less = by_test (nat_lt r (h - k)) refl
     by_test true e = let x : r < h - k = ltb-true _ _ e in e ∙ sym (lt-ltb (k + r) h (omega (arith, x)))
     by_test false e = let x : h - k ≤ r = ltb-false _ _ e in e ∙ sym (le-ltb (k + r) h (omega (arith, x, less)))
 
-hop-same : (p : Packet) → with_hop_limit (p.hop_limit - 0) p ≡ p
-hop-same p = ap (λ n. with_hop_limit n p) (omega arith)
-
 lowered-is : (lower : Bool) (p : Packet) → lowered lower p ≡ with_hop_limit (p.hop_limit - one_if lower) p
 lowered-is true p = refl
-lowered-is false p = sym (hop-same p)
+lowered-is false p = sym (same_packet p)
 
-all-same : (t : Step) (first : ℕ) (rest : List ℕ) → all_in step_events t (first ∷ rest) ≡ all_in_step t (first ∷ rest)
+-- a step has all links by either definition
+pub all-same : (t : Step) (first : ℕ) (rest : List ℕ) → all_in step_events t (first ∷ rest) ≡ all_in_step t (first ∷ rest)
 all-same (Links set) first rest = refl
 all-same (Function sid) first rest = refl
 all-same (Reach node) first rest = refl
@@ -88,7 +87,7 @@ module _ (net : Network) (limit : ℕ) where
         ≡ met_there net limit p (record { sid = n; place = place; left = ts; lowered = 0 })
     into-same place n p some =
         let there : Packet → Option End1 = λ q. ended_at ts (met_by (world net limit) (look_in net place n (slice_get net.sids n) q)) in
-        sym (in-any place n p (slice_get net.sids n)) ∙ sym (ap there (hop-same p))
+        sym (in-any place n p (slice_get net.sids n)) ∙ sym (ap there (same_packet p))
         ∙ sym (ap (λ b. if b then there (with_hop_limit (p.hop_limit - 0) p) else None) (lt-ltb 0 p.hop_limit some))
 
   -- ---- over links
@@ -123,12 +122,13 @@ module _ (net : Network) (limit : ℕ) where
       ≡ by_ride p (option_map (more_lowered lower) (ride_on (arrival o place) (rides.ride_of net p.destination ts)))
   sent-same ts ih place p lower less None = refl
   sent-same ts ih place p lower less (Some to) =
-      let next : Place = record { node = to; how = Rattle.walk_rules.specs.declared.place.How.TheVariants.Arrived 0; family = place.family } in
+      let next : Place = arrived to place in
       ap (λ q. met_end (suc (length ts)) ts (open_at next q)) (lowered-is lower p)
       ∙ ih next (with_hop_limit (p.hop_limit - one_if lower) p) tt (omega (arith, less))
       ∙ shifted-ride p (one_if lower) less (rides.ride_of net p.destination ts next)
 
-  over-same : (t : Step) (ts : List Step) → Same ts → (place : Place) (p : Packet) (lower : Bool) (first : ℕ) (rest : List ℕ) → 0 < p.hop_limit
+  over-same : (t : Step) (ts : List Step) → Same ts → (place : Place) (p : Packet) (lower : Bool) (first : ℕ) (rest : List ℕ)
+      → 0 < p.hop_limit
       → end_by step_events (met_end (suc (length ts))) (met_by (world net limit) (look_by net place (Over (first ∷ rest) lower) p)) (t ∷ ts)
       ≡ by_ride p (ride_over net place t (first ∷ rest) lower (rides.ride_of net p.destination ts))
   over-same t ts ih place p lower first rest some = by_low (lower && nat_le p.hop_limit 1) refl
@@ -157,14 +157,16 @@ module _ (net : Network) (limit : ℕ) where
           ∙ sent-same ts ih place p lower (less lower e) (end_of_link (slice_get net.links first)))
         where
           on : (near : Option End1) (far : Option Ride) → near ≡ by_ride p far
-              → (if all_in step_events t (first ∷ rest) then near else None) ≡ by_ride p (if all_in_step t (first ∷ rest) then far else None)
+              → (if all_in step_events t (first ∷ rest) then near else None) ≡ by_ride p
+              (if all_in_step t (first ∷ rest) then far else None)
           on near far same = ap (λ d. if d then near else None) (all-same t first rest) ∙ on_test (all_in_step t (first ∷ rest))
             where
               on_test : (c : Bool) → (if c then near else None) ≡ by_ride p (if c then far else None)
               on_test true = same
               on_test false = refl
 
-  ways-same : (t : Step) (ts : List Step) → Same ts → (place : Place) (p : Packet) (way : Way) → IsWayFrom net place.node way → 0 < p.hop_limit
+  ways-same : (t : Step) (ts : List Step) → Same ts → (place : Place) (p : Packet) (way : Way) → IsWayFrom net place.node way
+      → 0 < p.hop_limit
       → end_by step_events (met_end (suc (length ts))) (met_by (world net limit) (look_by net place way p)) (t ∷ ts)
       ≡ by_ride p (ride_by net place (t ∷ ts) t (rides.ride_of net p.destination ts) way)
   ways-same t ts ih place p (Away reason) from some = refl
@@ -183,7 +185,8 @@ module _ (net : Network) (limit : ℕ) where
   end-way place p (Over set lower) some = by_low (lower && nat_le p.hop_limit 1) set
     where
       by_low : (c : Bool) (set : List ℕ)
-          → end_by step_events (met_end 0) (met_by (world net limit) (if c then Loses else look_links net place set (lowered lower p))) [] ≡ None
+          → end_by step_events (met_end 0) (met_by (world net limit) (if c then Loses else look_links net place set (lowered lower p)))
+          [] ≡ None
       by_low true set = refl
       by_low false [] = refl
       by_low false (link ∷ links) = refl

@@ -203,8 +203,10 @@ module _ (net : Network) where
             → StartsBehind net ts place.node e
         by_bound None h = cc
         by_bound (Some named) h =
-            go-start k ih n (at_how place (onward_from n s.behaviour)) (outer_by named.policy (behaviour_reduces s.behaviour) families.V6 [])
-            (filled p o [] ∷ above) ts e (policy-head named.policy (behaviour_reduces s.behaviour)) (filled-head p o front, all) goes stands h
+            go-start k ih n (at_how place (onward_from n s.behaviour))
+            (outer_by named.policy (behaviour_reduces s.behaviour) families.V6 [])
+            (filled p o [] ∷ above) ts e (policy-head named.policy (behaviour_reduces s.behaviour))
+            (filled-head p o front, all) goes stands h
 
         by_policy : (policy : Option ℕ)
             → end_by step_events (inside_end k)

@@ -124,11 +124,13 @@ module _ (net : Network) (V R : Type 0) (w : Watch net V R) (pick : ℕ → ℕ)
   behind events (Some g) = ap Some (w.seen events g)
 
   -- a packet that is sent
-  sent-on : (more : ℕ) → Same more → (link : ℕ) (p : Packet) (below : List Packet) (n used taken : ℕ) → Counts below n used → (o : Option Place)
+  sent-on : (more : ℕ) → Same more → (link : ℕ) (p : Packet) (below : List Packet) (n used taken : ℕ) → Counts below n used
+      → (o : Option Place)
       → option_map (w.after (Crossed link ∷ [])) (net_first n more o (V6 p) below (taken + 1))
       ≡ option_map w.view (option_map (got_after (Crossed link ∷ []) [])
       (option_and_then (λ next. machine_got more next (suc taken)) (option_map (deep_at p below used) o)))
-  sent-on more ih link p below n used taken counts None = ap (option_map (w.after (Crossed link ∷ []))) (nowhere n more (V6 p) below (taken + 1))
+  sent-on more ih link p below n used taken counts None =
+      ap (option_map (w.after (Crossed link ∷ []))) (nowhere n more (V6 p) below (taken + 1))
   sent-on more ih link p below n used taken counts (Some place) =
       let t : taken + 1 ≡ suc taken = omega arith in
       ap (option_map (w.after (Crossed link ∷ []))) (ih place p below n used (taken + 1) (suc taken) counts t)
@@ -241,7 +243,8 @@ module _ (net : Network) (V R : Type 0) (w : Watch net V R) (pick : ℕ → ℕ)
   module _ (more : ℕ) (ih : Same more) (place : Place) (b : Packet) (bs : List Packet) (n used taken : ℕ) (counts : suc used ≡ suc n) where
     abbrev under_got : Look ℕ ℕ Place Packet Content → Option V
     under_got look =
-        option_map w.view (got_by step_events (got_of step_events watched more) (under_by (world net most_stages) b bs used look) pick taken)
+        option_map w.view (got_by step_events (got_of step_events watched more)
+        (under_by (world net most_stages) b bs used look) pick taken)
 
     under-dropped : (reason : Reason) (detail : ℕ) (p : Packet)
         → after_gave n more place (b ∷ bs) taken (over (b ∷ bs) (dropped net place.node reason detail (V6 p))) ≡ None
@@ -285,7 +288,8 @@ module _ (net : Network) (V R : Type 0) (w : Watch net V R) (pick : ℕ → ℕ)
     under-address p (Refused reason at) = under-dropped reason at p
 
     under-bound : (sid : ℕ) (y : Behaviour) (p q : Packet) (o : Option NamedPolicy)
-        → after_gave n more place (b ∷ bs) taken (deep_bound net place.node sid y p q (b ∷ bs) o) ≡ under_got (look_bound net place sid y q o)
+        → after_gave n more place (b ∷ bs) taken (deep_bound net place.node sid y p q (b ∷ bs) o) ≡ under_got
+        (look_bound net place sid y q o)
     under-bound sid y p q None = under-dropped reasons.NoRoute 0 p
     under-bound sid y p q (Some named) =
         w.executes_under place _ b bs sid _ _ ∙ other-on more ih sid _ _ (q ∷ b ∷ bs) n (suc used) taken counts
@@ -321,7 +325,8 @@ module _ (net : Network) (V R : Type 0) (w : Watch net V R) (pick : ℕ → ℕ)
     under-in sid p (Some s) = under-sid sid s.behaviour p (at_sid s (allow_of (slice_get net.nodes place.node)) p)
 
     under-way : (p : Packet) (way : Way)
-        → after_gave n more place (b ∷ bs) taken (deep_treated net place.node way p (b ∷ bs) (pick taken)) ≡ down_got (look_by net place way p)
+        → after_gave n more place (b ∷ bs) taken (deep_treated net place.node way p (b ∷ bs) (pick taken)) ≡ down_got
+        (look_by net place way p)
     under-way p (Away reason) = under-dropped more ih place b bs n used taken counts reason 0 p
     under-way p (Over set lower) = under-sent more ih place b bs n used taken counts set lower p
     under-way p Own = under-address more ih place b bs n used taken counts p (at_address p)

@@ -9,8 +9,8 @@ use Rattle.own_hands.specs.OwnHands.{most_stages}
 use Rattle.deep_walks.specs.Legs.{HasPath, Path}
 use Rattle.deep_choices.specs.Look.{world}
 
--- the packet that the headend makes round an inner packet has a path of legs along the intent's steps, through these SIDs, and what is inside
--- at its end is the inner packet lowered by one
+-- the packet that the headend makes round an inner packet has a path of legs along the intent's steps, through these SIDs, and what is
+-- inside at its end is the inner packet lowered by one
 pub record HasPathFor (net : Network) (intent : Intent) (segments : List ℕ) (inner : Content) (hop : ℕ) : Type 0 where
   pub path : Path ℕ Place Content
   pub has : HasPath (world net most_stages) intent.steps (headend_place intent) (encapsulated_for intent segments inner hop) path

@@ -11,7 +11,8 @@ use Rattle.deep_walks.specs.Deep.{Deep, Met, met_by}
 use Rattle.deep_choices.specs.Look.{look_in, step_events, world}
 
 -- the end of a move behind which nothing follows
-abbrev pub ended_at : List Step → Move ℕ Event ℕ (Deep Place Packet) (Met Place Packet Content) → Option (End Step ℕ (Met Place Packet Content))
+abbrev pub ended_at : List Step → Move ℕ Event ℕ (Deep Place Packet) (Met Place Packet Content)
+    → Option (End Step ℕ (Met Place Packet Content))
 ended_at left move = end_by step_events (λ us d. None) move left
 
 -- at the end of a ride: where the packet's hop limit is above the lowerings of the ride, what the SID does with it, with the hop limit that

@@ -30,9 +30,9 @@ ghost use Rattle.deep_choices.specs.Rides.{met_there};
 ghost use Rattle.deep_choices.specs.Starts.{IsHead, StartsBehind};
 ghost use Rattle.deep_choices.specs.Walks.{AlwaysHandsFrom, HandsFrom, handed_of};
 
-/// Under any choices a network's walk hands over what the machine's walk does, after as many stages:
-/// from a place where nothing is below, and from one where packets are, `n + 1` stages behind the
-/// push of the lowest header (RFC 8986 sections 4.13 and 4.14).
+/// Under any choices a network's walk hands over what the machine's walk does, after as many
+/// stages: from a place where nothing is below, and from one where packets are, `n + 1` stages
+/// behind the push of the lowest header (RFC 8986 sections 4.13 and 4.14).
 pub fn a_network_walks_as_its_machine()
     ensures alone { (net : Network) (fuel : ℕ) (place : Place) (p : Packet) →
         (pick : ℕ → ℕ) (n taken : ℕ) →
@@ -54,10 +54,10 @@ pub fn steps_that_follow_lead_to_one_place()
         is_some (stand_after net node ts) ≡ true → AreJoined (world net limit) ts }
 {}
 
-/// A header that is pushed at a place of the network, and walks alone along a beginning of steps that
-/// go on from there, leads to a place of the network where an IPv6 packet goes on: the steps up to it
-/// are done, and those that are left go on from it. Policies push such headers (RFC 8986 sections
-/// 4.13 and 4.14; own rule).
+/// A header that is pushed at a place of the network, and walks alone along a beginning of steps
+/// that go on from there, leads to a place of the network where an IPv6 packet goes on: the steps
+/// up to it are done, and those that are left go on from it. Policies push such headers (RFC 8986
+/// sections 4.13 and 4.14; own rule).
 pub fn a_pushed_header_leads_to_a_start()
     ensures starts { (net : Network) (limit : ℕ) (ts : List Step) (place : Place) (new : Packet) →
         (e : End Step ℕ Place) →
@@ -67,8 +67,8 @@ pub fn a_pushed_header_leads_to_a_start()
     ensures head { (policy : Policy) (reduced : Bool) → IsHead (outer_by policy reduced Family.V6 []) }
 {}
 
-/// The ride of the own packet to its next execution is the ride by look-ups alone, where the hop limit
-/// is above the lowerings of that ride, and what the SID at its end does with the packet then
+/// The ride of the own packet to its next execution is the ride by look-ups alone, where the hop
+/// limit is above the lowerings of that ride, and what the SID at its end does with the packet then
 /// (RFC 8200 section 3; own rule).
 pub fn a_ride_is_by_look_ups()
     ensures { (net : Network) (limit : ℕ) (ts : List Step) (place : Place) (p : Packet) →
@@ -98,9 +98,9 @@ pub fn a_network_hands_over_exactly_along_a_path()
 
 /// Where the links of each step lead to one place, and a packet comes, for all choices, to its own
 /// hand-over along the steps at one hop limit above 0, there is a number, its need, so that packets
-/// that differ from it in their hop limit alone do so at just the hop limits above that number. What
-/// a node does with such packets is the same but that it lowers their hop limit, and drops those that
-/// it cannot lower (RFC 8200 section 3, RFC 8986 section 4.1).
+/// that differ from it in their hop limit alone do so at just the hop limits above that number.
+/// What a node does with such packets is the same but that it lowers their hop limit, and drops
+/// those that it cannot lower (RFC 8200 section 3, RFC 8986 section 4.1).
 pub fn a_packet_of_a_network_has_a_need()
     ensures shows { (net : Network) (place : Place) (form : Packet) (hop : ℕ) →
         look_at net place (with_hop_limit hop form)
@@ -112,10 +112,10 @@ pub fn a_packet_of_a_network_has_a_need()
         (n < other) ↔ AlwaysHandsFrom net ts place (with_hop_limit other form)) }
 {}
 
-/// The packet that a headend makes for an intent round an inner packet comes, for all choices, to its
-/// own hand-over with the intent's steps as its trace, and hands over the inner packet lowered by
-/// one, exactly where it has a path of legs along the intent's steps that does; and then each choice
-/// executes the path's SIDs on it (own rule).
+/// The packet that a headend makes for an intent round an inner packet comes, for all choices, to
+/// its own hand-over with the intent's steps as its trace, and hands over the inner packet lowered
+/// by one, exactly where it has a path of legs along the intent's steps that does; and then each
+/// choice executes the path's SIDs on it (own rule).
 pub fn an_intent_is_realized_exactly_along_paths()
     ensures path { (net : Network) (intent : Intent) (segments : List ℕ) (inner : Content) →
         (hop : ℕ) → IsIntent net intent →
@@ -129,9 +129,9 @@ pub fn an_intent_is_realized_exactly_along_paths()
 
 /// Where the links of each step lead to one place, a packet comes to its first execution, along a
 /// beginning of the steps and for all choices: right below a header exactly where that header walks
-/// alone to a place and the packet rides from there, and with nothing below exactly where there is a
-/// ride. All choices then come to the same SID with the same steps left, and go on from the same place
-/// as the same packet over the same packets (RFC 8986 sections 4.13 and 4.14; own rule).
+/// alone to a place and the packet rides from there, and with nothing below exactly where there is
+/// a ride. All choices then come to the same SID with the same steps left, and go on from the same
+/// place as the same packet over the same packets (RFC 8986 sections 4.13 and 4.14; own rule).
 pub fn a_leg_of_a_network_is_for_all_choices()
     ensures behind { (net : Network) (ts : List Step) (place : Place) (new own : Packet) →
         AreJoined (world net most_stages) ts →

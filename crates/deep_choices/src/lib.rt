@@ -2,8 +2,8 @@
 //!
 //! `specs/Look.antt` says what a node does with the header on top, whatever it carries; with that a
 //! network is a world of `deep_walks`, so what holds there for all choices holds of its walks:
-//! `specs/Walks.antt` has what they hand over along steps. The functions of `laws` do nothing: their
-//! contracts are the laws.
+//! `specs/Walks.antt` has what they hand over along steps. The functions of `laws` do nothing:
+//! their contracts are the laws.
 #![tactic(auto)]
 
 mod laws;

@@ -1,10 +1,9 @@
 -- Walks of pushed headers stage by stage, and the steps that are done.
-use Rattle.std.proofs.Common.{◌≡◌, ℕ, suc, ◌+◌, ◌-◌, ◌<◌, ◌≤◌, Bool, true, false, if◌then◌else◌, List, [], ◌∷◌, length, drop, slice_get, get_or, Option, Some, None, inl, inr, ◌⊎◌, refl, sym, ap, subst, ◌∙◌, arith, add-one}
+use Rattle.std.proofs.Common.{◌≡◌, ℕ, suc, ◌+◌, ◌-◌, ◌<◌, ◌≤◌, Bool, true, if◌then◌else◌, List, [], length, drop, slice_get, get_or, Option, Some, None, inl, inr, ◌⊎◌, refl, sym, ap, subst, ◌∙◌, arith}
 use Rattle.std.specs.Prelude.{Result, Ok, Err, IfOk, IfSome}
-use Rattle.std.specs.Option.{option_map, option_and_then}
-use Rattle.std.proofs.lemmas.List.{length-drop, drop_all}
-use Rattle.std.proofs.lemmas.Option.{slice_get_within, slice_get_cases, get_or_from_slice_get}
-use Rattle.std.proofs.Math.Seq.{drop-cons}
+use Rattle.std.specs.Option.{option_map}
+use Rattle.std.proofs.lemmas.List.{length-drop}
+use Rattle.std.proofs.lemmas.Option.{slice_get_cases}
 use Rattle.srv6_rules.specs.declared.sid.Behaviour.{Behaviour}
 use Rattle.srv6_rules.specs.declared.sid.Family.TheVariants as families
 use Rattle.srv6_rules.specs.declared.sid.SidEntry.{SidEntry}
@@ -17,9 +16,7 @@ use Rattle.walk_rules.specs.declared.place.Place.{Place}
 use Rattle.intent_reader.specs.declared.intent.Intent.{Intent}
 use Rattle.intent_reader.specs.declared.intent.Step.{Step}
 use Rattle.leg_table.specs.Leg.{place_behind}
-use Rattle.leg_table.specs.Tasks.{meets}
-use Rattle.leg_table.specs.Trace.{Executed, executed, is_titled}
-use Rattle.deep_walks.specs.Moves.{End, left_by, end_by, end_of}
+use Rattle.deep_walks.specs.Moves.{End, end_by, end_of}
 use Rattle.deep_walks.specs.Deep.{Inside, inside_at, inside_move, tunnel_of}
 use Rattle.deep_choices.specs.Look.{step_events}
 use Rattle.binding_starts.specs.declared.starts.Start.{Start}
@@ -29,40 +26,6 @@ use Rattle.header_walks.specs.declared.stage.Headers.{Headers}
 use Rattle.header_walks.specs.declared.stage.Stage.{Stage}
 use Rattle.header_walks.specs.declared.stage.Stage.TheVariants as stages
 use Rattle.header_walks.specs.Walks.{StandsThere, Walking, end_at, end_stage, inside_end, inside_of, world_of}
-
--- ---- steps
-
-pub steps-first : (steps : List Step) (i : ℕ) (t : Step) → slice_get steps i ≡ Some t → drop i steps ≡ t ∷ drop (i + 1) steps
-steps-first steps i t there =
-    let within = slice_get_within steps i t there in
-    drop-cons steps i t within ∙ ap (λ (x : Step). x ∷ drop (suc i) steps) (get_or_from_slice_get steps i t t there)
-    ∙ ap (λ (n : ℕ). t ∷ drop n steps) (sym (add-one i))
-
-module _ (net : Network) (n : ℕ) where
-  pub left-untitled : is_titled net n ≡ false → (ts : List Step) → left_by step_events ts (executed net n) ≡ Some ts
-  left-untitled e ts = ap (λ (b : Bool). left_by step_events ts (if b then Executed n ∷ [] else [])) e
-
-  left-titled : is_titled net n ≡ true → (ts : List Step)
-      → left_by step_events ts (executed net n) ≡ left_by step_events ts (Executed n ∷ [])
-  left-titled e ts = ap (λ (b : Bool). left_by step_events ts (if b then Executed n ∷ [] else [])) e
-
-  -- the next step is the function, or another, or there is none
-  pub left-done : (steps : List Step) (i : ℕ) (t : Step) → is_titled net n ≡ true → slice_get steps i ≡ Some t
-      → meets t (Executed n) ≡ true → left_by step_events (drop i steps) (executed net n) ≡ Some (drop (i + 1) steps)
-  left-done steps i t title there meet =
-      left-titled title (drop i steps) ∙ ap (λ ts. left_by step_events ts (Executed n ∷ [])) (steps-first steps i t there)
-      ∙ ap (λ (b : Bool). option_and_then (λ us. left_by step_events us []) (if b then Some (drop (i + 1) steps) else None)) meet
-
-  pub left-other : (steps : List Step) (i : ℕ) (t : Step) → is_titled net n ≡ true → slice_get steps i ≡ Some t
-      → meets t (Executed n) ≡ false → left_by step_events (drop i steps) (executed net n) ≡ None
-  left-other steps i t title there meet =
-      left-titled title (drop i steps) ∙ ap (λ ts. left_by step_events ts (Executed n ∷ [])) (steps-first steps i t there)
-      ∙ ap (λ (b : Bool). option_and_then (λ us. left_by step_events us []) (if b then Some (drop (i + 1) steps) else None)) meet
-
-  pub left-past : (steps : List Step) (i : ℕ) → is_titled net n ≡ true → length steps ≤ i
-      → left_by step_events (drop i steps) (executed net n) ≡ None
-  left-past steps i title past =
-      left-titled title (drop i steps) ∙ ap (λ ts. left_by step_events ts (Executed n ∷ [])) (drop_all i steps past)
 
 -- ---- whole walks
 
@@ -123,7 +86,8 @@ module _ (net : Network) (steps : List Step) (done : ℕ) (headers : Headers) (u
         → IsWalking net steps d next count first from
     walked-on next d count is there more_is =
         let stands : StandsThere net steps (stages.On next d) = subst (StandsThere net steps) is there in
-        let ends : inside_end net (999 - (used + 1)) (drop d steps) (inside_of next) ≡ inside_end net 999 (drop first steps) (inside_of from) =
+        let ends : inside_end net (999 - (used + 1)) (drop d steps) (inside_of next) ≡ inside_end net 999 (drop first steps)
+        (inside_of from) =
         sym (ap (end_stage (inside_end net (999 - (used + 1))) steps) is) ∙ stage-ends in
         record {
           place = stands.0;
@@ -151,9 +115,6 @@ named-there net number within = by_cases (slice_get_cases net.policies number).1
     by_cases (inr none) = let few = none.0 in absurd (omega arith)
 
 module _ (net : Network) (intent : Intent) (position v : ℕ) (s : SidEntry) (there : slice_get net.sids v ≡ Some s) where
-  start-of : Option Start
-  start-of = start_behind net intent position v (slice_get net.sids v)
-
   started : start_behind net intent position v (slice_get net.sids v) ≡ start_behind net intent position v (Some s)
   started = ap (start_behind net intent position v) there
 
@@ -167,7 +128,8 @@ module _ (net : Network) (intent : Intent) (position v : ℕ) (s : SidEntry) (th
     unfolding tunnel_of
     tunnel-end =
         ap (λ (ts : List Step). option_map (start_after (length ts)) (inside_end net 999 (drop position ts) (inside_at top [] place))) same
-        ∙ ap (λ (p : Place). option_map (start_after (length intent.steps)) (inside_end net 999 (drop position intent.steps) (inside_at top [] p))) behind
+        ∙ ap (λ (p : Place). option_map (start_after (length intent.steps))
+        (inside_end net 999 (drop position intent.steps) (inside_at top [] p))) behind
         ∙ ap (λ (h : Packet). option_map (start_after (length intent.steps))
         (inside_end net 999 (drop position intent.steps) (inside_at h [] (place_behind v s)))) is
         ∙ ap (start_pushed net intent position v s) (sym found)

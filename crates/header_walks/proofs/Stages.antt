@@ -18,12 +18,12 @@ use Rattle.walk_rules.specs.Walk.{arrival}
 use Rattle.walk_rules.specs.Way.{Over, Into}
 use Rattle.intent_reader.specs.Rules.{end_of_link, first_end}
 use Rattle.intent_reader.specs.declared.intent.Step.{Step}
-use Rattle.intent_reader.specs.declared.intent.Step.TheVariants.{Links, Function, Reach}
 use Rattle.leg_table.specs.Ride.{all_in_step}
 use Rattle.leg_table.specs.Trace.{executed}
 use Rattle.leg_table.proofs.Links.{far_end-is}
-use Rattle.deep_walks.specs.Moves.{Go, Done, End, all_in, left_by, end_after, end_with, end_over, end_by}
-use Rattle.deep_walks.specs.Deep.{Inside, Look, inside_at, inside_by, inside_off, arrives}
+use Rattle.deep_walks.specs.Moves.{Go, Done, End, left_by, end_after, end_with, end_over, end_by}
+use Rattle.deep_walks.specs.Deep.{Inside, inside_at, inside_by, inside_off, arrives}
+use Rattle.deep_choices.proofs.PublicLaws.{all-same}
 use Rattle.deep_choices.specs.Look.{at_how, leads, look_links, look_bound, look_onward, look_at_sid, look_in, step_events}
 use Rattle.header_walks.specs.declared.stage.Headers.{Headers}
 use Rattle.header_walks.specs.declared.stage.Stage.{Stage}
@@ -35,11 +35,6 @@ end-none : (o : Option (End Step ℕ Place)) → option_map (end_after []) o ≡
 end-none None = refl
 end-none (Some e) = refl
 
-all-same : (t : Step) (first : ℕ) (rest : List ℕ) → all_in step_events t (first ∷ rest) ≡ all_in_step t (first ∷ rest)
-all-same (Links set) first rest = refl
-all-same (Function sid) first rest = refl
-all-same (Reach node) first rest = refl
-
 module _ (net : Network) (go : Walking) where
   -- ---- over links
 
@@ -48,7 +43,8 @@ module _ (net : Network) (go : Walking) where
       ≡ option_and_then (λ p. go (drop 1 ts) (inside_at q above p)) (place_over net place (first ∷ rest) ts)
   links-end place above q first rest [] = refl
   links-end place above q first rest (t ∷ ts) =
-      ap (λ (b : Bool). if b then option_and_then (go ts) (arrives (leads net place) (inside_at q above) first) else None) (all-same t first rest)
+      ap (λ (b : Bool). if b then option_and_then (go ts) (arrives (leads net place) (inside_at q above) first) else None)
+      (all-same t first rest)
       ∙ by_test (all_in_step t (first ∷ rest))
     where
       by_end : (o : Option ℕ)
@@ -68,7 +64,8 @@ module _ (net : Network) (go : Walking) where
   over-end : (h : Headers) (set : List ℕ) (lower : Bool) (ts : List Step) → 0 < length set
       → end_by step_events go (way_move net h (Over set lower)) ts
       ≡ (if lower && nat_le h.top.hop_limit 1 then None
-      else option_and_then (λ p. go (drop 1 ts) (inside_at (lowered lower h.top) (reverse h.below.items) p)) (place_over net h.place set ts))
+      else option_and_then (λ p. go (drop 1 ts) (inside_at (lowered lower h.top) (reverse h.below.items) p))
+      (place_over net h.place set ts))
   over-end h [] lower ts some = absurd (omega arith)
   over-end h (first ∷ rest) lower ts some = by_low (lower && nat_le h.top.hop_limit 1)
     where
@@ -81,24 +78,6 @@ module _ (net : Network) (go : Walking) where
       by_low true = refl
       by_low false = links-end h.place (reverse h.below.items) (lowered lower h.top) first rest ts
 
-  pub over-low : (h : Headers) (set : List ℕ) (lower : Bool) (ts : List Step) → 0 < length set
-      → (lower && nat_le h.top.hop_limit 1) ≡ true → end_by step_events go (way_move net h (Over set lower)) ts ≡ None
-  over-low h set lower ts some low =
-      over-end h set lower ts some
-      ∙ ap (λ (b : Bool). if b then None
-      else option_and_then (λ p. go (drop 1 ts) (inside_at (lowered lower h.top) (reverse h.below.items) p)) (place_over net h.place set ts)) low
-
-  pub over-none : (h : Headers) (set : List ℕ) (lower : Bool) (ts : List Step) → 0 < length set → place_over net h.place set ts ≡ None
-      → end_by step_events go (way_move net h (Over set lower)) ts ≡ None
-  over-none h set lower ts some none = over-end h set lower ts some ∙ by_low (lower && nat_le h.top.hop_limit 1)
-    where
-      on : Place → Option (End Step ℕ Place)
-      on p = go (drop 1 ts) (inside_at (lowered lower h.top) (reverse h.below.items) p)
-
-      by_low : (b : Bool) → (if b then None else option_and_then on (place_over net h.place set ts)) ≡ None
-      by_low true = refl
-      by_low false = ap (option_and_then on) none
-
   pub over-some : (h : Headers) (set : List ℕ) (lower : Bool) (ts : List Step) (place : Place) → 0 < length set
       → (lower && nat_le h.top.hop_limit 1) ≡ false → place_over net h.place set ts ≡ Some place
       → end_by step_events go (way_move net h (Over set lower)) ts
@@ -106,7 +85,8 @@ module _ (net : Network) (go : Walking) where
   over-some h set lower ts place some high found =
       over-end h set lower ts some
       ∙ ap (λ (b : Bool). if b then None
-      else option_and_then (λ p. go (drop 1 ts) (inside_at (lowered lower h.top) (reverse h.below.items) p)) (place_over net h.place set ts)) high
+      else option_and_then (λ p. go (drop 1 ts) (inside_at (lowered lower h.top) (reverse h.below.items) p))
+      (place_over net h.place set ts)) high
       ∙ ap (option_and_then (λ p. go (drop 1 ts) (inside_at (lowered lower h.top) (reverse h.below.items) p))) found
 
   -- ---- into a SID
@@ -170,7 +150,8 @@ module _ (net : Network) (go : Walking) where
         ≡ end_by step_events go (inside_by (world_of net) above (look_at_sid net h.place n s.behaviour e)) ts
     into-is e came =
         ap (λ o. end_by step_events go (inside_by (world_of net) above (look_in net h.place n o h.top)) ts) there
-        ∙ ap (λ (a : List ℕ). end_by step_events go (inside_by (world_of net) above (look_at_sid net h.place n s.behaviour (at_sid s a h.top))) ts) (sym is)
+        ∙ ap (λ (a : List ℕ). end_by step_events go
+        (inside_by (world_of net) above (look_at_sid net h.place n s.behaviour (at_sid s a h.top))) ts) (sym is)
         ∙ ap (λ x. end_by step_events go (inside_by (world_of net) above (look_at_sid net h.place n s.behaviour x)) ts) came
 
     pub into-onward : (q : Packet) (next : Headers) (us : List Step) → at_sid s allow h.top ≡ Onward q

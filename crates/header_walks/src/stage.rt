@@ -57,8 +57,8 @@ pub(crate) enum Stage {
     Lost,
 }
 
-/// How many steps are done after the execution of a SID, which is the function of the next step where
-/// the SID has a title.
+/// How many steps are done after the execution of a SID, which is the function of the next step
+/// where the SID has a title.
 fn done_after(net: &Net, sid: u32, steps: &[Step], done: u32) -> Option<u32>
     requires is_there { sid < length net.now.sids }
     requires few { length steps.now ≤ 48 }
@@ -153,8 +153,8 @@ fn taken_off(place: Place, mut below: Vec<Head>, done: u32) -> Stage
     }
 }
 
-/// Behind a SID from which the header on top goes on: the header of the policy that the SID binds is
-/// put in front, if it binds one (RFC 8986 sections 4.13 and 4.14).
+/// Behind a SID from which the header on top goes on: the header of the policy that the SID binds
+/// is put in front, if it binds one (RFC 8986 sections 4.13 and 4.14).
 fn behind_sid(
     alloc: Global,
     net: &Net,
@@ -241,8 +241,8 @@ fn into_sid(
 }
 
 /// One stage of headers along steps of which so many are done: over links that all lie in the next
-/// step, or into a SID, whose function the next step is where it has a title (RFC 8200 section 3, RFC
-/// 8986 section 4).
+/// step, or into a SID, whose function the next step is where it has a title (RFC 8200 section 3,
+/// RFC 8986 section 4).
 pub(crate) fn take_stage(
     alloc: Global,
     net: &Net,

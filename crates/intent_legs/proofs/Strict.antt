@@ -1,7 +1,5 @@
 -- Where no step is to reach a node and no SID binds a policy, legs, lists, answers and verdicts are those of strict steps.
-use Rattle.std.proofs.Common.{◌≡◌, ◌↔◌, length, slice_get, Option, None, Some, Result, refl, sym, ◌∙◌, subst}
-use Rattle.std.specs.Prelude.{is_some}
-use Rattle.srv6_rules.specs.declared.sid.SidEntry.{SidEntry}
+use Rattle.std.proofs.Common.{◌≡◌, ◌↔◌, length, slice_get, Result, sym, ◌∙◌, subst}
 use Rattle.net_model.specs.Network.{Network}
 use Rattle.intent_reader.specs.declared.intent.Intent.{Intent}
 use Rattle.list_pack.specs.SidLists.{list_values}
@@ -9,12 +7,12 @@ use Rattle.list_pack.specs.Value.{LegsValue}
 use Rattle.list_certificate.specs.declared.types.Verdict.{Verdict}
 use Rattle.leg_table.specs.Nests.{stays_of}
 use Rattle.leg_table.specs.Realizes.{ListExecutes, ListHands, ListRealizes}
-use Rattle.leg_table.specs.Sids.{sid_binds, sids_of}
+use Rattle.leg_table.specs.Sids.{sids_of}
 use Rattle.leg_table.specs.Table.{node_of}
 use Rattle.leg_table.specs.Value.{legs_value}
-use Rattle.deep_stages.specs.Stages.{NothingBinds, policy_at}
+use Rattle.deep_stages.specs.Stages.{NothingBinds}
 use Rattle.own_hands.specs.Realizes.{OwnListExecutes, OwnListRealizes}
-use Rattle.own_hands.proofs.PublicLaws.{executes-either, hands-either, realizes-either}
+use Rattle.own_hands.proofs.PublicLaws.{binds-same, executes-either, hands-either, realizes-either}
 use Rattle.binding_legs.specs.Legs.{OwnListHands, binding_legs_value}
 use Rattle.binding_legs.proofs.PublicLaws.{finish-strict, leg-strict, shape-strict}
 use Rattle.path_compiler.specs.declared.compiled.Compiled.{Compiled}
@@ -32,13 +30,9 @@ use Rattle.intent_legs.proofs.Alike.{AreAlike, answers-alike, none_less-alike, o
 joined : {A B C : Type 0} → A ↔ B → B ↔ C → A ↔ C
 joined one two = (λ a. two.0 (one.0 a), λ c. one.1 (two.1 c))
 
-binds-by : (o : Option SidEntry) → sid_binds o ≡ is_some (policy_at o)
-binds-by None = refl
-binds-by (Some s) = refl
-
 module _ (net : Network) (intent : Intent) (none : BindsNothing net) where
   nothing : NothingBinds net
-  nothing n = sym (binds-by (slice_get net.sids n)) ∙ none n
+  nothing n = sym (binds-same (slice_get net.sids n)) ∙ none n
 
   -- the functions of the legs have the same values
   own-legs : binding_legs_value net intent ≡ legs_value net intent

@@ -2,14 +2,10 @@
 use Rattle.std.proofs.Common.{◌≡◌, refl, sym, ap, subst, ◌∙◌}
 use Rattle.leg_table.specs.Table.{LegTable}
 use Rattle.leg_table.specs.Value.{legs_value}
-use Rattle.binding_legs.specs.Legs.{binding_legs_value}
-use Rattle.loose_laws.specs.Value.{loose_legs_value}
-use Rattle.loose_legs.specs.Steps.{trace_steps}
 use Rattle.intent_legs.specs.declared.legs.Kind.{Kind}
 use Rattle.intent_legs.specs.declared.legs.Kind.TheVariants as kinds
 use Rattle.intent_legs.specs.Kinds.{SuitsKind, table_of}
 use Rattle.intent_legs.specs.Legs.{intent_legs_value}
-use Rattle.intent_legs.proofs.Reaches.{legs-loose, legs-own}
 use Rattle.intent_legs.proofs.Strict.{legs-strict}
 
 -- what is seen of a table is seen of one that is the same
@@ -23,9 +19,3 @@ module _ (kind : Kind) (t is : LegTable) (view : table_of kind ≡ is) (suits : 
   seen-strict e =
       let s = subst SuitsKind e suits in
       sym (legs-strict t.net t.intent s.1 s.0) ∙ same-table kind view (kinds.Strict t) refl e
-
-  pub seen-binding : kind ≡ kinds.Binding t → binding_legs_value t.net t.intent ≡ intent_legs_value is.net is.intent
-  seen-binding e = sym (legs-own t.net t.intent (subst SuitsKind e suits)) ∙ same-table kind view (kinds.Binding t) refl e
-
-  pub seen-loose : kind ≡ kinds.Loose t → loose_legs_value t.net t.intent (trace_steps t.intent) ≡ intent_legs_value is.net is.intent
-  seen-loose e = sym (legs-loose t.net t.intent (subst SuitsKind e suits)) ∙ same-table kind view (kinds.Loose t) refl e

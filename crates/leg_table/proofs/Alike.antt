@@ -37,7 +37,7 @@ module _ (net : Network) (facts : FlatFacts net) (n : ℕ) (s : SidEntry) (there
   how-alike node (Submitted table) = table-alike node table false
   how-alike node (Through sid lower) = refl
 
-  way-alike : (place : Place) → place.family ≡ families.V6 → way_of net place a ≡ way_of net place b
+  pub way-alike : (place : Place) → place.family ≡ families.V6 → way_of net place a ≡ way_of net place b
   unfolding way_of
   way-alike place v6 =
       subst (λ (f : Family). way_by net place.node place.how f a ≡ way_by net place.node place.how f b) (sym v6)

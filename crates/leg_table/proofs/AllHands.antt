@@ -20,7 +20,6 @@ use Rattle.leg_table.specs.Tasks.{matches}
 use Rattle.leg_table.specs.Ride.{Ride, with_hop_limit}
 use Rattle.leg_table.specs.Sids.{is_binding}
 use Rattle.leg_table.proofs.AllWays as ways
-use Rattle.leg_table.proofs.AllWays.{yes, hands-every}
 use Rattle.leg_table.proofs.Handing.{walk-same, RideWalk}
 use Rattle.leg_table.proofs.LegsOver.{Hands-over, ride-over}
 

@@ -14,7 +14,7 @@ use Rattle.walk_rules.specs.Way.{Into, way_of}
 use Rattle.intent_reader.specs.Rules.{IsIntent}
 use Rattle.intent_reader.specs.declared.intent.Intent.{Intent}
 use Rattle.list_places.specs.Places as lists
-use Rattle.list_places.specs.Places.{Tunnel, active, behind_of, sids_from, next_of, StandsOn, Along}
+use Rattle.list_places.specs.Places.{Tunnel, active, StandsOn, Along}
 use Rattle.list_places.proofs.PublicLaws.{along-hop, along-sent}
 use Rattle.list_pack.specs.SidLists.{list_sid, IsSidPrefix}
 use Rattle.leg_table.proofs.FlatNets.{FlatFacts}
@@ -38,7 +38,8 @@ module _ (net : Network) (network : IsNetwork net) (flat : IsFlat net) (facts : 
   keeps = keeps_from_network net network
 
   -- where a packet that is handed over comes to: the ride to the next SID, and what stands there
-  pub record Comes (position : ℕ) (via : Option ℕ) (x : lists.ListPlace) (q : PrefixValue) (hop : ℕ) (p : Packet) (place : Place) : Type 0 where
+  pub record Comes (position : ℕ) (via : Option ℕ) (x : lists.ListPlace) (q : PrefixValue) (hop : ℕ) (p : Packet) (place : Place)
+      : Type 0 where
     pub ride : Ride
     pub sid : SidEntry
     pub there : slice_get net.sids ride.sid ≡ Some sid

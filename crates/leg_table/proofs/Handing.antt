@@ -14,7 +14,7 @@ use Rattle.walk_rules.specs.Way.{Way, Over, way_of}
 use Rattle.walk_rules.specs.Treatment.{Gave, goes, member_of, lowered, treated, free_step_of as step_of}
 use Rattle.walk_rules.specs.Relation.{IsHow}
 use Rattle.walk_rules.specs.Walk as walks
-use Rattle.walk_rules.specs.Walk.{walk_by, free_walk_of as walk_of, next_place, arrival, decisions}
+use Rattle.walk_rules.specs.Walk.{walk_by, free_walk_of as walk_of, next_place, decisions}
 use Rattle.walk_rules.proofs.PublicLaws.{sent-high}
 use Rattle.intent_reader.specs.Rules.{stand_after}
 use Rattle.intent_reader.specs.declared.intent.Step.{Step}
@@ -184,6 +184,23 @@ module _ (net : Network) where
 abbrev pub Free : ℕ → ℕ → Type 0
 Free lowered hop = (lowered ≡ 0) ⊎ (lowered < hop)
 
+pub free-on : (lower : Bool) (k : ℕ) (p : Packet) → (lower ≡ true → 1 < p.hop_limit) → Free k (lowered lower p).hop_limit
+    → Free (one_if lower + k) p.hop_limit
+free-on true k p high (inl none) = let h = high refl in inr (omega arith)
+free-on true k p high (inr low) = let h = high refl in inr (omega arith)
+free-on false k p high (inl none) = inl (omega arith)
+free-on false k p high (inr low) = inr (omega arith)
+
+pub above-free : (k hop : ℕ) → Free k hop → 0 < hop → k < hop
+above-free k hop (inl none) positive = omega arith
+above-free k hop (inr low) positive = low
+
+-- a packet that was lowered, and is lowered further
+pub same_left : (p : Packet) (lower : Bool) (k : ℕ)
+    → with_hop_limit ((lowered lower p).hop_limit - k) (lowered lower p) ≡ with_hop_limit (p.hop_limit - (one_if lower + k)) p
+same_left p true k = ap (λ (h : ℕ). with_hop_limit h p) (omega arith)
+same_left p false k = ap (λ (h : ℕ). with_hop_limit h p) (omega arith)
+
 -- a walk along a ride: its stages send, its events meet the steps that are ridden, and then it goes on where the ride ends
 pub record RideWalk (net : Network) (ts : List Step) (place : Place) (p : Packet) (r : Ride) : Type 0 where
   pub count : ℕ
@@ -223,11 +240,6 @@ module _ (net : Network) (keeps : Keeps net) where
   sends place p set false k e high choice = ap (λ (w : Way). treated net place.node w p choice) e
   sends place p set true k e high choice =
       ap (λ (w : Way). treated net place.node w p choice) e ∙ sent-high net place.node set p choice (omega arith)
-
-  same_left : (p : Packet) (lower : Bool) (k : ℕ)
-      → with_hop_limit ((lowered lower p).hop_limit - k) (lowered lower p) ≡ with_hop_limit (p.hop_limit - (one_if lower + k)) p
-  same_left p true k = ap (λ (h : ℕ). with_hop_limit h p) (omega arith)
-  same_left p false k = ap (λ (h : ℕ). with_hop_limit h p) (omega arith)
 
   pub same_destination : (p : Packet) (lower : Bool) → (lowered lower p).destination ≡ p.destination
   same_destination p true = refl

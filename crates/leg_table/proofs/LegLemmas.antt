@@ -34,7 +34,7 @@ use Rattle.leg_table.proofs.Witnesses.{some_packet, some_packet-has, last_packet
 use Rattle.leg_table.proofs.NextRides.{NextRide, middle-sid, last-sid, left_after-le, leg-ride, leg-from, finish-ride, finish-from}
 
 -- a SID does not shift the first address of its prefix
-value-alone : (s : SidEntry) → IsPrefix s.prefix → shifts (compression_of s) s.prefix.value ≡ false
+pub value-alone : (s : SidEntry) → IsPrefix s.prefix → shifts (compression_of s) s.prefix.value ≡ false
 unfolding argument_of
 value-alone s is =
     let none : ((s.prefix.value % 2 ^ (128 - s.prefix.len)) == 0) ≡ true = eq-eqb (s.prefix.value % 2 ^ (128 - s.prefix.len)) 0 is.2 in
@@ -43,6 +43,11 @@ value-alone s is =
     never : (b : Bool) → (b && false) ≡ false
     never true = refl
     never false = refl
+
+-- what is so at a place is so at a place that is there
+pub place-from : (o : Option Place) (P : Place → Type 0) → AtPlace o P → (place : Place) × (o ≡ Some place) × P place
+place-from None P h = absurd h
+place-from (Some place) P h = (place, refl, h)
 
 module _ (net : Network) (keeps : Keeps net) (intent : Intent) (is_intent : IsIntent net intent) where
   -- a way for all choices is a ride by look-ups
@@ -69,10 +74,6 @@ module _ (net : Network) (keeps : Keeps net) (intent : Intent) (is_intent : IsIn
   from-place : (via : Option ℕ) (place : Place) (P : Place → Type 0) → place_from net intent via ≡ Some place → P place
       → AtPlace (place_from net intent via) P
   from-place via place P e h = subst (λ o. AtPlace o P) (sym e) h
-
-  place-from : (o : Option Place) (P : Place → Type 0) → AtPlace o P → (place : Place) × (o ≡ Some place) × P place
-  place-from None P h = absurd h
-  place-from (Some place) P h = (place, refl, h)
 
   -- the ends of a ride that is there
   ends-at : (end : List Step → walks.Stage → Bool) (p : Packet) (o : Option Ride) (r : Ride) → o ≡ Some r

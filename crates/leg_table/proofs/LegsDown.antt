@@ -20,7 +20,7 @@ use Rattle.intent_reader.specs.Rules.{IsIntent}
 use Rattle.intent_reader.specs.declared.intent.Step.{Step}
 use Rattle.intent_reader.specs.declared.intent.Intent.{Intent}
 use Rattle.list_places.specs.Places as lists
-use Rattle.list_places.specs.Places.{Tunnel, Along, active, behind_of, sids_from, next_of, StandsOn}
+use Rattle.list_places.specs.Places.{Tunnel, Along, active, next_of}
 use Rattle.list_places.proofs.PublicLaws.{along-exposes, along-only}
 use Rattle.list_pack.specs.SidLists.{list_sid, IsSidPrefix}
 use Rattle.list_pack.specs.Value.{IsVia}
@@ -309,6 +309,7 @@ module _ (net : Network) (network : IsNetwork net) (flat : IsFlat net) (facts : 
   leg-down x q position via hop p within at along nests to named positive hands =
       let start = starts position via within at in
       let place = from position via start in
-      let c = comings.comes net network flat facts intent is_intent tunnel family position via x q hop p place.0 start place.1 along nests to
-      named positive (subst (λ (o : Option Place). HandsFrom o p (drop position intent.steps)) place.1 (of-kept via p position hands)) in
+      let c = comings.comes net network flat facts intent is_intent tunnel family position via x q hop p place.0 start place.1 along
+      nests to named positive (subst (λ (o : Option Place). HandsFrom o p (drop position intent.steps)) place.1
+      (of-kept via p position hands)) in
       becomes position via x q hop p place.0 start place.1 c

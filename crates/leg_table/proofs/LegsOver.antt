@@ -26,7 +26,7 @@ use Rattle.list_places.specs.Places.{Tunnel, active, next_of, StandsOn, Along}
 use Rattle.list_pack.specs.declared.types.Leg.{Leg}
 use Rattle.leg_table.proofs.FlatNets.{FlatFacts}
 use Rattle.leg_table.specs.Trace.{Crossed, executed, Handed, after_events, after_execution, handed_first, handed_over}
-use Rattle.leg_table.specs.Ride.{Ride, one_if, ride_of, with_hop_limit}
+use Rattle.leg_table.specs.Ride.{Ride, ride_of, with_hop_limit}
 use Rattle.leg_table.specs.Sids.{takes_step, hands_over}
 use Rattle.leg_table.specs.Leg.{place_behind, place_from, leg_of, finish_of}
 use Rattle.leg_table.specs.OneLeg.{LegKind, HandsOver, OnWay, GoesOver}
@@ -35,7 +35,7 @@ use Rattle.leg_table.proofs.Options.{map-some, some-same}
 use Rattle.leg_table.proofs.Rides.{arrived}
 use Rattle.leg_table.proofs.NextRides.{leg-ride, finish-ride, middle-sid, last-sid}
 use Rattle.leg_table.proofs.RideFacts.{ride-each}
-use Rattle.leg_table.proofs.Handing.{Free, RideWalk, ride-walk, same_destination, first-stage, handed-more}
+use Rattle.leg_table.proofs.Handing.{Free, free-on, above-free, RideWalk, ride-walk, same_destination, first-stage, handed-more}
 use Rattle.leg_table.proofs.Segments.{behind-again, mid-onward, mid-low, last-exposes}
 use Rattle.leg_table.proofs.LegsUp.{rides-to, to-sid}
 
@@ -103,13 +103,6 @@ module _ (net : Network) where
       (sym (ap (λ (k : Handed). k.sids) same), sym (ap (λ (k : Handed). k.trace) same), sym (ap (λ (k : Handed). k.content) same))
 
 module _ (net : Network) (keeps : Keeps net) where
-  free-on : (lower : Bool) (k : ℕ) (p : Packet) → (lower ≡ true → 1 < p.hop_limit) → Free k (lowered lower p).hop_limit
-      → Free (one_if lower + k) p.hop_limit
-  free-on true k p high (inl none) = let h = high refl in inr (omega arith)
-  free-on true k p high (inr low) = let h = high refl in inr (omega arith)
-  free-on false k p high (inl none) = inl (omega arith)
-  free-on false k p high (inr low) = inr (omega arith)
-
   -- the stage over links: a walk that hands over is sent on
   over-sends : (place : Place) (p : Packet) (set : List ℕ) (lower : Bool) (pick : ℕ → ℕ) (taken : ℕ) (h : Handed)
       → way_of net place p.destination ≡ Over set lower → Hands-over net place (V6 p) pick taken h
@@ -181,13 +174,9 @@ module _ (net : Network) (keeps : Keeps net) (facts : FlatFacts net) (intent : I
   abbrev k : LegKind
   k = strict_kind net intent
 
-  above-free : (k hop : ℕ) → Free k hop → 0 < hop → k < hop
-  above-free k hop (inl none) positive = omega arith
-  above-free k hop (inr low) positive = low
-
   -- a walk that hands over, from the place where the packet goes on
-  pub from-place : (via : Option ℕ) (p : Packet) (pick : ℕ → ℕ) (taken : ℕ) (h : Handed) (place : Place) → place_from net intent via ≡ Some place
-      → HandsOver k via p pick taken h → Hands-over net place (V6 p) pick taken h
+  pub from-place : (via : Option ℕ) (p : Packet) (pick : ℕ → ℕ) (taken : ℕ) (h : Handed) (place : Place)
+      → place_from net intent via ≡ Some place → HandsOver k via p pick taken h → Hands-over net place (V6 p) pick taken h
   from-place via p pick taken h place from over =
       (over.0, sym (ap (λ (o : Option Place). handed_over net (walk_of over.0 net o (V6 p) pick taken)) from) ∙ over.1)
 

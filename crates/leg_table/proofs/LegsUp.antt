@@ -78,7 +78,7 @@ policy-exposes (behaviours.B6 policy) usd kind plain shows =
 policy-exposes (behaviours.B6Red policy) usd kind plain shows =
     absurd (false≢true (sym (ap (λ (u : Bool). u && is_packet_inside kind) (plain refl)) ∙ shows))
 
-last-unbound : (net : Network) (s : SidEntry) (kind : ℕ) → KeepsSid net s → exposes s kind ≡ true → binds s ≡ false
+pub last-unbound : (net : Network) (s : SidEntry) (kind : ℕ) → KeepsSid net s → exposes s kind ≡ true → binds s ≡ false
 last-unbound net s kind keeps shows =
     policy-exposes s.behaviour s.usd kind (λ plain. (keeps.behaviour.flavours plain).usd) shows
 

@@ -17,7 +17,7 @@ use Rattle.net_model.specs.Keeps.{Keeps, IsBlockOf}
 use Rattle.net_model.proofs.PublicLaws.{block_of-is, contains_from_get}
 use Rattle.flat_networks.specs.Nests.{IsOwn}
 use Rattle.list_places.specs.Lists as lists
-use Rattle.list_places.specs.Lists.{ListSid, SidBlock, IsFlatSid, SuitsBlock, IsFlatList, IsFlatContainer, block_len, sids_in}
+use Rattle.list_places.specs.Lists.{ListSid, SidBlock, IsFlatSid, SuitsBlock, block_len, sids_in}
 use Rattle.list_places.specs.Places.{ListPlace, InFull, InPacked, Tunnel, active, behind_of, destination_of, sids_from, entered, next_of, first_of, IsPlace, Along}
 use Rattle.list_places.proofs.PublicLaws.{destination-holds, sids-next, sids-last}
 use Rattle.list_pack.specs.declared.types.Container.{Container}
@@ -142,8 +142,8 @@ packed-long s b flat own kind =
     by len (inl short) = omega (arith, len, short)
     by len (inr long) = omega (arith, len, long)
 
-kind-at : (net : Network) → Keeps net → (x : ListPlace) (p : PrefixValue) → IsPlace x → active x ≡ list_sid net p → IsFlatSid (list_sid net p)
-    → is_multicast (destination_of x) ≡ is_multicast p.value
+kind-at : (net : Network) → Keeps net → (x : ListPlace) (p : PrefixValue) → IsPlace x → active x ≡ list_sid net p
+    → IsFlatSid (list_sid net p) → is_multicast (destination_of x) ≡ is_multicast p.value
 kind-at net keeps (InFull s [] cs) p is same flat =
     ap is_multicast (container-one (block_len s.block) s.prefix ∙ ap (λ (t : ListSid). t.prefix.value) same)
 kind-at net keeps (InFull s (t ∷ ts) cs) p is same flat =

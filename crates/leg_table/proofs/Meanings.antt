@@ -115,7 +115,40 @@ module _ (k : LegKind) (Longest : Option ℕ → Packet → (ℕ → ℕ) → �
         let made = realized path.moves (cost_with (length list) path.hops) path.cost in
         (list_of k.net (map (step_of k.legs) path.moves), path.hops, made.legal, made.realizes, made.of_path.count, path.below)
 
-  -- legs that keep the laws of their kind mean the lists that realize
+  -- legs that keep the laws of their kind mean the lists that realize, as it is said apart from the kind
+  pub means-as : (Realizes Executes Hands : List Container → ℕ → Type 0)
+      → ((list : List Container) (need : ℕ) → IsLegalList k.net list → IsRealizing k list need
+      → IsExecuting k list (length (prefixes_in list)) → Realizes list need)
+      → ((list : List Container) (count : ℕ) → IsExecuting k list count → Executes list count)
+      → ((list : List Container) (need : ℕ) → IsLegalList k.net list → Realizes list need
+      → IsRealizing k list need × (Executes list (length (prefixes_in list)) → IsExecuting k list (length (prefixes_in list))))
+      → ((list : List Container) (hop : ℕ) → Hands list hop → IsHanding k list hop) → Means k.legs k.net Realizes Executes Hands
+  means-as Realizes Executes Hands to_realizes to_executes of_realizes of_hands =
+      record {
+        sids = laws.sids;
+        suits = laws.suits;
+        lists = λ moves c cost.
+            let is = realized moves c cost in
+            record {
+              of_path = is.of_path;
+              legal = is.legal;
+              realizes = to_realizes _ _ is.legal is.realizes is.executes;
+              executes = to_executes _ _ is.executes;
+            };
+        paths = λ list need legal real.
+            let of = of_realizes list need legal real in
+            let path = path-of list legal need of.0 in
+            record {
+              moves = path.moves;
+              hops = path.hops;
+              cost = path.cost;
+              within = path.within;
+              whole = λ executes. path.whole (of.1 executes);
+            };
+        handing = λ list hop legal hands. path-below list legal hop (of_hands list hop hands);
+      }
+
+  -- and so as it is said of the kind
   pub kind-means : Means k.legs k.net (IsRealizing k) (IsExecuting k) (IsHanding k)
   kind-means =
       record {

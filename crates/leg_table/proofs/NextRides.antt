@@ -81,7 +81,7 @@ leg_behind-parts net count next (Some r) leg h =
     let got = map-some (leg_with count r.lowered) (left_behind net next r) leg h in
     (r, refl, got.0, got.1, got.2)
 
-if_none-parts : (lowered left : ℕ) (n : ℕ) → if_none_left lowered left ≡ Some n → (left ≡ 0) × (lowered ≡ n)
+pub if_none-parts : (lowered left : ℕ) (n : ℕ) → if_none_left lowered left ≡ Some n → (left ≡ 0) × (lowered ≡ n)
 if_none-parts lowered zero n h = (refl, some-same lowered n h)
 if_none-parts lowered (suc more) n h = absurd (cc)
 

@@ -53,7 +53,8 @@ pub step-opens : (net : Network) (intent : Intent) (i node : ℕ) (step : Step) 
 step-opens net intent i node step is_intent stands h e =
     let whole : is_some (stand_after net node (drop i intent.steps)) ≡ true
     = ap is_some (sym (stand_after-split net intent.headend node intent.steps i stands)) ∙ (intent-stands net intent is_intent).0 in
-    opens (node_after net node step) (ap (λ ts. is_some (stand_after net node ts)) (sym (drop-cons intent.steps i step h ∙ ap (λ (s : Step). s ∷ drop (suc i) intent.steps) e))
+    opens (node_after net node step) (ap (λ ts. is_some (stand_after net node ts))
+    (sym (drop-cons intent.steps i step h ∙ ap (λ (s : Step). s ∷ drop (suc i) intent.steps) e))
     ∙ whole)
   where
     opens : (o : Option ℕ) → is_some (option_and_then (λ next. stand_after net next (drop (suc i) intent.steps)) o) ≡ true

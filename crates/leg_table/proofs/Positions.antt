@@ -27,52 +27,60 @@ contains-cases {X} x y xs h = by_place h.0 h.1 h.2
     by_place zero h e = inl e
     by_place (suc k) h e = inr (k, omega arith, e)
 
+-- ---- a number put before a list's first or further behind, whatever the order is
+
+pub put-contains : (t : Bool) (n x m : ℕ) (xs put : List ℕ) → (Contains put m → (n ≡ m) ⊎ Contains xs m)
+    → Contains (if t then n ∷ x ∷ xs else x ∷ put) m → (n ≡ m) ⊎ Contains (x ∷ xs) m
+put-contains true n x m xs put later h = contains-cases n m (x ∷ xs) h
+put-contains false n x m xs put later h = by_first (contains-cases x m put h)
+  where
+    by_rest : (n ≡ m) ⊎ Contains xs m → (n ≡ m) ⊎ Contains (x ∷ xs) m
+    by_rest (inl e) = inl e
+    by_rest (inr k) = inr (contains-later x m xs k)
+
+    by_first : (x ≡ m) ⊎ Contains put m → (n ≡ m) ⊎ Contains (x ∷ xs) m
+    by_first (inl e) = inr (subst (λ (y : ℕ). Contains (x ∷ xs) y) e (contains-first x xs))
+    by_first (inr k) = by_rest (later k)
+
+pub put-itself : (t : Bool) (n x : ℕ) (xs put : List ℕ) → Contains put n → Contains (if t then n ∷ x ∷ xs else x ∷ put) n
+put-itself true n x xs put later = contains-first n (x ∷ xs)
+put-itself false n x xs put later = contains-later x n put later
+
+pub put-others : (t : Bool) (n x m : ℕ) (xs put : List ℕ) → (Contains xs m → Contains put m) → Contains (x ∷ xs) m
+    → Contains (if t then n ∷ x ∷ xs else x ∷ put) m
+put-others true n x m xs put later h = contains-later n m (x ∷ xs) h
+put-others false n x m xs put later h = by_first (contains-cases x m xs h)
+  where
+    by_first : (x ≡ m) ⊎ Contains xs m → Contains (x ∷ put) m
+    by_first (inl e) = subst (λ (y : ℕ). Contains (x ∷ put) y) e (contains-first x put)
+    by_first (inr k) = contains-later x m put (later k)
+
+pub put-length : (t : Bool) (n x : ℕ) (xs put : List ℕ) → length put ≡ suc (length xs)
+    → length (if t then n ∷ x ∷ xs else x ∷ put) ≡ suc (suc (length xs))
+put-length true n x xs put e = refl
+put-length false n x xs put e = ap suc e
+
+-- ---- a SID put into its place
+
 pub placed-contains : (net : Network) (n : ℕ) (xs : List ℕ) (m : ℕ) → Contains (placed net n xs) m → (n ≡ m) ⊎ Contains xs m
 placed-contains net n [] m h = contains-cases n m [] h
 placed-contains net n (x ∷ xs) m h =
-    by_test (sid_before (slice_get net.sids n) (slice_get net.sids x)) (λ h. placed-contains net n xs m h) h
-  where
-    by_test : (t : Bool) → (Contains (placed net n xs) m → (n ≡ m) ⊎ Contains xs m)
-        → Contains (if t then n ∷ x ∷ xs else x ∷ placed net n xs) m → (n ≡ m) ⊎ Contains (x ∷ xs) m
-    by_test true later h = contains-cases n m (x ∷ xs) h
-    by_test false later h = by_first (contains-cases x m (placed net n xs) h)
-      where
-        by_rest : (n ≡ m) ⊎ Contains xs m → (n ≡ m) ⊎ Contains (x ∷ xs) m
-        by_rest (inl e) = inl e
-        by_rest (inr k) = inr (contains-later x m xs k)
-
-        by_first : (x ≡ m) ⊎ Contains (placed net n xs) m → (n ≡ m) ⊎ Contains (x ∷ xs) m
-        by_first (inl e) = inr (subst (λ (y : ℕ). Contains (x ∷ xs) y) e (contains-first x xs))
-        by_first (inr k) = by_rest (later k)
+    put-contains (sid_before (slice_get net.sids n) (slice_get net.sids x)) n x m xs (placed net n xs) (λ h. placed-contains net n xs m h) h
 
 pub placed-itself : (net : Network) (n : ℕ) (xs : List ℕ) → Contains (placed net n xs) n
 placed-itself net n [] = contains-first n []
-placed-itself net n (x ∷ xs) = by_test (sid_before (slice_get net.sids n) (slice_get net.sids x)) (placed-itself net n xs)
-  where
-    by_test : (t : Bool) → Contains (placed net n xs) n → Contains (if t then n ∷ x ∷ xs else x ∷ placed net n xs) n
-    by_test true later = contains-first n (x ∷ xs)
-    by_test false later = contains-later x n (placed net n xs) later
+placed-itself net n (x ∷ xs) =
+    put-itself (sid_before (slice_get net.sids n) (slice_get net.sids x)) n x xs (placed net n xs) (placed-itself net n xs)
 
 pub placed-others : (net : Network) (n : ℕ) (xs : List ℕ) (m : ℕ) → Contains xs m → Contains (placed net n xs) m
 placed-others net n [] m h = contains-later n m [] h
-placed-others net n (x ∷ xs) m h = by_test (sid_before (slice_get net.sids n) (slice_get net.sids x)) (λ h. placed-others net n xs m h)
-  where
-    by_test : (t : Bool) → (Contains xs m → Contains (placed net n xs) m) → Contains (if t then n ∷ x ∷ xs else x ∷ placed net n xs) m
-    by_test true later = contains-later n m (x ∷ xs) h
-    by_test false later = by_first (contains-cases x m xs h)
-      where
-        by_first : (x ≡ m) ⊎ Contains xs m → Contains (x ∷ placed net n xs) m
-        by_first (inl e) = subst (λ (y : ℕ). Contains (x ∷ placed net n xs) y) e (contains-first x (placed net n xs))
-        by_first (inr k) = contains-later x m (placed net n xs) (later k)
+placed-others net n (x ∷ xs) m h =
+    put-others (sid_before (slice_get net.sids n) (slice_get net.sids x)) n x m xs (placed net n xs) (λ h. placed-others net n xs m h) h
 
 pub placed-length : (net : Network) (n : ℕ) (xs : List ℕ) → length (placed net n xs) ≡ suc (length xs)
 placed-length net n [] = refl
-placed-length net n (x ∷ xs) = by_test (sid_before (slice_get net.sids n) (slice_get net.sids x)) (placed-length net n xs)
-  where
-    by_test : (t : Bool) → length (placed net n xs) ≡ suc (length xs)
-        → length (if t then n ∷ x ∷ xs else x ∷ placed net n xs) ≡ suc (suc (length xs))
-    by_test true e = refl
-    by_test false e = ap suc e
+placed-length net n (x ∷ xs) =
+    put-length (sid_before (slice_get net.sids n) (slice_get net.sids x)) n x xs (placed net n xs) (placed-length net n xs)
 
 -- a number put into its place keeps the order, where it is before or after each other
 pub placed-order : (net : Network) (n : ℕ) (xs : List ℕ) → in_order net xs ≡ true

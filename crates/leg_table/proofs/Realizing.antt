@@ -74,8 +74,8 @@ module _ (k : LegKind) (Longest : Option ℕ → Packet → (ℕ → ℕ) → �
 
     starts : (inner : Content) (hop : ℕ) → Along (tunnel inner) first-place.0 hop (packet inner hop)
     starts inner hop =
-        starts-first (encapsulation_of k.intent segments) k.intent.inner (bytes_of (content_lowered inner)) hop (list_in k.net list) first-place.0
-        legal.rules (legal-flat k.net list (flat-lists k.net laws.network laws.flat) legal) refl first-place.1
+        starts-first (encapsulation_of k.intent segments) k.intent.inner (bytes_of (content_lowered inner)) hop (list_in k.net list)
+        first-place.0 legal.rules (legal-flat k.net list (flat-lists k.net laws.network laws.flat) legal) refl first-place.1
 
     nests : PlaceKeeps k.net first-place.0
     nests = first-keeps k.net (list_in k.net list) first-place.0 (list-keeps k.net list legal) first-place.1
@@ -94,7 +94,8 @@ module _ (k : LegKind) (Longest : Option ℕ → Packet → (ℕ → ℕ) → �
           row,
           some,
           laws.agree (packet inner hop) (choice_at row) pick got.handed marks
-              (λ d few. sym (ap (choice_at row) (zero-add d)) ∙ row_agrees pick n d (omega arith) ∙ ap pick (zero-add d)) got.over got.steps,
+              (λ d few. sym (ap (choice_at row) (zero-add d)) ∙ row_agrees pick n d (omega arith) ∙ ap pick (zero-add d))
+              got.over got.steps,
         )
 
     module _ (next : ℕ) (more : List ℕ) (need : ℕ) (names : map (prefix_in k) (next ∷ more) ≡ prefixes_in list)
@@ -109,8 +110,8 @@ module _ (k : LegKind) (Longest : Option ℕ → Packet → (ℕ → ℕ) → �
       over : (inner : Content) → IsInner k.intent.inner inner → (hop : ℕ) → need < hop → (choices : List ℕ)
           → HandsInner k segments inner hop own_marks choices
       over inner ok hop above choices =
-          let hand = path-hands k Longest (tunnel inner) (one inner) more next 0 None first-place.0 hop (packet inner hop) need (choice_at choices) 0
-          (starts inner hop) nests (all-named inner) is_path above in
+          let hand = path-hands k Longest (tunnel inner) (one inner) more next 0 None first-place.0 hop (packet inner hop) need
+          (choice_at choices) 0 (starts inner hop) nests (all-named inner) is_path above in
           record {
             handed = hand.handed;
             over = hand.over;
@@ -122,8 +123,8 @@ module _ (k : LegKind) (Longest : Option ℕ → Packet → (ℕ → ℕ) → �
       pub path-executes : (inner : Content) (hop : ℕ) (pick : ℕ → ℕ) (h : Handed) → HandsOver k None (packet inner hop) pick 0 h
           → (h.sids ≡ next ∷ more) × (Longest None (packet inner hop) pick 0 → 0 < hop → need < hop)
       path-executes inner hop pick h hands =
-          path-over k Longest (tunnel inner) (one inner) more next 0 None first-place.0 hop (packet inner hop) need pick 0 h (starts inner hop)
-          nests (all-named inner) is_path hands
+          path-over k Longest (tunnel inner) (one inner) more next 0 None first-place.0 hop (packet inner hop) need pick 0 h
+          (starts inner hop) nests (all-named inner) is_path hands
 
       -- a path of legs and a finish realizes the intent
       pub path-realizes : IsRealizing k list need
@@ -133,7 +134,8 @@ module _ (k : LegKind) (Longest : Option ℕ → Packet → (ℕ → ℕ) → �
             least = λ n reaches.
                 let inner = some_inner k.intent.inner in
                 let longest = (one inner).some_longest None (packet inner (n + 1)) in
-                let hand = by-list inner (n + 1) reaches.0 (reaches.1 inner (some_inner-is k.intent.inner) (n + 1) (omega arith)) longest.0 in
+                let hand = by-list inner (n + 1) reaches.0 (reaches.1 inner (some_inner-is k.intent.inner) (n + 1) (omega arith))
+                longest.0 in
                 let above = (path-executes inner (n + 1) longest.0 _ hand.2).1 longest.1 (omega arith) in
                 omega (arith, above);
           }
@@ -164,6 +166,7 @@ module _ (k : LegKind) (Longest : Option ℕ → Packet → (ℕ → ℕ) → �
         by_prefixes : (ps : List PrefixValue) → prefixes_in list ≡ ps → PathAlong inner hop
         by_prefixes [] e = let first = active-first first-place.0 in absurd (cc (first.1, named, ap (map (list_sid k.net)) e))
         by_prefixes (q ∷ qs) e =
-            subst (λ (ps : List PrefixValue). PathFrom k Longest (tunnel inner) (one inner) 0 None first-place.0 ps hop (packet inner hop)) (sym e)
+            subst (λ (ps : List PrefixValue). PathFrom k Longest (tunnel inner) (one inner) 0 None first-place.0 ps hop (packet inner hop))
+            (sym e)
             (path-down k Longest (tunnel inner) (one inner) laws.legs qs q 0 None first-place.0 hop (packet inner hop) (omega arith) refl
             (named ∙ ap (map (list_sid k.net)) e) (subst (All (IsSidPrefix k.net)) e legal.named) (starts inner hop) nests positive hands)

@@ -97,8 +97,9 @@ pub record RideFacts (net : Network) (destination : ℕ) (ts : List Step) (place
   pub stands : stand_after net place.node (take count ts) ≡ Some r.place.node
   pub family : r.place.family ≡ place.family
 
-pub ride-facts : (net : Network) → Keeps net → (destination : ℕ) (ts : List Step) (place : Place) (r : Ride) → IsHow net place.node place.how
-    → is_some (stand_after net place.node ts) ≡ true → ride_of net destination ts place ≡ Some r → RideFacts net destination ts place r
+pub ride-facts : (net : Network) → Keeps net → (destination : ℕ) (ts : List Step) (place : Place) (r : Ride)
+    → IsHow net place.node place.how → is_some (stand_after net place.node ts) ≡ true → ride_of net destination ts place ≡ Some r
+    → RideFacts net destination ts place r
 ride-facts net keeps destination =
     ride-each net keeps destination (RideFacts net destination)
     (λ ts place n e.

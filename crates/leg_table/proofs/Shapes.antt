@@ -1,8 +1,7 @@
 -- The shapes of SIDs keep the laws of legs: their blocks by number are the blocks that they lie in.
-use Rattle.std.proofs.Common.{◌≡◌, ◌⊎◌, inl, inr, ℕ, ◌+◌, ◌-◌, ◌/◌, ◌≤◌, true, length, Option, Some, None, slice_get, Contains, refl, sym, ◌∙◌, ap, subst, arith, eqb-true}
+use Rattle.std.proofs.Common.{◌≡◌, ◌⊎◌, inl, inr, ℕ, ◌+◌, ◌-◌, ◌/◌, ◌≤◌, true, length, Option, Some, None, slice_get, refl, sym, ◌∙◌, ap, subst, arith, eqb-true}
 use Rattle.std.specs.Prelude.{IsSome, is_some}
 use Rattle.std.proofs.lemmas.Bool.{false≢true}
-use Rattle.std.proofs.lemmas.Option.{slice_get_read, slice_get_within, get_or_from_slice_get}
 use Rattle.v6_addr.specs.Address.{PrefixValue, IsInside, is_inside}
 use Rattle.v6_addr.proofs.PublicLaws.{is_inside_is}
 use Rattle.srv6_rules.specs.declared.sid.Csid.{Csid}
@@ -13,23 +12,32 @@ use Rattle.net_model.specs.declared.parts.BlockKind.TheVariants as kinds
 use Rattle.net_model.specs.Network.{Network}
 use Rattle.net_model.specs.Rules.{block_of, block_len_of}
 use Rattle.net_model.specs.Keeps.{Keeps, IsBlockOf, SuitsBlock}
-use Rattle.net_model.proofs.PublicLaws.{block_of-is, position_item, position-None}
+use Rattle.net_model.proofs.PublicLaws.{block_of-is, contains_from_get, get_from_contains, position_item, position-None}
 use Rattle.list_pack.specs.declared.types.Shape.{Shape}
+use Rattle.list_pack.specs.Meaning.{IsShapeOf}
 use Rattle.list_pack.specs.SidLists.{block_at}
 use Rattle.list_pack.specs.Value.{is_compressed, same_block, IsInBlock, IsShape, ShareBlock}
 use Rattle.leg_table.proofs.FlatNets.{FlatFacts}
-use Rattle.leg_table.specs.Table.{shape_by, shape_of}
+use Rattle.leg_table.specs.Table.{node_by, node_of, shape_by, shape_of}
 use Rattle.leg_table.proofs.Options.{some-same}
 
-contains-get : (net : Network) (b : Block) → Contains net.blocks b → (i : ℕ) × (slice_get net.blocks i ≡ Some b)
-contains-get net b there = (there.0, slice_get_read net.blocks (length net.blocks) there.0 b refl there.1 (sym there.2))
-
-get-contains : (net : Network) (i : ℕ) (b : Block) → slice_get net.blocks i ≡ Some b → Contains net.blocks b
-get-contains net i b at = (i, slice_get_within net.blocks i b at, get_or_from_slice_get net.blocks i b b at)
+-- what the search sees of a SID is what it is in the network
+pub sid-shape : (net : Network) (n : ℕ) (s : SidEntry) → slice_get net.sids n ≡ Some s
+    → IsShapeOf net s (shape_of net n) × (s.node ≡ node_of net n)
+sid-shape net n s at = (
+  record {
+    prefix = ap (λ (o : Option SidEntry). (shape_by net.blocks o).prefix) at;
+    block = ap (λ (o : Option SidEntry). (shape_by net.blocks o).block) at;
+    lbl = ap (λ (o : Option SidEntry). (shape_by net.blocks o).lbl) at;
+    csid = ap (λ (o : Option SidEntry). (shape_by net.blocks o).csid) at;
+  },
+  sym (ap node_by at),
+)
 
 module _ (net : Network) (keeps : Keeps net) (p : PrefixValue) where
   -- the number is that of the block
-  pub numbered : (i : ℕ) → block_at net.blocks p ≡ Some i → (b : Block) × (slice_get net.blocks i ≡ Some b) × (block_of net.blocks p ≡ Some b)
+  pub numbered : (i : ℕ) → block_at net.blocks p ≡ Some i
+      → (b : Block) × (slice_get net.blocks i ≡ Some b) × (block_of net.blocks p ≡ Some b)
   numbered i e =
       let found = position_item (λ (b : Block). is_inside p b.prefix) net.blocks i e in
       let inside = (is_inside_is p found.0.prefix).0 found.2 in
@@ -37,9 +45,9 @@ module _ (net : Network) (keeps : Keeps net) (p : PrefixValue) where
     where
       by_block : (b : Block) → slice_get net.blocks i ≡ Some b → IsInside p b.prefix → (o : Option Block) → block_of net.blocks p ≡ o
           → IsBlockOf net.blocks p o → (b : Block) × (slice_get net.blocks i ≡ Some b) × (block_of net.blocks p ≡ Some b)
-      by_block b at inside None f none = absurd (none b (get-contains net i b at) inside)
+      by_block b at inside None f none = absurd (none b (contains_from_get net.blocks i b at) inside)
       by_block b at inside (Some c) f is =
-          let other = contains-get net c is.0 in
+          let other = get_from_contains net.blocks c is.0 in
           let same = keeps.apart i other.0 p.value b c at other.1 inside.1 is.1.1 in
           let found : slice_get net.blocks i ≡ Some c = ap (slice_get net.blocks) same ∙ other.1 in
           (b, at, f ∙ sym found ∙ at)
@@ -48,7 +56,7 @@ module _ (net : Network) (keeps : Keeps net) (p : PrefixValue) where
   pub has-number : (b : Block) → block_of net.blocks p ≡ Some b → (i : ℕ) × (block_at net.blocks p ≡ Some i)
   has-number b e =
       let is = subst (IsBlockOf net.blocks p) e (block_of-is net.blocks p) in
-      let at = contains-get net b is.0 in
+      let at = get_from_contains net.blocks b is.0 in
       by_number at.0 at.1 ((is_inside_is p b.prefix).1 is.1) (block_at net.blocks p) refl
     where
       by_number : (k : ℕ) → slice_get net.blocks k ≡ Some b → is_inside p b.prefix ≡ true → (o : Option ℕ) → block_at net.blocks p ≡ o
@@ -93,7 +101,7 @@ module _ (net : Network) (keeps : Keeps net) (facts : FlatFacts net) (n : ℕ) (
   replace-few e =
       let suits = subst (λ (k : Csid). SuitsBlock k s (block_of net.blocks s.prefix)) e (keeps.sid n s there).csid in
       let lbl = lbl-is suits.0 suits.1 in
-      let b = contains-get net suits.0 (subst (IsBlockOf net.blocks s.prefix) suits.1 (block_of-is net.blocks s.prefix)).0 in
+      let b = get_from_contains net.blocks suits.0 (subst (IsBlockOf net.blocks s.prefix) suits.1 (block_of-is net.blocks s.prefix)).0 in
       by_csid suits.0 (keeps.block b.0 suits.0 b.1).csid lbl suits.3
     where
       by_csid : (b : Block) → (b.csid ≡ 16) ⊎ (b.csid ≡ 32) → s.block_len ≡ b.prefix.len → s.prefix.len ≡ b.prefix.len + b.csid

@@ -3,7 +3,7 @@ use Rattle.std.proofs.Common.{◌≡◌, ◌⊎◌, inl, inr, ℕ, zero, suc, �
 use Rattle.std.specs.Prelude.{◌↔◌, IsTrue, not}
 use Rattle.std.specs.List.{list_any}
 use Rattle.std.proofs.lemmas.Bool.{cases_lt, false≢true, and_parts, and_from, eq-eqb}
-use Rattle.std.proofs.lemmas.Option.{none-some, slice_get_within}
+use Rattle.std.proofs.lemmas.Option.{slice_get_within}
 use Rattle.std.proofs.lemmas.List.Folds.{Any-from_list_any, list_any_at}
 use Rattle.srv6_rules.specs.declared.sid.SidEntry.{SidEntry}
 use Rattle.net_model.specs.Network.{Network}
@@ -139,9 +139,6 @@ pub sid-there : (sids : List SidEntry) (n : ℕ) → n < length sids → (s : Si
 sid-there [] n within = absurd (omega arith)
 sid-there (s ∷ sids) zero within = (s, refl)
 sid-there (s ∷ sids) (suc n) within = sid-there sids n (omega arith)
-
-pub nested-none : (net : Network) → AreNested net 0 []
-nested-none net = record { long = refl; units = λ n s units at got. absurd (none-some units got) }
 
 pub nested-more : (net : Network) (count : ℕ) (nested more : List (List ℕ)) (units : List ℕ) → AreNested net count nested
     → ((s : SidEntry) → slice_get net.sids count ≡ Some s → AreNestedUnits net s units) → more ≡ nested ++ units ∷ []

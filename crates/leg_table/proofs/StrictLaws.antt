@@ -1,36 +1,25 @@
 -- The legs of an intent in a network keep the laws of legs.
-use Rattle.std.proofs.Common.{◌≡◌, ℕ, zero, suc, ◌+◌, ◌-◌, ◌<◌, ◌≤◌, Bool, true, false, ◌==◌, ◌&&◌, ◌||◌, nat_lt, if◌then◌else◌, List, [], ◌∷◌, length, take, drop, Option, Some, None, slice_get, Contains, refl, sym, ◌∙◌, ap, subst, arith, eqb-true, add-one, nat_le}
+use Rattle.std.proofs.Common.{◌≡◌, ℕ, ◌+◌, ◌-◌, ◌<◌, ◌≤◌, Bool, true, false, ◌==◌, ◌&&◌, ◌||◌, nat_lt, List, [], ◌∷◌, length, drop, Option, Some, None, slice_get, Contains, refl, sym, ◌∙◌, ap, subst, arith, eqb-true, nat_le}
 use Rattle.std.specs.Prelude.{is_some}
-use Rattle.std.specs.Option.{option_and_then}
-use Rattle.std.proofs.lemmas.Bool.{false≢true, and_parts, and_from, eq-eqb, leb-true}
-use Rattle.std.proofs.lemmas.List.{length-drop}
-use Rattle.std.proofs.lemmas.Option.{slice_get_within, get_or_from_slice_get}
-use Rattle.std.proofs.Math.Seq.{take-add}
+use Rattle.std.proofs.lemmas.Bool.{false≢true, and_parts, and_from, leb-true}
 use Rattle.v6_addr.specs.Address.{PrefixValue}
 use Rattle.srv6_rules.specs.declared.sid.SidEntry.{SidEntry}
 use Rattle.net_model.specs.Network.{Network}
 use Rattle.net_model.specs.Keeps.{Keeps}
-use Rattle.walk_rules.specs.declared.place.Place.{Place}
-use Rattle.walk_rules.specs.Way.{Into, way_of}
-use Rattle.walk_rules.proofs.PublicLaws.{way-into}
-use Rattle.intent_reader.specs.Rules.{IsIntent, stand_after, node_after, function_node, is_at}
-use Rattle.intent_reader.specs.declared.intent.Step.{Step}
-use Rattle.intent_reader.specs.declared.intent.Step.TheVariants.{Links, Function}
+use Rattle.intent_reader.specs.Rules.{IsIntent}
 use Rattle.intent_reader.specs.declared.intent.Intent.{Intent}
 use Rattle.list_pack.specs.declared.types.Leg.{Leg}
-use Rattle.leg_table.specs.Trace.{has_title}
-use Rattle.leg_table.specs.Tasks.{left_after, left_after_function}
 use Rattle.leg_table.specs.Ride.{Ride, ride_of}
-use Rattle.leg_table.specs.Sids.{comes_before, sid_goes_on, is_middle, first_address, sid_address, sid_before, in_order, sids_of, is_sid_at, sid_suits, title_suits, step_before, is_function_of, node_at}
+use Rattle.leg_table.specs.Sids.{comes_before, sid_goes_on, is_middle, first_address, sid_address, sid_before, in_order, sids_of, is_sid_at}
 use Rattle.leg_table.specs.Table.{shape_by, shape_of, node_of}
 use Rattle.leg_table.specs.Leg.{is_via, is_start, leg_of, finish_of}
 use Rattle.list_pack.specs.Order.{lex_before}
-use Rattle.list_pack.specs.Value.{IsVia, comes_to, ascends, IsLegOf, IsFinishOf, KeepsLaws}
+use Rattle.list_pack.specs.Value.{LegsValue, IsVia, comes_to, ascends, IsLegOf, IsFinishOf, KeepsLaws}
 use Rattle.leg_table.specs.Value.{legs_value}
 use Rattle.leg_table.proofs.FlatNets.{FlatFacts}
 use Rattle.net_model.specs.declared.parts.Block.{Block}
 use Rattle.leg_table.proofs.Shapes.{shape-is, shapes-share}
-use Rattle.leg_table.proofs.Options.{drop-first, some-same, if-some}
+use Rattle.leg_table.proofs.Options.{some-same}
 use Rattle.leg_table.proofs.RideFacts.{start-facts, intent-stands}
 use Rattle.leg_table.proofs.NextRides.{NextRide, leg-ride, finish-ride}
 use Rattle.leg_table.proofs.Arrivals.{Arrives, ride-arrives, ride-few, at-end}
@@ -40,9 +29,23 @@ pub shape-middle : (blocks : List Block) (o : Option SidEntry) → (shape_by blo
 shape-middle blocks None = refl
 shape-middle blocks (Some s) = refl
 
-shape-address : (blocks : List Block) (o : Option SidEntry) → (shape_by blocks o).prefix.value ≡ first_address o
+pub shape-address : (blocks : List Block) (o : Option SidEntry) → (shape_by blocks o).prefix.value ≡ first_address o
 shape-address blocks None = refl
 shape-address blocks (Some s) = refl
+
+-- what comes to a SID comes by a leg or a finish
+pub comes-by : (v : LegsValue) (P : Type 0) (position : ℕ) (via : Option ℕ) (next : ℕ)
+    → ((leg : Leg) → v.leg position via next ≡ Some leg → P) → ((lowered : ℕ) → v.finish position via next ≡ Some lowered → P)
+    → comes_to v position via next ≡ true → P
+comes-by v P position via next along at_end h = by_leg (v.leg position via next) refl h
+  where
+    by_finish : (o : Option ℕ) → v.finish position via next ≡ o → is_some o ≡ true → P
+    by_finish None e h = absurd (false≢true h)
+    by_finish (Some lowered) e h = at_end lowered e
+
+    by_leg : (o : Option Leg) → v.leg position via next ≡ o → (is_some o || is_some (v.finish position via next)) ≡ true → P
+    by_leg None e h = by_finish (v.finish position via next) refl h
+    by_leg (Some leg) e h = along leg e
 
 -- a lower prefix comes before, whatever the nodes are
 before-node : (a b c d : Bool) → (a || (b && c)) ≡ true → (a || (b && (c || d))) ≡ true
@@ -138,17 +141,10 @@ module _ (net : Network) (keeps : Keeps net) (intent : Intent) (is_intent : IsIn
   -- what comes to a SID is a ride
   comes-ride : (position : ℕ) (via : Option ℕ) (next : ℕ) → comes_to (legs_value net intent) position via next ≡ true
       → NextRide net intent position via next
-  comes-ride position via next h = by_leg (leg_of net intent position via next) refl h
-    where
-      by_finish : (o : Option ℕ) → finish_of net intent position via next ≡ o → is_some o ≡ true → NextRide net intent position via next
-      by_finish None e h = absurd (false≢true h)
-      by_finish (Some lowered) e h = (finish-ride net intent position via next lowered e).0
-
-      by_leg : (o : Option Leg) → leg_of net intent position via next ≡ o
-          → (is_some o || is_some (finish_of net intent position via next)) ≡ true
-          → NextRide net intent position via next
-      by_leg None e h = by_finish (finish_of net intent position via next) refl h
-      by_leg (Some leg) e h = (leg-ride net intent position via next leg e).0
+  comes-ride position via next h =
+      comes-by (legs_value net intent) (NextRide net intent position via next) position via next
+      (λ leg e. (leg-ride net intent position via next leg e).0)
+      (λ lowered e. (finish-ride net intent position via next lowered e).0) h
 
   -- rides to SIDs with one first address are one
   same-rides : (position : ℕ) (via : Option ℕ) (next other : ℕ) (n : NextRide net intent position via next)

@@ -1,5 +1,5 @@
 -- The paths of strict legs are the legal lists that realize the intent.
-use Rattle.std.proofs.Common.{slice_get, ◌≡◌, ℕ, suc, ◌<◌, arith, List, [], ◌∷◌, length, map, Some, None, refl, sym, ◌∙◌, ap, subst, zero-add}
+use Rattle.std.proofs.Common.{slice_get, ◌≡◌, ℕ, suc, ◌<◌, arith, List, [], ◌∷◌, length, map, Some, None, sym, ◌∙◌, ap, zero-add}
 use Rattle.std.specs.Prelude.{not}
 use Rattle.std.proofs.lemmas.Bool.{and_parts}
 use Rattle.srv6_rules.specs.Behaviours.{goes_on}
@@ -15,12 +15,11 @@ use Rattle.intent_reader.specs.declared.intent.Intent.{Intent}
 use Rattle.list_places.specs.Places.{Tunnel}
 use Rattle.list_pack.specs.declared.types.Container.{Container}
 use Rattle.list_pack.specs.SidLists.{IsLegalList, list_values, prefixes_in}
-use Rattle.list_pack.specs.Meaning.{AreSidsOf, IsShapeOf, Means}
+use Rattle.list_pack.specs.Meaning.{AreSidsOf, Means}
 use Rattle.leg_table.specs.OneLeg.{LegKind, LegLaws, KindLaws}
 use Rattle.leg_table.specs.Meant.{HandsInner, IsRealizing, IsExecuting, IsHanding}
 use Rattle.leg_table.specs.Realizes.{headend_place, path_need, HandsOver, AlwaysHandsOver, ListRealizes, ListExecutes, ListHands, IsPathAlong}
 use Rattle.leg_table.specs.Sids.{binds, sid_goes_on, prefix_at}
-use Rattle.leg_table.specs.Table.{shape_by, node_by}
 use Rattle.leg_table.specs.Tasks.{matches}
 use Rattle.leg_table.specs.Value.{legs_value, strict_kind, AnyWay}
 use Rattle.leg_table.proofs.FlatNets.{FlatFacts, flat-facts}
@@ -31,6 +30,7 @@ use Rattle.leg_table.proofs.Meanings as means
 use Rattle.leg_table.proofs.Options.{kept-parts, kept-from}
 use Rattle.leg_table.proofs.PathNames.{hops-need, shapes-prefixes}
 use Rattle.leg_table.proofs.Realizing as any
+use Rattle.leg_table.proofs.Shapes.{sid-shape}
 use Rattle.leg_table.proofs.Stays.{stays-follow}
 use Rattle.leg_table.proofs.StrictLaws.{shape-middle, strict-laws}
 use Rattle.leg_table.proofs.LegsUp.{finish-up, leg-up}
@@ -49,12 +49,8 @@ module _ (net : Network) (intent : Intent) (network : IsNetwork net) (flat : IsF
 
   sids-of : AreSidsOf (legs_value net intent) net
   sids-of n is =
-      let s = there net keeps intent n is in (
-        s.0,
-        s.1,
-        subst (IsShapeOf net s.0) (sym (ap (shape_by net.blocks) s.1)) (record { prefix = refl; block = refl; lbl = refl; csid = refl }),
-        sym (ap node_by s.1),
-      )
+      let s = there net keeps intent n is in
+      let is_shape = sid-shape net n s.0 s.1 in (s.0, s.1, is_shape.0, is_shape.1)
 
   -- strict legs keep the laws of one leg and one finish
   pub strict-leg_laws : (t : Tunnel) → t.inner ≡ intent.inner → LegLaws k AnyWay t
@@ -140,6 +136,9 @@ module _ (net : Network) (intent : Intent) (network : IsNetwork net) (flat : IsF
   executes-of : (list : List Container) (count : ℕ) → IsExecuting k list count → ListExecutes net intent list count
   executes-of list count e = λ inner hop choices h. e inner hop [] choices (to-kind h)
 
+  to-executes : (list : List Container) (count : ℕ) → ListExecutes net intent list count → IsExecuting k list count
+  to-executes list count e = λ inner hop marks choices h. e inner hop choices (of-kind h)
+
   to-handing : (list : List Container) (hop : ℕ) → ListHands net intent list hop → IsHanding k list hop
   to-handing list hop h =
       record { positive = h.positive; inner = h.inner; marks = []; always = λ choices some. to-kind (h.always choices some) }
@@ -147,29 +146,9 @@ module _ (net : Network) (intent : Intent) (network : IsNetwork net) (flat : IsF
   -- the legs mean the lists that realize the intent
   pub legs-mean : Means (legs_value net intent) net (ListRealizes net intent) (ListExecutes net intent) (ListHands net intent)
   legs-mean =
-      let kind = means.kind-means k AnyWay strict-kind_laws in
-      record {
-        sids = kind.sids;
-        suits = kind.suits;
-        lists = λ moves c cost.
-            let is = kind.lists moves c cost in
-            record {
-              of_path = is.of_path;
-              legal = is.legal;
-              realizes = realizes-of _ _ is.realizes;
-              executes = executes-of _ _ is.executes;
-            };
-        paths = λ list need legal real.
-            let path = kind.paths list need legal (to-realizes list need real) in
-            record {
-              moves = path.moves;
-              hops = path.hops;
-              cost = path.cost;
-              within = path.within;
-              whole = λ executes. path.whole (λ inner hop marks choices h. executes inner hop choices (of-kind h));
-            };
-        handing = λ list hop legal hands. kind.handing list hop legal (to-handing list hop hands);
-      }
+      means.means-as k AnyWay strict-kind_laws (ListRealizes net intent) (ListExecutes net intent) (ListHands net intent)
+      (λ list need legal real executes. realizes-of list need real) executes-of
+      (λ list need legal real. (to-realizes list need real, to-executes list (length (prefixes_in list)))) to-handing
 
   -- ---- paths as they are said of strict legs
 

@@ -2,9 +2,10 @@
 use Rattle.std.specs.Prelude.{ℕ, drop, Option, Some, None}
 use Rattle.std.specs.Option.{option_map, option_and_then}
 use Rattle.net_model.specs.Network.{Network}
+use Rattle.list_pack.specs.declared.types.Leg.{Leg}
 use Rattle.leg_table.specs.declared.step_links.Behind.{Behind}
 use Rattle.leg_table.specs.Ride.{Ride, ride_of}
-use Rattle.leg_table.specs.Leg.{left_behind, if_none_left, start_of}
+use Rattle.leg_table.specs.Leg.{left_behind, leg_with, if_none_left, start_of}
 use Rattle.leg_table.specs.Sids.{sid_address}
 use Rattle.intent_reader.specs.declared.intent.Intent.{Intent}
 
@@ -14,6 +15,10 @@ behind_with lowered left = record { left = left; lowered = lowered }
 abbrev pub behind_of : Network → ℕ → Option Ride → Option Behind
 behind_of net next None = None
 behind_of net next (Some r) = option_map (behind_with r.lowered) (left_behind net next r)
+
+-- the leg of a way that leaves some of the steps
+abbrev pub leg_from_behind : ℕ → Behind → Leg
+leg_from_behind count b = leg_with count b.lowered b.left
 
 abbrev pub finish_from_behind : Behind → Option ℕ
 finish_from_behind b = if_none_left b.lowered b.left

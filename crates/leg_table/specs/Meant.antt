@@ -8,8 +8,8 @@ use Rattle.leg_table.specs.OneLeg.{LegKind, HandsOver}
 use Rattle.leg_table.specs.Realizes.{IsInner, content_lowered, encapsulated_for}
 use Rattle.leg_table.specs.Trace.{Handed}
 
--- under a list of choices the encapsulated packet is handed over: its trace keeps to the steps, with these marks, what is handed over is the
--- inner packet lowered by one, and no SID was executed that may not be
+-- under a list of choices the encapsulated packet is handed over: its trace keeps to the steps, with these marks, what is handed over is
+-- the inner packet lowered by one, and no SID was executed that may not be
 pub record HandsInner (k : LegKind) (segments : List ℕ) (inner : Content) (hop : ℕ) (marks choices : List ℕ) : Type 0 where
   pub handed : Handed
   pub over : HandsOver k None (encapsulated_for k.intent segments inner hop) (choice_at choices) 0 handed

@@ -1,5 +1,5 @@
 -- Laws of one leg and of one finish, for each kind of legs: what becomes of a packet on its way along a list, from one SID to the next.
-use Rattle.std.specs.Prelude.{◌≡◌, ℕ, ◌+◌, ◌-◌, ◌<◌, ◌≤◌, Bool, false, List, [], ◌∷◌, ◌++◌, All, Option, Some, None, IsTrue}
+use Rattle.std.specs.Prelude.{◌≡◌, ℕ, ◌+◌, ◌-◌, ◌<◌, ◌≤◌, Bool, false, List, [], ◌∷◌, ◌++◌, All, Option, Some, None}
 use Rattle.std.specs.Option.{option_map}
 use Rattle.v6_addr.specs.Address.{PrefixValue}
 use Rattle.srv6_rules.specs.Packet.{Packet, read_as}
@@ -67,8 +67,8 @@ pub record OnWay (k : LegKind) (t : Tunnel) (x : ListPlace) (hop : ℕ) (p : Pac
 
 -- under a row of choices a packet is taken along a leg: to the list's next place, by at most the leg's hops and along its steps, by a SID
 -- that may be executed; and what is handed over is what is handed over from there
-pub record IsTakenOn (k : LegKind) (t : Tunnel) (y : ListPlace) (position : ℕ) (via : Option ℕ) (next : ℕ) (leg : Leg) (hop : ℕ) (p : Packet)
-    (pick : ℕ → ℕ) (taken : ℕ)
+pub record IsTakenOn (k : LegKind) (t : Tunnel) (y : ListPlace) (position : ℕ) (via : Option ℕ) (next : ℕ) (leg : Leg) (hop : ℕ)
+    (p : Packet) (pick : ℕ → ℕ) (taken : ℕ)
     : Type 0 where
   pub lowered : ℕ
   pub few : lowered ≤ leg.hops

@@ -49,8 +49,8 @@ pub fn every_way_is_a_ride()
 
 /// The leg by look-ups alone is there exactly where for all choices a packet to the next SID is
 /// taken to that SID along exactly the steps up to the leg's end, and executed there: a packet to
-/// the first address of its prefix, and in a flat network one to any address of the SID's own, which
-/// no SID nested in it holds, that is multicast exactly where the first one is. (own rule)
+/// the first address of its prefix, and in a flat network one to any address of the SID's own,
+/// which no SID nested in it holds, that is multicast exactly where the first one is. (own rule)
 pub fn a_leg_is_for_all_choices()
     ensures first { (net : Network) (intent : Intent) (position : ℕ) (via : Option ℕ) (next : ℕ) →
         (leg : Leg) → Keeps net → IsIntent net intent →
@@ -87,9 +87,10 @@ pub fn sids_of_a_position_are_in_order()
         AreSidsAt net intent position (sids_of net intent position) }
 {}
 
-/// The legs of strict steps keep the laws of one leg and one finish: what a leg or a finish says comes
-/// of each packet on it, under every row of choices; and a packet that is handed over under all rows
-/// has one. What paths are is shown by these laws alone, whatever kind of legs keeps them. (own rule)
+/// The legs of strict steps keep the laws of one leg and one finish: what a leg or a finish says
+/// comes of each packet on it, under every row of choices; and a packet that is handed over under
+/// all rows has one. What paths are is shown by these laws alone, whatever kind of legs keeps them.
+/// (own rule)
 pub fn strict_legs_keep_the_laws_of_one_leg()
     ensures { (net : Network) (intent : Intent) (t : Tunnel) → IsNetwork net → IsFlat net →
         IsIntent net intent → t.inner ≡ intent.inner → LegLaws (strict_kind net intent) AnyWay t }
@@ -127,8 +128,8 @@ pub fn a_list_that_always_hands_over_is_a_path()
 {}
 
 /// In a flat network, where a legal list hands over even one inner packet along exactly the steps
-/// for all choices at one outer hop limit, there is a legal list of as many containers that realizes
-/// the intent with a need below that hop limit. (own rule)
+/// for all choices at one outer hop limit, there is a legal list of as many containers that
+/// realizes the intent with a need below that hop limit. (own rule)
 pub fn a_list_that_hands_over_has_one_that_realizes()
     ensures { (net : Network) (intent : Intent) (list : List Container) (inner : Content)
         (hop : ℕ) → IsNetwork net → IsFlat net → IsIntent net intent → IsLegalList net list →
@@ -145,9 +146,9 @@ pub fn what_is_handed_over_has_its_trace()
         h.trace ≡ trace_of net (through_hand stages) }
 {}
 
-/// Whether a trace meets steps is told event by event: each event takes the step that is left first,
-/// which it has to meet, and none is left after the last. Events that others follow leave the steps
-/// that the others take. (own rule)
+/// Whether a trace meets steps is told event by event: each event takes the step that is left
+/// first, which it has to meet, and none is left after the last. Events that others follow leave
+/// the steps that the others take. (own rule)
 pub fn a_trace_is_matched_event_by_event()
     ensures matched { (steps : List Step) (events : List Event) →
         matches steps events ≡ is_done (left_by steps events) }

@@ -20,6 +20,7 @@ mod laws;
 mod nests;
 mod reach;
 mod rows;
+mod sid_shapes;
 mod step_links;
 mod strict_legs;
 
@@ -30,5 +31,7 @@ pub use laws::{
     sids_of_a_position_are_in_order, strict_legs_keep_the_laws_of_one_leg,
     what_is_handed_over_has_its_trace,
 };
-pub use step_links::{Behind, all_in_step, first_end};
-pub use strict_legs::{StrictLegs, is_last, is_middle, lowered_at_the_end, place_behind};
+pub use nests::{Units, may_stay, nested_of};
+pub use sid_shapes::{shape_of, takes_step};
+pub use step_links::{Behind, all_in_step, first_end, if_none_left, leg_with};
+pub use strict_legs::{StrictLegs, headend_place, is_last, is_middle, place_behind};

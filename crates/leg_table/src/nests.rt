@@ -1,6 +1,6 @@
 //! Which SIDs may come directly after another in its container, as far as nested SIDs go.
 
-ghost use Rattle.std.specs.Prelude.{◌≡◌, ◌==◌, ◌<◌, ℕ, Some, IfOk, length, slice_get};
+ghost use Rattle.std.specs.Prelude.{◌≡◌, ◌==◌, ◌<◌, Some, IfOk, length, slice_get};
 ghost use Rattle.std.specs.List.{list_any};
 ghost use Rattle.srv6_rules.specs.declared.sid.SidEntry.{SidEntry};
 ghost use Rattle.flat_networks.specs.Flat.{IsFlat};
@@ -35,9 +35,9 @@ fn is_among(units: &[u16], unit: u16) -> bool
     units.iter().any(|u| *u == unit)
 }
 
-/// Whether a SID may come directly after one with these units nested in it: whether its own first
-/// 16 bits after that one's block are none of them. (own rule)
-pub fn stays(net: &Net, units: &[u16], sid: u32, next: u32) -> bool
+/// a SID may come directly after one with these units nested in it: its own first 16 bits after
+/// that one's block are none of them
+fn stays_by(net: &Net, units: &[u16], sid: u32, next: u32) -> bool
     requires is_there { sid < length net.now.sids }
     requires next_there { next < length net.now.sids }
     requires units { (s : SidEntry) → slice_get net.now.sids sid ≡ Some s
@@ -50,4 +50,15 @@ pub fn stays(net: &Net, units: &[u16], sid: u32, next: u32) -> bool
     }
     let unit = field(net.sid(next).prefix.value(), net.sid(sid).block_len, 16) as u16;
     !is_among(units, unit)
+}
+
+/// Whether a SID may come directly after another in its container, as far as the SIDs nested in
+/// that one go: by the units of the SIDs nested in each SID. (own rule)
+pub fn may_stay(net: &Net, nested: &[Units], sid: u32, next: u32) -> bool
+    requires is_there { sid < length net.now.sids }
+    requires next_there { next < length net.now.sids }
+    requires nested { AreNested net.now (length net.now.sids) nested.now }
+    ensures { result ≡ stays_of net.now sid next }
+{
+    stays_by(net, nested[sid as usize].as_slice(), sid, next)
 }

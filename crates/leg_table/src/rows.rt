@@ -1,6 +1,6 @@
 //! The SIDs of each position of an intent.
 
-ghost use Rattle.std.specs.Prelude.{◌≡◌, ◌+◌, ◌<◌, ◌≤◌, ◌++◌, ◌∷◌, ℕ, length, take, drop, slice_get, Some, None, IfOk, IsTrue, is_some};
+ghost use Rattle.std.specs.Prelude.{◌≡◌, ◌+◌, ◌<◌, ◌≤◌, ◌++◌, ◌∷◌, length, take, drop, slice_get, Some, None, IfOk, IsTrue, is_some};
 ghost use Rattle.intent_reader.specs.Rules as rules;
 ghost use Rattle.leg_table.specs.Sids as sids;
 ghost use Rattle.leg_table.specs.Table.{AreRows};

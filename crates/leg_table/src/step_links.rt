@@ -1,13 +1,16 @@
-//! The links of a step, where they end, and what is left of the steps after an execution.
+//! The links of a step, where they end, and what is left of the steps after an execution; the leg
+//! and the finish that end there.
 
 ghost use Rattle.std.specs.Prelude.{◌≡◌, ◌≤◌, ◌<◌, length, IfSome};
 ghost use Rattle.std.specs.List.{list_all};
 ghost use Rattle.net_model.specs.Keeps.{IsLinkSet};
 ghost use Rattle.intent_reader.specs.Rules as rules;
+ghost use Rattle.leg_table.specs.Leg as legs;
 ghost use Rattle.leg_table.specs.Tasks as tasks;
 ghost use Rattle.leg_table.specs.Ride as rides;
 
 use intent_reader::Step;
+use list_pack::Leg;
 use net_model::Net;
 use walk_rules::far_end;
 
@@ -60,4 +63,24 @@ pub fn left_after(net: &Net, n: u32, steps: &[Step]) -> Option<u32>
         [Step::Function(sid), rest @ ..] if *sid == n => Some(rest.len() as u32),
         _ => None,
     }
+}
+
+/// The leg of so many steps in all that leaves some of them: the hop limit is lowered so often
+/// before the execution at its end, and once there. (own rule)
+pub fn leg_with(count: u32, lowered: u32, left: u32) -> Leg
+    requires within { left ≤ count }
+    requires few { lowered ≤ 256 }
+    ensures { result ≡ legs.leg_with count lowered left }
+{
+    Leg {
+        to: count - left,
+        hops: lowered + 1,
+    }
+}
+
+/// How often the hop limit was lowered, where no step is left. (own rule)
+pub fn if_none_left(lowered: u32, left: u32) -> Option<u32>
+    ensures { result ≡ legs.if_none_left lowered left }
+{
+    if left == 0 { Some(lowered) } else { None }
 }

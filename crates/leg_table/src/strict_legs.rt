@@ -1,22 +1,21 @@
 //! The legs of an intent in a network.
 
-ghost use Rattle.std.specs.Prelude.{◌≡◌, ◌<◌, ◌≤◌, ℕ, length, drop, slice_get, Some, IfOk, IfSome};
-ghost use Rattle.srv6_rules.specs.declared.sid.SidEntry.{SidEntry};
+ghost use Rattle.std.specs.Prelude.{◌≡◌, ◌<◌, ◌≤◌, ℕ, length, drop, Some, IfOk, IfSome};
 ghost use Rattle.net_model.specs.Keeps.{Keeps};
 ghost use Rattle.net_model.specs.Rules.{IsNetwork};
 ghost use Rattle.intent_reader.specs.Rules.{IsIntent};
-ghost use Rattle.leg_table.specs.Course.{finish_from_behind, way_behind};
+ghost use Rattle.leg_table.specs.Course.{way_behind};
 ghost use Rattle.leg_table.specs.Reach.{IsReach, IsStart, AreLater, way_along, way_at};
 ghost use Rattle.leg_table.specs.Leg as legs;
+ghost use Rattle.leg_table.specs.Realizes.{headend_place};
 ghost use Rattle.leg_table.specs.Sids as sids;
-ghost use Rattle.list_pack.specs.SidLists.{block_at};
 ghost use Rattle.flat_networks.specs.Flat.{IsFlat};
-ghost use Rattle.flat_networks.specs.Units.{AreNestedUnits};
 
-use crate::nests::{Units, nested_of, stays};
+use crate::nests::{Units, may_stay, nested_of};
 use crate::reach::{Reach, reaches_of, way_at, way_from};
 use crate::rows::{Row, is_sid_at, rows_of};
-use crate::step_links::Behind;
+use crate::sid_shapes::{shape_of, takes_step};
+use crate::step_links::{Behind, if_none_left, leg_with};
 use base::NoMemory;
 use intent_reader::{Intent, Step};
 use list_pack::{Leg, Legs, ListLegs, Shape};
@@ -25,7 +24,6 @@ use srv6_rules::numbers::{IPV4_INSIDE, IPV6_INSIDE};
 use srv6_rules::{Family, SidEntry};
 use std::alloc::Global;
 use std::marker::Model;
-use v6_addr::Prefix;
 use walk_rules::{How, Place, onward_from};
 
 /// The legs of an intent in a network, with the SIDs of each position, the ways from its node to
@@ -128,11 +126,7 @@ impl<'a> StrictLegs<'a> {
             return None;
         }
         match via {
-            None if position == 0 => Some(Place {
-                node: self.intent.headend,
-                how: How::Submitted { table: 0 },
-                family: Family::V6,
-            }),
+            None if position == 0 => Some(headend_place(self.intent)),
             None => None,
             Some(v) if self.has_sid(position, v) => place_behind(self.net, v),
             Some(_) => None,
@@ -161,15 +155,6 @@ impl<'a> StrictLegs<'a> {
         &self.reaches[(count - position) as usize]
     }
 
-    /// the units of the SIDs nested in a SID
-    fn units(&self, sid: u32) -> &[u16]
-        requires { sid < length self.now.net.sids }
-        ensures { (s : SidEntry) → slice_get self.now.net.sids sid ≡ Some s
-            → AreNestedUnits self.now.net s result.now }
-    {
-        self.nested[sid as usize].as_slice()
-    }
-
     /// the steps from a position on
     fn rest(&self, position: u32) -> &[Step]
         requires { position ≤ length self.now.intent.steps }
@@ -196,10 +181,10 @@ impl<'a> StrictLegs<'a> {
         }
     }
 
-    /// The way of a packet to a next SID and its execution, along the steps from a position on, from a
-    /// place at the node where the walk stands at that position: how many steps are left then, and how
-    /// often the hop limit was lowered. None where the packet doesn't come to the SID first, or leaves
-    /// the steps before. (own rule)
+    /// The way of a packet to a next SID and its execution, along the steps from a position on,
+    /// from a place at the node where the walk stands at that position: how many steps are left
+    /// then, and how often the hop limit was lowered. None where the packet doesn't come to the SID
+    /// first, or leaves the steps before. (own rule)
     pub fn way_on(&self, position: u32, place: &Place, next: u32) -> Option<Behind>
         requires next { next < length self.now.net.sids }
         requires start { IsStart self.now.net self.now.intent position place.now }
@@ -259,14 +244,7 @@ impl<'a> Legs for StrictLegs<'a> {
 
     fn shape(&self, sid: u32) -> Shape {
         self.keeps_rules();
-        let sid = self.net.sid(sid);
-        Shape {
-            prefix: sid.prefix,
-            block: block_at(self.net, &sid.prefix),
-            lbl: sid.block_len,
-            csid: sid.csid,
-            middle: takes_step(sid),
-        }
+        shape_of(self.net, sid)
     }
 
     fn leg(&self, position: u32, via: Option<u32>, next: u32) -> Option<Leg> {
@@ -274,10 +252,7 @@ impl<'a> Legs for StrictLegs<'a> {
             return None;
         }
         match self.way_behind(position, via, next) {
-            Some(behind) => Some(Leg {
-                to: self.count() - behind.left,
-                hops: behind.lowered + 1,
-            }),
+            Some(behind) => Some(leg_with(self.count(), behind.lowered, behind.left)),
             None => None,
         }
     }
@@ -287,14 +262,14 @@ impl<'a> Legs for StrictLegs<'a> {
             return None;
         }
         match self.way_behind(position, via, next) {
-            Some(behind) => lowered_at_the_end(&behind),
+            Some(behind) => if_none_left(behind.lowered, behind.left),
             None => None,
         }
     }
 
     fn stays(&self, sid: u32, next: u32) -> bool {
         self.keeps_rules();
-        stays(self.net, self.units(sid), sid, next)
+        may_stay(self.net, self.nested.as_slice(), sid, next)
     }
 }
 
@@ -314,37 +289,6 @@ impl<'a> ListLegs for StrictLegs<'a> {
     }
 }
 
-/// How often the hop limit was lowered, where no step is left. (own rule)
-pub fn lowered_at_the_end(behind: &Behind) -> Option<u32>
-    ensures { result ≡ finish_from_behind behind.now }
-{
-    if behind.left == 0 {
-        Some(behind.lowered)
-    } else {
-        None
-    }
-}
-
-/// the number of the block that a prefix lies strictly inside
-#[tactic(auto, using(crate::proofs::Searches::searching))]
-fn block_at(net: &Net, prefix: &Prefix) -> Option<u32>
-    ensures { result ≡ block_at net.now.blocks prefix.now }
-{
-    for n in 0..net.blocks() {
-        if prefix.inside(&net.block(n).prefix) {
-            return Some(n);
-        }
-    }
-    None
-}
-
-/// the packet goes on from the SID to a next segment, after no further header
-fn takes_step(sid: &SidEntry) -> bool
-    ensures { result ≡ sids.takes_step sid.now }
-{
-    sid.goes_on() && sid.behaviour.policy().is_none()
-}
-
 /// the SID exposes a packet of a family inside
 fn hands_over(sid: &SidEntry, family: Family) -> bool
     ensures { result ≡ sids.hands_over family sid.now }
@@ -355,8 +299,8 @@ fn hands_over(sid: &SidEntry, family: Family) -> bool
     })
 }
 
-/// Whether there is a SID with this number from which the packet goes on to a next segment, after no
-/// further header. (own rule)
+/// Whether there is a SID with this number from which the packet goes on to a next segment, after
+/// no further header. (own rule)
 pub fn is_middle(net: &Net, n: u32) -> bool
     ensures { result ≡ sids.is_middle net.now n }
 {
@@ -368,6 +312,17 @@ pub fn is_last(net: &Net, family: Family, n: u32) -> bool
     ensures { result ≡ sids.is_last net.now family n }
 {
     n < net.sids() && hands_over(net.sid(n), family)
+}
+
+/// Where the packet stands that the headend of an intent makes. (own rule)
+pub fn headend_place(intent: &Intent) -> Place
+    ensures { result ≡ headend_place intent.now }
+{
+    Place {
+        node: intent.headend,
+        how: How::Submitted { table: 0 },
+        family: Family::V6,
+    }
 }
 
 /// Where the packet stands after the execution of a middle SID: none after any other. (own rule)

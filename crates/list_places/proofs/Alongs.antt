@@ -129,7 +129,7 @@ end_not e allow t x routed hop q is = by (exposes e (inner_kind t.inner)) (is_al
     by false false is = cc
 
 -- a SID of REPLACE-CSID stands where the header may lack at the last SID alone
-last_replace : (e : SidEntry) (x : ListPlace) → IsPlace x → StandsOn e (active x) → e.csid ≡ Replace → may_lack x ≡ true → next_of x ≡ None
+pub last_replace : (e : SidEntry) (x : ListPlace) → IsPlace x → StandsOn e (active x) → e.csid ≡ Replace → may_lack x ≡ true → next_of x ≡ None
 last_replace e (InFull s [] []) is on replace lacks = refl
 last_replace e (InFull s (u ∷ us) []) is on replace lacks =
     let (b, own, kind) = full-block s u us is.container is.flat in

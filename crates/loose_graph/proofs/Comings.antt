@@ -102,7 +102,8 @@ module _ (spots : List Spot) (v : ℕ) where
   pub none-at : (found_at spots v ≡ None) ↔ ((room answer : ℕ) → ¬ AlwaysComes spots room v answer)
   none-at = (
     λ e room answer always. (none-from spots start_at).0 (found-fixed spots v ∙ e) room answer ((always-at room answer).1 always),
-    λ never. sym (found-fixed spots v) ∙ (none-from spots start_at).1 (λ room answer always. never room answer ((always-at room answer).0 always)),
+    λ never. sym (found-fixed spots v) ∙ (none-from spots start_at).1
+        (λ room answer always. never room answer ((always-at room answer).0 always)),
   )
 
 -- ---- lists of choices are enough

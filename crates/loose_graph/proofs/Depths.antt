@@ -178,7 +178,8 @@ module _ (spots : List Spot) where
   fewer zero v f e = absurd (none-some f e)
   fewer (suc depth) v f e = by_spot (fewer depth) (spot_at spots v) e
     where
-      by_spot : ((w : ℕ) (g : Found) → found_in spots depth w ≡ Some g → g.most < depth) → (spot : Spot) → found_by true (found_in spots depth) spot ≡ Some f → f.most < suc depth
+      by_spot : ((w : ℕ) (g : Found) → found_in spots depth w ≡ Some g → g.most < depth) → (spot : Spot)
+          → found_by true (found_in spots depth) spot ≡ Some f → f.most < suc depth
       by_spot below Lost e = absurd (none-some f e)
       by_spot below (Stop answer) e =
           let m : 0 ≡ f.most = ap (λ (x : Found). x.most) (some-same (record { most = 0; answer = answer }) f e) in omega arith

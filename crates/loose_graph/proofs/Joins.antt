@@ -105,7 +105,8 @@ joined-complete finds f (w ∷ ws) answer e all =
     let first = all 0 (omega arith) in
     let g : Found = first.0 in
     let same : (g.answer == f.answer) ≡ true = eq-eqb g.answer f.answer (first.2 ∙ sym e) in
-    let more = joined-complete finds (record { most = max f.most g.most; answer = f.answer }) ws answer e (λ i l. all (suc i) (omega arith)) in
+    let more = joined-complete finds (record { most = max f.most g.most; answer = f.answer }) ws answer e
+    (λ i l. all (suc i) (omega arith)) in
     let open_one : joined finds f (w ∷ ws) ≡ joined_with finds f ws g = ap (option_and_then (joined_with finds f ws)) first.1 in
     let open_if : joined_with finds f ws g ≡ joined finds (record { most = max f.most g.most; answer = f.answer }) ws
     = ap (λ (b : Bool). if b then joined finds (record { most = max f.most g.most; answer = f.answer }) ws else None) same in
@@ -139,7 +140,8 @@ joined-under under au finds below all f (w ∷ ws) h e =
     let same : (gu.answer == fu.answer) ≡ true = eq-eqb (au g.answer) (au f.answer) (ap au (eqb-true g.answer f.answer both.0)) in
     let open_one : joined below fu (under w ∷ map under ws) ≡ joined_with below fu (map under ws) gu
     = ap (option_and_then (joined_with below fu (map under ws))) (all w g first.1) in
-    let open_if : joined_with below fu (map under ws) gu ≡ joined below (record { most = max f.most g.most; answer = au f.answer }) (map under ws)
+    let open_if : joined_with below fu (map under ws) gu ≡ joined below (record { most = max f.most g.most; answer = au f.answer })
+    (map under ws)
     = ap (λ (b : Bool). if b then joined below (record { most = max f.most g.most; answer = au f.answer }) (map under ws) else None) same in
     open_one ∙ open_if ∙ more
 

@@ -34,7 +34,7 @@ pub record LegNeed (leg : Leg) (n : ℕ) : Type 0 where
   pub same : found.answer ≡ leg.answer
   pub sum : found.most + leg.lowers ≡ n
 
-leg-need : (leg : Leg) (n : ℕ) → need_of leg ≡ Some n → LegNeed leg n
+pub leg-need : (leg : Leg) (n : ℕ) → need_of leg ≡ Some n → LegNeed leg n
 leg-need leg n e =
     let t = then-some (leg_need leg.answer leg.lowers) (found_from leg.spots leg.start) n e in
     let i = if-some (t.0.answer == leg.answer) (Some (t.0.most + leg.lowers)) n t.2 in
@@ -45,7 +45,8 @@ leg-need leg n e =
       sum = some-same (t.0.most + leg.lowers) n i.1;
     }
 
-need-leg : (leg : Leg) (f : Found) → found_from leg.spots leg.start ≡ Some f → f.answer ≡ leg.answer → need_of leg ≡ Some (f.most + leg.lowers)
+pub need-leg : (leg : Leg) (f : Found) → found_from leg.spots leg.start ≡ Some f → f.answer ≡ leg.answer
+    → need_of leg ≡ Some (f.most + leg.lowers)
 need-leg leg f e same =
     ap (option_and_then (leg_need leg.answer leg.lowers)) e
     ∙ ap (λ (b : Bool). if b then Some (f.most + leg.lowers) else None) (eq-eqb f.answer leg.answer same)

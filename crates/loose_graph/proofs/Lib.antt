@@ -1,4 +1,5 @@
 pub mod Options
+pub mod Lists
 pub mod Joins
 pub mod Depths
 pub mod Walking

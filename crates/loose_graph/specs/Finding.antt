@@ -15,7 +15,8 @@ Finds = ℕ → Option Found
 abbrev pub joined : Finds → Found → List ℕ → Option Found
 joined finds f [] = Some f
 joined finds f (w ∷ ws) =
-    option_and_then (λ (g : Found). if g.answer == f.answer then joined finds (record { most = max f.most g.most; answer = f.answer }) ws else None)
+    option_and_then (λ (g : Found). if g.answer == f.answer then joined finds (record { most = max f.most g.most; answer = f.answer })
+    ws else None)
     (finds w)
 
 -- at all spots of a set, which isn't empty

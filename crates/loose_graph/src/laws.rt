@@ -21,7 +21,8 @@ pub fn found_spots_are_where_all_choices_come()
 
 /// So it is for a start in front of a graph, whether its first move lowers or not (own rule).
 pub fn found_starts_are_where_all_choices_come()
-    ensures most { (spots : List Spot) (start : Start) (f : Found) → (found_from spots start ≡ Some f)
+    ensures most { (spots : List Spot) (start : Start) (f : Found)
+        → (found_from spots start ≡ Some f)
         ↔ ((room : ℕ) → (f.most ≤ room) ↔ AlwaysComesFrom spots room start f.answer) }
     ensures none { (spots : List Spot) (start : Start) → (found_from spots start ≡ None)
         ↔ ((room answer : ℕ) → ¬ AlwaysComesFrom spots room start answer) }
@@ -53,15 +54,16 @@ pub fn lists_of_choices_are_enough()
 /// fewer of them than nodes, though there are many more spots (own rule).
 pub fn lowerings_are_fewer_than_nodes()
     ensures under { (under answer_under : ℕ → ℕ) (spots nodes : List Spot)
-        → StandsOver under answer_under spots nodes → (v : ℕ) (f : Found) → found_at spots v ≡ Some f
-        → found_at nodes (under v) ≡ Some (found_under answer_under f) }
+        → StandsOver under answer_under spots nodes → (v : ℕ) (f : Found)
+        → found_at spots v ≡ Some f → found_at nodes (under v) ≡ Some (found_under answer_under f) }
     ensures few { (under answer_under : ℕ → ℕ) (spots nodes : List Spot)
-        → StandsOver under answer_under spots nodes → (v : ℕ) (f : Found) → found_at spots v ≡ Some f
-        → f.most < length nodes }
+        → StandsOver under answer_under spots nodes → (v : ℕ) (f : Found)
+        → found_at spots v ≡ Some f → f.most < length nodes }
     ensures start { (under answer_under : ℕ → ℕ) (spots nodes : List Spot)
         → StandsOver under answer_under spots nodes → (start below : Start) (f : Found)
         → start.lowers ≡ below.lowers → IsOver spots under answer_under start.spot below.spot
-        → found_from spots start ≡ Some f → found_from nodes below ≡ Some (found_under answer_under f) }
+        → found_from spots start ≡ Some f
+        → found_from nodes below ≡ Some (found_under answer_under f) }
     ensures few_from { (under answer_under : ℕ → ℕ) (spots nodes : List Spot)
         → StandsOver under answer_under spots nodes → (start : Start) (f : Found)
         → found_from spots start ≡ Some f → f.most ≤ length nodes }

@@ -1,12 +1,12 @@
 //! What all choices come to, in a graph over which a packet goes from spot to spot.
 //!
 //! A spot is where a packet can stand on its way to one destination: a node, say, with the steps
-//! that it has still to take. At a spot it is lost, it stops with an answer, or it goes on to one of
-//! a set of next spots, which of them by a choice. Each move lowers the hop limit by one; only the
-//! first, from a start in front of the graph, may not. `specs/Walks.antt` says how a packet goes,
-//! `specs/Finding.antt` what is found at a spot: the answer to which all choices come, with the
-//! greatest number of lowerings among them, or nothing, where choices disagree, one is lost, or a
-//! loop can be passed any number of times. `specs/Legs.antt` has ways one after the other. The
+//! that it has still to take. At a spot it is lost, it stops with an answer, or it goes on to one
+//! of a set of next spots, which of them by a choice. Each move lowers the hop limit by one; only
+//! the first, from a start in front of the graph, may not. `specs/Walks.antt` says how a packet
+//! goes, `specs/Finding.antt` what is found at a spot: the answer to which all choices come, with
+//! the greatest number of lowerings among them, or nothing, where choices disagree, one is lost, or
+//! a loop can be passed any number of times. `specs/Legs.antt` has ways one after the other. The
 //! functions of `laws` do nothing: their contracts are the laws of those definitions.
 #![tactic(auto)]
 
@@ -22,4 +22,4 @@ pub use laws::{
 };
 pub use order::sort_found;
 pub use spots::{Found, Spot, Start};
-pub use table::{find_spots, find_start};
+pub use table::{entry, find_spots, find_start};

@@ -9,8 +9,8 @@ use crate::spots::{Found, Spot, Start};
 use base::NoMemory;
 use std::alloc::Global;
 
-/// what a table has of a spot
-pub(crate) fn entry(table: &[Option<Found>], v: u32) -> Option<Found>
+/// What a table has of a spot; nothing of one that it doesn't have. (own rule)
+pub fn entry(table: &[Option<Found>], v: u32) -> Option<Found>
     ensures { result ≡ known_at table.now v }
 {
     match table.get(v as usize) {
@@ -143,8 +143,8 @@ fn settle(spots: &[Spot], table: &mut [Option<Found>])
 /// of times or never, and then all of them until nothing is added. What is found doesn't depend on
 /// the order; how long it takes does. In an order in which each spot comes behind those that it
 /// leads to the first round finds all, and a second one sees it; in the worst there are as many
-/// rounds as spots. For a graph of nodes and steps left such an order is, from no steps left to all,
-/// the nodes as `sort_found` has them for the graph of the nodes alone.
+/// rounds as spots. For a graph of nodes and steps left such an order is, from no steps left to
+/// all, the nodes as `sort_found` has them for the graph of the nodes alone.
 pub fn find_spots(
     alloc: Global,
     spots: &[Spot],

@@ -3,15 +3,11 @@ use Rattle.std.proofs.Common.{◌≡◌, ℕ, zero, suc, ◌+◌, ◌-◌, ◌<�
 use Rattle.std.specs.Option.{option_map}
 use Rattle.std.proofs.lemmas.Bool.Decides.{leb_tells}
 use Rattle.srv6_rules.specs.declared.sid.Family.{Family}
-use Rattle.srv6_rules.specs.declared.sid.Reason.TheVariants as reasons
 use Rattle.srv6_rules.specs.declared.sid.SidEntry.{SidEntry}
 use Rattle.srv6_rules.specs.Behaviours.{behaviour_policy}
 use Rattle.srv6_rules.specs.Endpoint.{Delivered, Endpoint, Exposed, Onward, Refused, at_address}
 use Rattle.srv6_rules.specs.Packet.{Packet, Content, V6, V4, Unreadable}
-use Rattle.net_model.specs.declared.net.Hit.{Hit}
-use Rattle.net_model.specs.declared.net.Hit.TheVariants as hits
 use Rattle.net_model.specs.Network.{Network}
-use Rattle.net_model.specs.Best.{lookup_of}
 use Rattle.walk_rules.specs.declared.place.How.{How}
 use Rattle.walk_rules.specs.declared.place.How.TheVariants.{Arrived}
 use Rattle.walk_rules.specs.declared.place.Place.{Place}
@@ -20,20 +16,21 @@ use Rattle.walk_rules.specs.declared.place.Outcome.TheVariants as outcomes
 use Rattle.walk_rules.specs.Laws.{IsLoweredByOne}
 use Rattle.walk_rules.specs.Treatment.{Gave, free_step_of, goes, lowered, member_of, treated, treated_at_address}
 use Rattle.walk_rules.specs.Walk.{arrival, decisions, free_walk_of, next_place}
-use Rattle.walk_rules.specs.Way.{Way, Away, Over, Own, Into, is_multicast_of, way_by_hit, way_of}
+use Rattle.walk_rules.specs.Way.{Way, Away, Over, Own, Into, way_of}
 use Rattle.walk_rules.proofs.PublicLaws.{free-again, free-less, sent-high, sent-low}
 use Rattle.intent_reader.specs.declared.intent.Intent.{Intent}
 use Rattle.step_traces.specs.declared.steps.Step.{Step}
 use Rattle.loose_ways.specs.Graphs.{lowers_by}
-use Rattle.loose_ways.specs.Stops.{ends_in}
-use Rattle.loose_ways.proofs.Quiet.{IsQuiet, into-quiet}
+use Rattle.loose_ways.specs.Stops.{ends_in, SendsNothing}
+use Rattle.loose_ways.proofs.Quiet.{into-quiet}
+use Rattle.loose_ways.proofs.Simulating.{family-lowers, walk-none}
 use Rattle.leg_table.specs.OneLeg.{HandsOver}
 use Rattle.leg_table.specs.Realizes.{headend_place}
 use Rattle.leg_table.specs.Sids.{binds, is_binding, sid_binds}
 use Rattle.leg_table.specs.Trace.{Crossed, Handed}
 use Rattle.leg_table.proofs.Options.{map-some}
 use Rattle.loose_kinds.specs.Kind.{behind_event, behind_execution, hand_first, hand_of, loose_kind}
-use Rattle.loose_kinds.proofs.Stages.{hand-stage, none-dropped, rest_of, walk-none, walk-zero}
+use Rattle.loose_kinds.proofs.Stages.{hand-stage, none-dropped, rest_of, walk-zero}
 
 -- so many choices are enough for a packet at a place: as its hop limit says, and one more where the first link doesn't lower it
 abbrev free_of : Bool → ℕ
@@ -44,23 +41,6 @@ matter_at net place p = p.hop_limit + free_of (lowers_by (way_of net place p.des
 
 abbrev arrived_in : ℕ → Family → Place
 arrived_in node family = record { node = node; how = Arrived 0; family = family }
-
--- a packet that has come over a link lowers its hop limit with the next one
-family-lowers : (net : Network) (node : ℕ) (family : Family) (destination : ℕ)
-    → lowers_by (way_of net (arrived_in node family) destination) ≡ true
-unfolding way_of
-family-lowers net node family destination = by_kind (is_multicast_of family destination)
-  where
-    by_hit : (h : Hit) → lowers_by (way_by_hit net true h) ≡ true
-    by_hit (hits.Sid n) = refl
-    by_hit hits.Address = refl
-    by_hit (hits.Route n) = refl
-    by_hit hits.Nothing = refl
-
-    by_kind : (b : Bool) → lowers_by (if b then Away reasons.Multicast
-        else way_by_hit net true (lookup_of net node 0 family destination)) ≡ true
-    by_kind true = refl
-    by_kind false = by_hit (lookup_of net node 0 family destination)
 
 free-few : (b : Bool) → free_of b ≤ 1
 free-few true = omega arith
@@ -169,7 +149,8 @@ module _ (net : Network) where
       hand_first net gave o (hand_of net (free_walk_of more net (next_place net place o) gave.after row (taken + decisions o)))
 
   quiet-agrees : (more : ℕ) → Agrees more → (place : Place) (p : Packet) (pick other : ℕ → ℕ) (taken many choice : ℕ) (h : Handed)
-      → p.hop_limit ≤ many → Agree pick other taken many → (o : Outcome) → (free_step_of net place (V6 p) choice).outcome ≡ o → IsQuiet o
+      → p.hop_limit ≤ many → Agree pick other taken many → (o : Outcome) → (free_step_of net place (V6 p) choice).outcome ≡ o
+      → SendsNothing o
       → behind_outcome more place taken (free_step_of net place (V6 p) choice) o pick ≡ Some h
       → behind_outcome more place taken (free_step_of net place (V6 p) choice) o other ≡ Some h
   quiet-agrees more agrees place p pick other taken many choice h few same (outcomes.Send link) is quiet e = absurd quiet
@@ -188,8 +169,8 @@ module _ (net : Network) where
       → hand_of net (free_walk_of (suc more) net (Some place) (V6 p) other taken) ≡ Some h
   into-agrees more agrees place p pick other taken many n h way few same e =
       let gave = free_step_of net place (V6 p) (pick taken) in
-      let quiet : IsQuiet gave.outcome
-      = subst (λ (w : Way). IsQuiet (treated net place.node w p (pick taken)).outcome) (sym way)
+      let quiet : SendsNothing gave.outcome
+      = subst (λ (w : Way). SendsNothing (treated net place.node w p (pick taken)).outcome) (sym way)
       (into-quiet net place.node n (slice_get net.sids n) p) in
       stage-agrees more place p pick other taken h gave refl
       (ap (λ (w : Way). treated net place.node w p (other taken)) way ∙ sym (ap (λ (w : Way). treated net place.node w p (pick taken)) way))

@@ -31,9 +31,9 @@ use Rattle.leg_table.proofs.PathNames.{shape-prefix}
 use Rattle.loose_meanings.specs.Legs.{left_after}
 use Rattle.loose_meanings.specs.Steps.{AreSteps, steps_left}
 use Rattle.loose_meanings.proofs.Always.{left-is}
-use Rattle.loose_meanings.proofs.Meaning as meaning
-use Rattle.loose_meanings.proofs.Meaning.{start-at}
+use Rattle.loose_meanings.proofs.Ways as ways
 use Rattle.loose_meanings.proofs.Sames.{address-alike, found-same}
+use Rattle.loose_meanings.proofs.Ways.{start-at}
 use Rattle.loose_kinds.specs.Kind.{hand_of, loose_kind}
 use Rattle.loose_kinds.proofs.Courses.{Course, Passes, course}
 use Rattle.loose_kinds.proofs.Tight.{Tight, tight}
@@ -71,7 +71,7 @@ module _ (net : Network) (keeps : Keeps net) (facts : FlatFacts net) (intent : I
 
   -- what is found for the first address of the next SID is found for a packet at a place of that SID
   pub start-found : (position : ℕ) (via : Option ℕ) (next : ℕ) (x : lists.ListPlace) (hop : ℕ) (p : Packet)
-      (w : meaning.Way net keeps intent steps are position via next)
+      (w : ways.Way net keeps intent steps are position via next)
       → (s : SidEntry) → slice_get net.sids next ≡ Some s → active x ≡ list_sid net (prefix_at net next) → Along tunnel x hop p
       → PlaceKeeps net x
       → (w.place.family ≡ families.V6)
@@ -87,12 +87,12 @@ module _ (net : Network) (keeps : Keeps net) (facts : FlatFacts net) (intent : I
       (start.family, from-position position w.place p.destination w.found start.within found)
 
   -- the way of a packet that passes from there
-  abbrev pub WayOf : (position : ℕ) (via : Option ℕ) (next : ℕ) (p : Packet) (w : meaning.Way net keeps intent steps are position via next)
+  abbrev pub WayOf : (position : ℕ) (via : Option ℕ) (next : ℕ) (p : Packet) (w : ways.Way net keeps intent steps are position via next)
       (pick : ℕ → ℕ) (taken : ℕ) → Type 0
   WayOf position via next p w pick taken = Course net p.destination steps (drop position steps) w.place p pick taken w.found
 
   pub way-of : (position : ℕ) (via : Option ℕ) (next : ℕ) (x : lists.ListPlace) (hop : ℕ) (p : Packet)
-      (w : meaning.Way net keeps intent steps are position via next) (pick : ℕ → ℕ) (taken : ℕ)
+      (w : ways.Way net keeps intent steps are position via next) (pick : ℕ → ℕ) (taken : ℕ)
       → (s : SidEntry) → slice_get net.sids next ≡ Some s → active x ≡ list_sid net (prefix_at net next) → Along tunnel x hop p
       → PlaceKeeps net x → Passes net w.place p pick taken w.found → WayOf position via next p w pick taken
   way-of position via next x hop p w pick taken s there is along nests passes =
@@ -101,7 +101,7 @@ module _ (net : Network) (keeps : Keeps net) (facts : FlatFacts net) (intent : I
 
   -- one by the greatest number, behind which any choices may follow
   pub tight-way : (position : ℕ) (via : Option ℕ) (next : ℕ) (x : lists.ListPlace) (hop : ℕ) (p : Packet)
-      (w : meaning.Way net keeps intent steps are position via next)
+      (w : ways.Way net keeps intent steps are position via next)
       → (s : SidEntry) → slice_get net.sids next ≡ Some s → active x ≡ list_sid net (prefix_at net next) → Along tunnel x hop p
       → PlaceKeeps net x → w.found.most < p.hop_limit → (rest : ℕ → ℕ)
       → Tight net p.destination steps (drop position steps) w.place p w.found rest
@@ -111,7 +111,7 @@ module _ (net : Network) (keeps : Keeps net) (facts : FlatFacts net) (intent : I
 
   -- by its way the packet comes to the next SID, whose place in the list it stands at
   pub record ComesAt (position : ℕ) (via : Option ℕ) (next : ℕ) (x : lists.ListPlace) (hop : ℕ) (p : Packet)
-      (w : meaning.Way net keeps intent steps are position via next) (pick : ℕ → ℕ) (taken : ℕ) (c : WayOf position via next p w pick taken)
+      (w : ways.Way net keeps intent steps are position via next) (pick : ℕ → ℕ) (taken : ℕ) (c : WayOf position via next p w pick taken)
       : Type 0 where
     pub into : way_of net c.stop p.destination ≡ Into next
     pub behind : left_after net next c.left ≡ Some w.left
@@ -120,7 +120,7 @@ module _ (net : Network) (keeps : Keeps net) (facts : FlatFacts net) (intent : I
     pub hop_limit : p.hop_limit ≡ hop
 
   pub comes-at : (position : ℕ) (via : Option ℕ) (next : ℕ) (x : lists.ListPlace) (hop : ℕ) (p : Packet)
-      (w : meaning.Way net keeps intent steps are position via next) (pick : ℕ → ℕ) (taken : ℕ)
+      (w : ways.Way net keeps intent steps are position via next) (pick : ℕ → ℕ) (taken : ℕ)
       → active x ≡ list_sid net (prefix_at net next) → Along tunnel x hop p → (c : WayOf position via next p w pick taken)
       → ComesAt position via next x hop p w pick taken c
   comes-at position via next x hop p w pick taken is along c =

@@ -1,14 +1,9 @@
 -- What is found behind links in the graph of nodes and steps is found in the graph of the nodes alone, with the same number of lowerings.
-use Rattle.std.proofs.Common.{◌≡◌, ℕ, zero, suc, ◌+◌, ◌<◌, max, ◌==◌, Bool, true, false, if◌then◌else◌, List, [], ◌∷◌, map, length, Option, Some, None, refl, sym, ◌∙◌, ap, arith}
+use Rattle.std.proofs.Common.{◌≡◌, ℕ, zero, suc, ◌+◌, ◌<◌, max, ◌==◌, true, List, [], ◌∷◌, map, length, Option, Some, None, refl, sym, ◌∙◌, ap, arith}
 use Rattle.std.specs.Option.{option_map, option_and_then}
-use Rattle.srv6_rules.specs.declared.sid.Family.TheVariants as families
-use Rattle.srv6_rules.specs.declared.sid.Reason.TheVariants as reasons
-use Rattle.net_model.specs.declared.net.Hit.{Hit}
-use Rattle.net_model.specs.declared.net.Hit.TheVariants as hits
 use Rattle.net_model.specs.Network.{Network}
 use Rattle.net_model.specs.Keeps.{Keeps}
-use Rattle.net_model.specs.Best.{lookup_of}
-use Rattle.walk_rules.specs.Way.{Way, Away, Over, Own, Into, way_of, way_by_hit, is_multicast_of}
+use Rattle.walk_rules.specs.Way.{Way, Away, Over, Own, Into, way_of}
 use Rattle.step_traces.specs.declared.steps.Step.{Step}
 use Rattle.step_traces.specs.Traces.{Crossed, left_behind}
 use Rattle.loose_graph.specs.declared.spots.Spot.{Spot}
@@ -19,26 +14,10 @@ use Rattle.loose_graph.proofs.Depths.{found-deep, found-lost}
 use Rattle.loose_graph.proofs.Joins.{joined_with}
 use Rattle.loose_graph.proofs.Options.{if-some, map-some, none-some, then-some}
 use Rattle.loose_ways.specs.Stops.{ends_in}
-use Rattle.loose_ways.specs.Graphs.{IsLeft, Numbers, arrived, graph_in, lowers_by, next_spot, node_behind, node_or, node_spot_by, nodes_in, numbers_of, spot_behind, spot_by}
+use Rattle.loose_ways.specs.Graphs.{IsLeft, Numbers, arrived, graph_in, next_spot, node_behind, node_or, node_spot_by, nodes_in, numbers_of, spot_behind, spot_by}
 use Rattle.loose_ways.proofs.Making.{graph-is, row-get}
 use Rattle.loose_ways.proofs.Quiet.{end-there, left-on}
 use Rattle.loose_kinds.specs.Longest.{most_behind, most_of}
-
--- a packet that has come over a link lowers its hop limit with the next one
-pub arrived-lowers : (net : Network) (node destination : ℕ) → lowers_by (way_of net (arrived node) destination) ≡ true
-unfolding way_of
-arrived-lowers net node destination = by_kind (is_multicast_of families.V6 destination)
-  where
-    by_hit : (h : Hit) → lowers_by (way_by_hit net true h) ≡ true
-    by_hit (hits.Sid n) = refl
-    by_hit hits.Address = refl
-    by_hit (hits.Route n) = refl
-    by_hit hits.Nothing = refl
-
-    by_kind : (b : Bool) → lowers_by (if b then Away reasons.Multicast
-        else way_by_hit net true (lookup_of net node 0 families.V6 destination)) ≡ true
-    by_kind true = refl
-    by_kind false = by_hit (lookup_of net node 0 families.V6 destination)
 
 -- what is found, as the graph of the nodes says it: all answers are one
 abbrev pub flat : Found → Found

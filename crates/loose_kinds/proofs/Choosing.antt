@@ -18,11 +18,13 @@ use Rattle.walk_rules.specs.Way.{Way, Away, Over, Own, Into, way_of}
 use Rattle.walk_rules.proofs.PublicLaws.{free-again, free-hand}
 use Rattle.intent_reader.specs.declared.intent.Intent.{Intent}
 use Rattle.loose_graph.proofs.Walking.{put_first}
-use Rattle.loose_ways.proofs.Quiet.{IsQuiet, address-quiet, into-quiet}
+use Rattle.loose_ways.proofs.Quiet.{address-quiet, into-quiet}
+use Rattle.loose_ways.specs.Stops.{SendsNothing}
+use Rattle.loose_ways.proofs.Simulating.{walk-none}
 use Rattle.leg_table.specs.Leg.{place_from}
 use Rattle.leg_table.proofs.Handing.{walk-same}
 use Rattle.loose_kinds.specs.Longest.{AreLongest, HasMost, Longest, TakesMost, links_of, most_behind}
-use Rattle.loose_kinds.proofs.Stages.{Takes, rest_of, walk-none, walk-stage, walk-zero}
+use Rattle.loose_kinds.proofs.Stages.{Takes, rest_of, walk-stage, walk-zero}
 
 -- a member of a set with the greatest value
 best-member : (value : ℕ → ℕ) (set : List ℕ) → 0 < length set
@@ -65,7 +67,7 @@ best-choice net a (x ∷ xs) =
     )
 
 -- what sends nothing takes what has most, and so does what is no IPv6 packet
-quiet-takes : (net : Network) (s : Stage) (o : Outcome) → IsQuiet o → TakesMost net s o
+quiet-takes : (net : Network) (s : Stage) (o : Outcome) → SendsNothing o → TakesMost net s o
 quiet-takes net s (outcomes.Send link) q = absurd q
 quiet-takes net s (outcomes.Again n how) q = tt
 quiet-takes net s (outcomes.Hand n how family) q = tt

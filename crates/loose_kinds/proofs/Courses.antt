@@ -30,12 +30,14 @@ use Rattle.loose_ways.specs.Stops.{ends_in}
 use Rattle.loose_ways.specs.Graphs.{IsLeft, Numbers, arrived, graph_in, lowers_by, next_spot, numbers_of, spot_by, start_at}
 use Rattle.loose_ways.proofs.Making.{graph-is}
 use Rattle.loose_ways.proofs.Quiet.{left-on}
+use Rattle.loose_ways.proofs.Simulating.{arrived-lowers}
 use Rattle.leg_table.specs.Ride.{one_if, with_hop_limit}
 use Rattle.leg_table.specs.Trace.{Crossed, Handed}
+use Rattle.leg_table.proofs.Handing.{same_left}
 use Rattle.leg_table.proofs.Rides.{same_packet}
 use Rattle.loose_kinds.specs.Kind.{behind_event, hand_of}
 use Rattle.loose_kinds.specs.Longest.{AreLongest, HasMost, links_of, most_behind}
-use Rattle.loose_kinds.proofs.Behind.{arrived-lowers, link-parts, most-is}
+use Rattle.loose_kinds.proofs.Behind.{link-parts, most-is}
 use Rattle.loose_kinds.proofs.Stages.{Hands, behind-none, behind-one, behind_links, first-hands, hand-stage, longest-stage, none-dropped}
 
 -- the way of a packet to the SID that all choices come to: its links, where it ends and what steps are left there, by how much the hop
@@ -67,12 +69,6 @@ pub record Course (net : Network) (a : ℕ) (steps ts : List Step) (place : Plac
 -- the hop limit is high enough for every way, or the packet is handed over on its own
 abbrev pub Passes : Network → Place → Packet → (ℕ → ℕ) → ℕ → Found → Type 0
 Passes net place p pick taken f = (f.most < p.hop_limit) ⊎ ((h : Handed) × Hands net place (V6 p) pick taken h)
-
-lowered-hop : (lower : Bool) (p : Packet) (k : ℕ)
-    → with_hop_limit ((lowered lower p).hop_limit - k) (lowered lower p) ≡ with_hop_limit (p.hop_limit - (one_if lower + k)) p
-lowered-hop true p k =
-    let e : p.hop_limit - 1 - k ≡ p.hop_limit - (1 + k) = omega arith in ap (λ (n : ℕ). with_hop_limit n p) e
-lowered-hop false p k = let e : p.hop_limit - k ≡ p.hop_limit - (0 + k) = omega arith in ap (λ (n : ℕ). with_hop_limit n p) e
 
 lowered-below : (lower : Bool) (p : Packet) (k : ℕ) → (lower ≡ true → 1 < p.hop_limit)
     → (0 < (lowered lower p).hop_limit → k < (lowered lower p).hop_limit) → 0 < p.hop_limit → one_if lower + k < p.hop_limit
@@ -217,7 +213,7 @@ module _ (net : Network) (keeps : Keeps net) (a : ℕ) (steps : List Step) where
           (taken + length (link ∷ c.links))
       goes-on fuel =
           let n : taken + 1 + length c.links ≡ taken + length (link ∷ c.links) = omega arith in
-          ap₂ (λ (r : Packet) (k : ℕ). free_walk_of fuel net (Some c.stop) (V6 r) pick k) (lowered-hop lower p c.lowered) n
+          ap₂ (λ (r : Packet) (k : ℕ). free_walk_of fuel net (Some c.stop) (V6 r) pick k) (same_left p lower c.lowered) n
 
       long : (fuel : ℕ)
           → HasMost net p.destination (links_of (way_of net place p.destination)) link

@@ -1,5 +1,5 @@
 -- Over a leg, and over a finish: what is handed over of a packet on it, and how far it was lowered on a longest way.
-use Rattle.std.proofs.Common.{◌≡◌, ℕ, suc, ◌+◌, ◌-◌, ◌*◌, ◌<◌, ◌≤◌, ◌⊎◌, inl, inr, Bool, true, false, if◌then◌else◌, List, [], ◌∷◌, drop, length, Option, Some, None, slice_get, refl, sym, ◌∙◌, ap, subst, arith}
+use Rattle.std.proofs.Common.{◌≡◌, ℕ, suc, ◌+◌, ◌-◌, ◌*◌, ◌<◌, ◌≤◌, ◌⊎◌, inl, inr, true, List, [], ◌∷◌, drop, length, Option, Some, None, slice_get, refl, sym, ◌∙◌, ap, subst, arith}
 use Rattle.std.specs.Option.{option_map}
 use Rattle.std.proofs.lemmas.Bool.{cases_lt}
 use Rattle.srv6_rules.specs.declared.sid.Family.{Family}
@@ -23,22 +23,21 @@ use Rattle.step_traces.specs.declared.steps.Step.{Step}
 use Rattle.leg_table.specs.Leg.{place_behind, place_from}
 use Rattle.leg_table.specs.OneLeg.{GoesOver, HandsOver, LegKind, OnWay}
 use Rattle.leg_table.specs.Ride.{with_hop_limit}
-use Rattle.leg_table.specs.Sids.{hands_over, is_binding, sid_binds, takes_step}
+use Rattle.leg_table.specs.Sids.{hands_over, takes_step}
 use Rattle.leg_table.specs.Trace.{Handed}
-use Rattle.leg_table.proofs.Executions.{step-parts}
 use Rattle.leg_table.proofs.FlatNets.{FlatFacts}
 use Rattle.leg_table.proofs.NextRides.{last-sid, middle-sid}
-use Rattle.leg_table.proofs.Options.{map-some, some-same}
+use Rattle.leg_table.proofs.Options.{some-same}
 use Rattle.leg_table.proofs.Segments.{behind-again, last-exposes, mid-low, mid-onward}
 use Rattle.loose_meanings.specs.Legs.{finish_of, leg_of}
 use Rattle.loose_meanings.specs.Steps.{AreSteps}
-use Rattle.loose_meanings.proofs.Meaning.{finish-way, leg-way}
-use Rattle.loose_kinds.specs.Kind.{behind_execution, hand_of, loose_kind}
+use Rattle.loose_meanings.proofs.Ways.{finish-way, leg-way}
+use Rattle.loose_kinds.specs.Kind.{behind_execution, loose_kind}
 use Rattle.loose_kinds.specs.Longest.{AreLongest, Longest}
 use Rattle.loose_kinds.proofs.Arrivals.{comes-at, course-over, from-place, over-place, to-sid, way-of}
 use Rattle.loose_kinds.proofs.Courses.{Course}
 use Rattle.loose_graph.specs.declared.spots.Found.{Found}
-use Rattle.loose_kinds.proofs.Stages.{Hands, behind_links, first-hands, longest-fewer, longest-stage, none-dropped}
+use Rattle.loose_kinds.proofs.Stages.{Hands, again-over, behind_links, first-hands, longest-fewer, longest-stage, none-dropped}
 
 -- the execution of a middle SID that is not the last of a list: the stage, and where the packet stands after it
 pub record Onward (net : Network) (tunnel : Tunnel) (at : Place) (next : ℕ) (sid : SidEntry) (y : lists.ListPlace) (limit : ℕ) (q : Packet)
@@ -64,11 +63,6 @@ middle-onward net tunnel at next sid x y limit q choice along into there on take
 sids-behind : (links : List ℕ) (n : ℕ) (h g last : Handed) → behind_links links g ≡ h → behind_execution n last ≡ g → h.sids ≡ n ∷ last.sids
 sids-behind links n h g last one two = sym (ap (λ (x : Handed). x.sids) one) ∙ sym (ap (λ (x : Handed). x.sids) two)
 
--- a middle SID binds no policy
-pub middle-unbound : (net : Network) (next : ℕ) (sid : SidEntry) → slice_get net.sids next ≡ Some sid → takes_step sid ≡ true
-    → is_binding net next ≡ false
-middle-unbound net next sid there takes = ap sid_binds there ∙ (step-parts sid takes).1
-
 module _ (net : Network) (tunnel : Tunnel) (at : Place) (next : ℕ) (sid : SidEntry) (x y : lists.ListPlace) (limit : ℕ) (q : Packet)
     (along : Along tunnel x limit q) (into : way_of net at q.destination ≡ Into next) (there : slice_get net.sids next ≡ Some sid)
     (on : StandsOn sid (active x)) (takes : takes_step sid ≡ true) (to : next_of x ≡ Some y) (pick : ℕ → ℕ) (taken : ℕ) where
@@ -86,21 +80,8 @@ module _ (net : Network) (tunnel : Tunnel) (at : Place) (next : ℕ) (sid : SidE
   pub middle-over : (o : Onward net tunnel at next sid y limit q (pick taken)) → (h : Handed) → Hands net at (V6 q) pick taken h
       → (g : Handed) × Hands net (place_behind next sid) (V6 o.packet) pick (taken + 0) g × (behind_execution next g ≡ h)
   middle-over o h hands =
-      let how = onward_from next sid.behaviour in
-      let first = first-hands net at (V6 q) pick taken h (goes (outcomes.Again next how) (V6 o.packet)) o.gives hands in
-      let later =
-      hand_of net (free_walk_of first.0 net (next_place net at (outcomes.Again next how)) (V6 o.packet) pick (taken + 0)) in
-      let unbound =
-      sym (ap (λ (b : Bool). if b then None else option_map (behind_execution next) later) (middle-unbound net next sid there takes))
-      ∙ first.1 in
-      let got = map-some (behind_execution next) later h unbound in (
-        got.0,
-        (
-          first.0,
-          sym (ap (λ (at : Option Place). hand_of net (free_walk_of first.0 net at (V6 o.packet) pick (taken + 0))) o.leads) ∙ got.1,
-        ),
-        got.2,
-      )
+      again-over net at (place_behind next sid) (V6 q) (V6 o.packet) pick taken h next (onward_from next sid.behaviour) o.gives o.leads
+      hands
 
 module _ (net : Network) (keeps : Keeps net) (facts : FlatFacts net) (intent : Intent) (steps : List Step) (are : AreSteps net intent steps)
     (tunnel : Tunnel) where

@@ -2,16 +2,19 @@
 use Rattle.std.proofs.Common.{◌≡◌, ℕ, zero, suc, ◌+◌, ◌≤◌, Bool, true, false, if◌then◌else◌, List, [], ◌∷◌, ◌++◌, map, Option, Some, None, refl, sym, ◌∙◌, ap, subst, arith}
 use Rattle.std.specs.Option.{option_map}
 use Rattle.std.proofs.lemmas.List.Elements.{All-cons, All-head, All-nil, All-tail}
+use Rattle.srv6_rules.specs.declared.sid.Family.{Family}
 use Rattle.srv6_rules.specs.Packet.{Content}
 use Rattle.net_model.specs.Network.{Network}
+use Rattle.walk_rules.specs.declared.place.How.{How}
 use Rattle.walk_rules.specs.declared.place.Place.{Place}
 use Rattle.walk_rules.specs.declared.place.Outcome.{Outcome}
 use Rattle.walk_rules.specs.declared.place.Outcome.TheVariants as outcomes
-use Rattle.walk_rules.specs.Treatment.{Gave, free_step_of}
+use Rattle.walk_rules.specs.Treatment.{Gave, free_step_of, goes}
 use Rattle.walk_rules.specs.Walk.{Stage, decisions, free_walk_of, next_place, walk_by}
+use Rattle.loose_ways.proofs.Simulating.{walk-none}
 use Rattle.leg_table.specs.Sids.{is_binding}
-use Rattle.leg_table.specs.Trace.{Crossed, Handed}
-use Rattle.leg_table.proofs.Options.{map-some}
+use Rattle.leg_table.specs.Trace.{Crossed, Executed, Handed}
+use Rattle.leg_table.proofs.Options.{map-some, some-same}
 use Rattle.loose_kinds.specs.Kind.{behind_event, behind_execution, hand_first, hand_of}
 use Rattle.loose_kinds.specs.Longest.{AreLongest, TakesMost}
 
@@ -41,11 +44,6 @@ module _ (net : Network) where
   unfolding walk_by
   walk-stage more place content pick taken gave e =
       ap (λ (g : Gave). record { place = place; before = content; gave = g } ∷ rest_of more place pick taken g) e
-
-  pub walk-none : (fuel : ℕ) (content : Content) (pick : ℕ → ℕ) (taken : ℕ) → free_walk_of fuel net None content pick taken ≡ []
-  unfolding walk_by
-  walk-none zero content pick taken = refl
-  walk-none (suc fuel) content pick taken = refl
 
   pub walk-zero : (o : Option Place) (content : Content) (pick : ℕ → ℕ) (taken : ℕ) → free_walk_of zero net o content pick taken ≡ []
   unfolding walk_by
@@ -82,18 +80,63 @@ module _ (net : Network) where
       let same : None ≡ Some h = sym (none _) ∙ first.1 in
       absurd (cc)
 
+  -- an execution before what is handed over binds no policy
+  pub again-parts : (n : ℕ) (later : Option Handed) (h : Handed)
+      → (if is_binding net n then None else option_map (behind_execution n) later) ≡ Some h
+      → (is_binding net n ≡ false) × (k : Handed) × (later ≡ Some k) × (behind_execution n k ≡ h)
+  again-parts n later h e = by_binding (is_binding net n) e
+    where
+      by_binding : (b : Bool) → (if b then None else option_map (behind_execution n) later) ≡ Some h
+          → (b ≡ false) × (k : Handed) × (later ≡ Some k) × (behind_execution n k ≡ h)
+      by_binding true e = absurd (cc)
+      by_binding false e = let got = map-some (behind_execution n) later h e in (refl, got.0, got.1, got.2)
+
+  again-from : (n : ℕ) (later : Option Handed) (k : Handed) → is_binding net n ≡ false → later ≡ Some k
+      → (if is_binding net n then None else option_map (behind_execution n) later) ≡ Some (behind_execution n k)
+  again-from n later k unbound e =
+      ap (λ (b : Bool). if b then None else option_map (behind_execution n) later) unbound ∙ ap (option_map (behind_execution n)) e
+
+  -- after an execution that binds no policy
+  pub hand-behind : (fuel : ℕ) (place next : Place) (content after : Content) (pick : ℕ → ℕ) (taken n : ℕ) (how : How) (h : Handed)
+      → free_step_of net place content (pick taken) ≡ goes (outcomes.Again n how) after
+      → next_place net place (outcomes.Again n how) ≡ Some next → is_binding net n ≡ false
+      → hand_of net (free_walk_of fuel net (Some next) after pick (taken + 0)) ≡ Some h
+      → hand_of net (free_walk_of (suc fuel) net (Some place) content pick taken) ≡ Some (behind_execution n h)
+  hand-behind fuel place next content after pick taken n how h stage leads unbound e =
+      let gave = goes (outcomes.Again n how) after in
+      hand-stage fuel place content pick taken gave stage
+      ∙ again-from n (hand_of net (rest_of fuel place pick taken gave)) h unbound
+      (ap (λ (o : Option Place). hand_of net (free_walk_of fuel net o after pick (taken + 0))) leads ∙ e)
+
+  -- what is handed over from an execution is handed over behind it
+  pub again-over : (at next : Place) (content after : Content) (pick : ℕ → ℕ) (taken : ℕ) (h : Handed) (n : ℕ) (how : How)
+      → free_step_of net at content (pick taken) ≡ goes (outcomes.Again n how) after → next_place net at (outcomes.Again n how) ≡ Some next
+      → Hands at content pick taken h → (k : Handed) × Hands next after pick (taken + 0) k × (behind_execution n k ≡ h)
+  again-over at next content after pick taken h n how gives leads hands =
+      let gave = goes (outcomes.Again n how) after in
+      let first = first-hands at content pick taken h gave gives hands in
+      let got = again-parts n (hand_of net (rest_of first.0 at pick taken gave)) h first.1 in (
+        got.1,
+        (first.0, sym (ap (λ (o : Option Place). hand_of net (free_walk_of first.0 net o after pick (taken + 0))) leads) ∙ got.2),
+        got.3,
+      )
+
+  -- where the packet inside is exposed that is all
+  pub hand-over : (at : Place) (content after : Content) (pick : ℕ → ℕ) (taken : ℕ) (h : Handed) (n : ℕ) (how : How) (family : Family)
+      → free_step_of net at content (pick taken) ≡ goes (outcomes.Hand n how family) after → Hands at content pick taken h
+      → (h.sids ≡ n ∷ []) × (h.trace ≡ Executed n ∷ [])
+  hand-over at content after pick taken h n how family gives hands =
+      let first = first-hands at content pick taken h (goes (outcomes.Hand n how family) after) gives hands in
+      let own : Handed = record { trace = Executed n ∷ []; sids = n ∷ []; content = after } in
+      let same = some-same own h first.1 in
+      (sym (ap (λ (k : Handed). k.sids) same), sym (ap (λ (k : Handed). k.trace) same))
+
   hand-more_first : (gave : Gave) (o : Outcome) (later more : Option Handed) (h : Handed) → ((k : Handed) → later ≡ Some k → more ≡ Some k)
       → hand_first net gave o later ≡ Some h → hand_first net gave o more ≡ Some h
   hand-more_first gave (outcomes.Hand n how family) later more h f e = e
   hand-more_first gave (outcomes.Again n how) later more h f e =
-      by_binding (is_binding net n) e
-    where
-      by_binding : (b : Bool) → (if b then None else option_map (behind_execution n) later) ≡ Some h
-          → (if b then None else option_map (behind_execution n) more) ≡ Some h
-      by_binding true e = e
-      by_binding false e =
-          let got = map-some (behind_execution n) later h e in
-          ap (option_map (behind_execution n)) (f got.0 got.1) ∙ ap Some got.2
+      let got = again-parts n later h e in
+      again-from n more got.1 got.0 (f got.1 got.2) ∙ ap Some got.3
   hand-more_first gave (outcomes.Send link) later more h f e =
       let got = map-some (behind_event (Crossed link)) later h e in
       ap (option_map (behind_event (Crossed link))) (f got.0 got.1) ∙ ap Some got.2
@@ -112,6 +155,14 @@ module _ (net : Network) where
       hand-more_first gave gave.outcome (hand_of net (rest_of few place pick taken gave))
       (hand_of net (rest_of many place pick taken gave)) h
       (λ k. hand-more few many (omega arith) (next_place net place gave.outcome) gave.after pick (taken + decisions gave.outcome) k) e
+
+  -- so whatever is handed over is one
+  pub hand-one : (place : Place) (content : Content) (pick : ℕ → ℕ) (taken : ℕ) (h k : Handed)
+      → Hands place content pick taken h → Hands place content pick taken k → h ≡ k
+  hand-one place content pick taken h k a b =
+      some-same h k
+      (sym (hand-more a.0 (a.0 + b.0) (omega arith) (Some place) content pick taken h a.1)
+      ∙ hand-more b.0 (a.0 + b.0) (omega arith) (Some place) content pick taken k b.1)
 
   -- ---- longest ways
 
@@ -137,7 +188,7 @@ module _ (net : Network) where
       subst (AreLongest net) (sym (walk-zero o content pick taken)) (All-nil Takes)
   longest-fewer (suc few) zero l o content pick taken all = absurd (omega arith)
   longest-fewer (suc few) (suc many) l None content pick taken all =
-      subst (AreLongest net) (sym (walk-none (suc few) content pick taken)) (All-nil Takes)
+      subst (AreLongest net) (sym (walk-none net (suc few) content pick taken)) (All-nil Takes)
   longest-fewer (suc few) (suc many) l (Some place) content pick taken all =
       let gave = free_step_of net place content (pick taken) in
       let parts = longest-stage many place content pick taken gave refl all in

@@ -20,11 +20,11 @@ use Rattle.loose_graph.proofs.Options.{map-some, none-some, some-same}
 use Rattle.loose_graph.proofs.Walking.{put_first}
 use Rattle.loose_ways.specs.Graphs.{IsLeft, Numbers, arrived, graph_in, lowers_by, next_spot, numbers_of, spot_by, start_at}
 use Rattle.loose_ways.proofs.Making.{graph-is}
+use Rattle.loose_ways.proofs.Simulating.{arrived-lowers}
 use Rattle.leg_table.specs.Ride.{one_if, with_hop_limit}
 use Rattle.leg_table.proofs.Handing.{walk-same}
 use Rattle.loose_kinds.specs.Kind.{hand_of}
 use Rattle.loose_kinds.specs.Longest.{AreLongest}
-use Rattle.loose_kinds.proofs.Behind.{arrived-lowers}
 use Rattle.loose_kinds.proofs.Courses.{Course, Member, here-course, lowered-most, lowered-to, member-found, over-sends, sent-course}
 use Rattle.loose_kinds.proofs.Stages.{behind_links}
 

@@ -1,8 +1,7 @@
 -- The kind of loose legs keeps the laws of its kind where it keeps those of one leg.
-use Rattle.std.proofs.Common.{◌≡◌, ◌+◌, ◌≤◌, not, List, length, Option, slice_get, sym, ◌∙◌, ap}
+use Rattle.std.proofs.Common.{◌≡◌, ◌+◌, ◌≤◌, not, List, length, slice_get, sym, ◌∙◌, ap}
 use Rattle.std.proofs.lemmas.Bool.{and_parts}
 use Rattle.srv6_rules.specs.Behaviours.{goes_on}
-use Rattle.srv6_rules.specs.declared.sid.SidEntry.{SidEntry}
 use Rattle.net_model.specs.Network.{Network}
 use Rattle.net_model.specs.Keeps.{Keeps}
 use Rattle.net_model.specs.Rules.{IsNetwork}
@@ -14,9 +13,9 @@ use Rattle.list_pack.specs.Meaning.{AreSidsOf}
 use Rattle.step_traces.specs.declared.steps.Step.{Step}
 use Rattle.leg_table.specs.OneLeg.{KindLaws, LegKind, LegLaws}
 use Rattle.leg_table.specs.Sids.{binds, sid_goes_on}
-use Rattle.leg_table.specs.Table.{node_by, shape_by}
 use Rattle.leg_table.proofs.FlatNets.{FlatFacts, flat-facts}
 use Rattle.leg_table.proofs.ListShapes.{suits-by}
+use Rattle.leg_table.proofs.Shapes.{sid-shape}
 use Rattle.leg_table.proofs.Stays.{stays-follow}
 use Rattle.leg_table.proofs.StrictLaws.{shape-middle}
 use Rattle.loose_meanings.specs.Steps.{AreSteps}
@@ -40,17 +39,8 @@ module _ (net : Network) (intent : Intent) (steps : List Step) (network : IsNetw
 
   sids-of : AreSidsOf (loose_legs_value net intent steps) net
   sids-of n is =
-      let s = sid-there net keeps intent steps is.0 n (contained-sid net keeps intent steps is.0 n is.2) in (
-        s.0,
-        s.1,
-        record {
-          prefix = ap (λ (o : Option SidEntry). (shape_by net.blocks o).prefix) s.1;
-          block = ap (λ (o : Option SidEntry). (shape_by net.blocks o).block) s.1;
-          lbl = ap (λ (o : Option SidEntry). (shape_by net.blocks o).lbl) s.1;
-          csid = ap (λ (o : Option SidEntry). (shape_by net.blocks o).csid) s.1;
-        },
-        sym (ap node_by s.1),
-      )
+      let s = sid-there net keeps intent steps is.0 n (contained-sid net keeps intent steps is.0 n is.2) in
+      let is_shape = sid-shape net n s.0 s.1 in (s.0, s.1, is_shape.0, is_shape.1)
 
   -- at most 128 SIDs, as many as a search takes
   pub loose-kind_laws : length net.sids ≤ 128 → ((t : Tunnel) → t.inner ≡ intent.inner → LegLaws k (Longest net intent) t)

@@ -24,7 +24,8 @@ ghost use Rattle.step_traces.specs.declared.steps.Step.{Step};
 pub fn what_is_handed_over_on_a_loose_leg_is_handed_over_behind_it()
     ensures leg { (net : Network) (intent : Intent) (steps : List Step) → IsNetwork net →
         IsFlat net → AreSteps net intent steps → (t : Tunnel) (x y : ListPlace) (position : ℕ) →
-        (via : Option ℕ) (next : ℕ) (leg : Leg) (hop : ℕ) (p : Packet) (pick : ℕ → ℕ) (taken : ℕ) (h : Handed) →
+        (via : Option ℕ) (next : ℕ) (leg : Leg) (hop : ℕ) (p : Packet) (pick : ℕ → ℕ) (taken : ℕ)
+        (h : Handed) →
         leg_of net intent steps position via next ≡ Some leg →
         OnWay (loose_kind net intent steps) t x hop p next → next_of x ≡ Some y →
         HandsOver (loose_kind net intent steps) via p pick taken h →
@@ -32,8 +33,9 @@ pub fn what_is_handed_over_on_a_loose_leg_is_handed_over_behind_it()
         taken h }
     ensures finish { (net : Network) (intent : Intent) (steps : List Step) → IsNetwork net →
         IsFlat net → AreSteps net intent steps → (t : Tunnel) → t.inner ≡ intent.inner →
-        (x : ListPlace) (position : ℕ) (via : Option ℕ) (next lowered hop : ℕ) (p : Packet) (pick : ℕ → ℕ) →
-        (taken : ℕ) (h : Handed) → finish_of net intent steps position via next ≡ Some lowered →
+        (x : ListPlace) (position : ℕ) (via : Option ℕ) (next lowered hop : ℕ) (p : Packet) →
+        (pick : ℕ → ℕ) (taken : ℕ) (h : Handed) →
+        finish_of net intent steps position via next ≡ Some lowered →
         OnWay (loose_kind net intent steps) t x hop p next → next_of x ≡ None →
         HandsOver (loose_kind net intent steps) via p pick taken h →
         (h.sids ≡ next ∷ []) × (Longest net intent via p pick taken → 0 < hop → lowered < hop) }

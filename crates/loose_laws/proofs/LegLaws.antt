@@ -1,15 +1,14 @@
 -- The legs along steps of which some may be to reach a node keep the laws of legs.
-use Rattle.std.proofs.Common.{◌≡◌, ℕ, ◌+◌, ◌-◌, ◌/◌, ◌%◌, ◌<◌, ◌≤◌, true, ◌==◌, ◌||◌, nat_le, List, [], length, drop, Option, Some, None, slice_get, Contains, refl, sym, ◌∙◌, ap, subst, arith, eqb-true, length-append}
+use Rattle.std.proofs.Common.{◌≡◌, ℕ, ◌+◌, ◌-◌, ◌/◌, ◌%◌, ◌<◌, ◌≤◌, true, ◌==◌, nat_le, List, [], length, drop, Option, Some, None, slice_get, Contains, refl, sym, ◌∙◌, ap, subst, arith, eqb-true, length-append}
 use Rattle.std.specs.Prelude.{is_some}
 use Rattle.std.specs.Option.{option_map}
-use Rattle.std.proofs.lemmas.Bool.{false≢true, and_parts, leb-true}
+use Rattle.std.proofs.lemmas.Bool.{and_parts, leb-true}
 use Rattle.std.proofs.lemmas.List.{length-drop}
 use Rattle.v6_addr.specs.Address.{PrefixValue}
 use Rattle.srv6_rules.specs.declared.sid.SidEntry.{SidEntry}
 use Rattle.srv6_rules.specs.Packet.{Packet, V6}
 use Rattle.net_model.specs.Network.{Network}
 use Rattle.net_model.specs.Keeps.{Keeps}
-use Rattle.net_model.specs.declared.parts.Block.{Block}
 use Rattle.walk_rules.specs.declared.place.Place.{Place}
 use Rattle.walk_rules.specs.Walk.{free_walk_of}
 use Rattle.walk_rules.proofs.PublicLaws.{way-into}
@@ -24,27 +23,20 @@ use Rattle.loose_ways.specs.Stops.{ends_in, first_stop}
 use Rattle.loose_ways.proofs.Nodes.{few-lowerings_from}
 use Rattle.loose_ways.proofs.Reaching.{stop-left, where-found}
 use Rattle.leg_table.specs.Leg.{place_behind, place_from}
-use Rattle.leg_table.specs.Sids.{first_address, is_middle, sid_address, sid_goes_on}
-use Rattle.leg_table.specs.Table.{shape_by, shape_of}
+use Rattle.leg_table.specs.Sids.{is_middle, sid_address}
+use Rattle.leg_table.specs.Table.{shape_of}
 use Rattle.leg_table.proofs.FlatNets.{FlatFacts}
 use Rattle.leg_table.proofs.Shapes.{shape-is, shapes-share}
+use Rattle.leg_table.proofs.StrictLaws.{comes-by, shape-address, shape-middle}
 use Rattle.loose_meanings.specs.Legs.{finish_of, leg_of, left_after}
 use Rattle.loose_meanings.specs.Sids.{is_sid_at, is_start, is_via, may_be, sid_suits, step_before}
 use Rattle.loose_meanings.specs.Steps.{AreSteps, node_at, stand_after, steps_left}
 use Rattle.loose_meanings.proofs.Always.{left-is}
-use Rattle.loose_meanings.proofs.Meaning.{Way, finish-way, leg-way, start-at}
 use Rattle.loose_meanings.proofs.Stops.{stop-facts}
+use Rattle.loose_meanings.proofs.Ways.{Way, finish-way, leg-way, start-at}
 use Rattle.loose_laws.specs.Value.{loose_legs_value, sids_of}
 use Rattle.loose_laws.proofs.Positions.{sid-contained, sids-few, sids-ordered}
 use Rattle.loose_laws.proofs.Standing.{Stands, crossed-stands, end-sid, first_of, first-drop, may-here, start-stands}
-
-shape-middle : (blocks : List Block) (o : Option SidEntry) → (shape_by blocks o).middle ≡ sid_goes_on o
-shape-middle blocks None = refl
-shape-middle blocks (Some s) = refl
-
-shape-address : (blocks : List Block) (o : Option SidEntry) → (shape_by blocks o).prefix.value ≡ first_address o
-shape-address blocks None = refl
-shape-address blocks (Some s) = refl
 
 -- a packet to an address, with a hop limit
 packet_to : ℕ → ℕ → Packet
@@ -123,7 +115,8 @@ module _ (net : Network) (keeps : Keeps net) (intent : Intent) (steps : List Ste
       let x =
       stop-facts net p (Stands net intent steps)
       (λ ts us at set lower link node way left end holds. crossed-stands net intent steps ts us at link node left end holds)
-      (p.hop_limit + 2) p.hop_limit w.place (λ d. 0) 0 (drop position steps) c.stop (via-stands position via w.place w.start w.from) first in
+      (p.hop_limit + 2) p.hop_limit w.place (λ d. 0) 0 (drop position steps) c.stop (via-stands position via w.place w.start w.from)
+      first in
       let there = way-into net c.stop.stage.place a next c.into in
       let stands : Stands net intent steps c.stop.left c.stop.stage.place = x.holds in
       let left_is : steps_left steps (w.found.answer % 64) ≡ c.stop.left
@@ -203,16 +196,10 @@ module _ (net : Network) (keeps : Keeps net) (intent : Intent) (steps : List Ste
   -- what comes to a SID is a way
   comes-way : (position : ℕ) (via : Option ℕ) (next : ℕ) → comes_to (loose_legs_value net intent steps) position via next ≡ true
       → A position via next
-  comes-way position via next h = by_leg (leg_of net intent steps position via next) refl h
-    where
-      by_finish : (o : Option ℕ) → finish_of net intent steps position via next ≡ o → is_some o ≡ true → A position via next
-      by_finish None e h = absurd (false≢true h)
-      by_finish (Some lowered) e h = (finish-way net keeps intent steps are position via next lowered e).1
-
-      by_leg : (o : Option Leg) → leg_of net intent steps position via next ≡ o
-          → (is_some o || is_some (finish_of net intent steps position via next)) ≡ true → A position via next
-      by_leg None e h = by_finish (finish_of net intent steps position via next) refl h
-      by_leg (Some leg) e h = (leg-way net keeps intent steps are position via next leg e).1
+  comes-way position via next h =
+      comes-by (loose_legs_value net intent steps) (A position via next) position via next
+      (λ leg e. (leg-way net keeps intent steps are position via next leg e).1)
+      (λ lowered e. (finish-way net keeps intent steps are position via next lowered e).1) h
 
   -- ways to one address are one
   same-found : (position : ℕ) (via : Option ℕ) (next other : ℕ) (w : A position via next) (v : A position via other)

@@ -1,5 +1,5 @@
 -- The first stage that sends nothing is behind links whose trace splits into parts of the steps.
-use Rattle.std.proofs.Common.{◌≡◌, ℕ, List, [], ◌∷◌, map, Option, Some, None, refl, sym, ◌∙◌, ap, subst}
+use Rattle.std.proofs.Common.{◌≡◌, ℕ, List, [], ◌∷◌, map, Option, Some, refl, sym, ◌∙◌, ap, subst}
 use Rattle.std.specs.Prelude.{◌↔◌}
 use Rattle.std.specs.Option.{option_and_then}
 use Rattle.net_model.specs.Network.{Network}
@@ -10,8 +10,8 @@ use Rattle.step_traces.specs.declared.steps.Step.{Step}
 use Rattle.step_traces.specs.Traces.{Crossed, left_behind, left_by}
 use Rattle.step_traces.proofs.Splits.{leaves-iff}
 use Rattle.loose_graph.proofs.Options.{some-same, then-some}
-use Rattle.loose_ways.specs.Stops.{Stop, ends_in, first_stop, stop_by}
-use Rattle.loose_laws.specs.Links.{AreSent, IsBehindLinks, SendsNothing}
+use Rattle.loose_ways.specs.Stops.{Stop, ends_in, first_stop, stop_by, SendsNothing}
+use Rattle.loose_laws.specs.Links.{AreSent, IsBehindLinks}
 
 module _ (net : Network) where
   -- the same by the steps that are left

@@ -12,7 +12,7 @@ use Rattle.list_pack.specs.Value.{ascends}
 use Rattle.list_pack.proofs.Orders.{head-less, head-not, head-same}
 use Rattle.step_traces.specs.declared.steps.Step.{Step}
 use Rattle.leg_table.specs.Table.{node_by, node_of, shape_by, shape_of}
-use Rattle.leg_table.proofs.Positions.{contains-first, contains-later, contains-cases}
+use Rattle.leg_table.proofs.Positions.{contains-first, contains-later, contains-cases, put-contains, put-itself, put-length, put-others}
 use Rattle.loose_meanings.specs.Sids.{is_sid_at, sid_suits, step_before}
 use Rattle.loose_meanings.specs.Steps.{node_at}
 use Rattle.loose_laws.specs.Value.{comes_before, loose_legs_value, placed, sids_below, sids_of}
@@ -59,7 +59,8 @@ module _ (net : Network) (keeps : Keeps net) (intent : Intent) (steps : List Ste
       shape-t : (shape_of net m).prefix ≡ t.prefix
       shape-t = ap (λ (o : Option SidEntry). (shape_by net.blocks o).prefix) is_t
 
-      by_case : (((shape_of net n).prefix.value ≡ (shape_of net m).prefix.value) × ((shape_of net n).prefix.len ≡ (shape_of net m).prefix.len)
+      by_case : (((shape_of net n).prefix.value ≡ (shape_of net m).prefix.value)
+          × ((shape_of net n).prefix.len ≡ (shape_of net m).prefix.len)
           × (node_of net n ≡ node_of net m)) ⊎ (comes_before net m n ≡ true) → comes_before net m n ≡ true
       by_case (inr less) = less
       by_case (inl same) =
@@ -70,49 +71,20 @@ module _ (net : Network) (keeps : Keeps net) (intent : Intent) (steps : List Ste
 
   placed-contains : (n : ℕ) (xs : List ℕ) (m : ℕ) → Contains (placed net n xs) m → (n ≡ m) ⊎ Contains xs m
   placed-contains n [] m h = contains-cases n m [] h
-  placed-contains n (x ∷ xs) m h = by_test (comes_before net n x) (λ h. placed-contains n xs m h) h
-    where
-      by_test : (t : Bool) → (Contains (placed net n xs) m → (n ≡ m) ⊎ Contains xs m)
-          → Contains (if t then n ∷ x ∷ xs else x ∷ placed net n xs) m → (n ≡ m) ⊎ Contains (x ∷ xs) m
-      by_test true later h = contains-cases n m (x ∷ xs) h
-      by_test false later h = by_first (contains-cases x m (placed net n xs) h)
-        where
-          by_rest : (n ≡ m) ⊎ Contains xs m → (n ≡ m) ⊎ Contains (x ∷ xs) m
-          by_rest (inl e) = inl e
-          by_rest (inr k) = inr (contains-later x m xs k)
-
-          by_first : (x ≡ m) ⊎ Contains (placed net n xs) m → (n ≡ m) ⊎ Contains (x ∷ xs) m
-          by_first (inl e) = inr (subst (λ (y : ℕ). Contains (x ∷ xs) y) e (contains-first x xs))
-          by_first (inr k) = by_rest (later k)
+  placed-contains n (x ∷ xs) m h =
+      put-contains (comes_before net n x) n x m xs (placed net n xs) (λ h. placed-contains n xs m h) h
 
   placed-itself : (n : ℕ) (xs : List ℕ) → Contains (placed net n xs) n
   placed-itself n [] = contains-first n []
-  placed-itself n (x ∷ xs) = by_test (comes_before net n x) (placed-itself n xs)
-    where
-      by_test : (t : Bool) → Contains (placed net n xs) n → Contains (if t then n ∷ x ∷ xs else x ∷ placed net n xs) n
-      by_test true later = contains-first n (x ∷ xs)
-      by_test false later = contains-later x n (placed net n xs) later
+  placed-itself n (x ∷ xs) = put-itself (comes_before net n x) n x xs (placed net n xs) (placed-itself n xs)
 
   placed-others : (n : ℕ) (xs : List ℕ) (m : ℕ) → Contains xs m → Contains (placed net n xs) m
   placed-others n [] m h = contains-later n m [] h
-  placed-others n (x ∷ xs) m h = by_test (comes_before net n x) (λ h. placed-others n xs m h)
-    where
-      by_test : (t : Bool) → (Contains xs m → Contains (placed net n xs) m) → Contains (if t then n ∷ x ∷ xs else x ∷ placed net n xs) m
-      by_test true later = contains-later n m (x ∷ xs) h
-      by_test false later = by_first (contains-cases x m xs h)
-        where
-          by_first : (x ≡ m) ⊎ Contains xs m → Contains (x ∷ placed net n xs) m
-          by_first (inl e) = subst (λ (y : ℕ). Contains (x ∷ placed net n xs) y) e (contains-first x (placed net n xs))
-          by_first (inr k) = contains-later x m (placed net n xs) (later k)
+  placed-others n (x ∷ xs) m h = put-others (comes_before net n x) n x m xs (placed net n xs) (λ h. placed-others n xs m h) h
 
   placed-length : (n : ℕ) (xs : List ℕ) → length (placed net n xs) ≡ suc (length xs)
   placed-length n [] = refl
-  placed-length n (x ∷ xs) = by_test (comes_before net n x) (placed-length n xs)
-    where
-      by_test : (t : Bool) → length (placed net n xs) ≡ suc (length xs)
-          → length (if t then n ∷ x ∷ xs else x ∷ placed net n xs) ≡ suc (suc (length xs))
-      by_test true e = refl
-      by_test false e = ap suc e
+  placed-length n (x ∷ xs) = put-length (comes_before net n x) n x xs (placed net n xs) (placed-length n xs)
 
   -- a number put into its place keeps the order, where it is before or after each other
   placed-order : (n : ℕ) (xs : List ℕ) → in_order xs ≡ true

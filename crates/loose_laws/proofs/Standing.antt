@@ -222,7 +222,8 @@ module _ (net : Network) (intent : Intent) (steps : List Step) where
           let all : length steps ≡ length su.left.0 + length us = ap length su.left.1 ∙ length-append su.left.0 us in
           let one : length su.left.0 ≡ suc (length before) = omega (arith, whole, part, all) in
           let step : step_before steps (length su.left.0) ≡ Some (Function n)
-          = ap (step_before steps) one ∙ ap (λ (xs : List Step). slice_get xs (length before)) steps_is ∙ get-before before us (Function n) in
+          = ap (step_before steps) one ∙ ap (λ (xs : List Step). slice_get xs (length before)) steps_is
+          ∙ get-before before us (Function n) in
           record {
             few = omega (arith, long, count);
             is_sid =
@@ -280,7 +281,8 @@ module _ (net : Network) (intent : Intent) (steps : List Step) where
 
       by_node : (o : Option ℕ) → node_at net intent steps position ≡ o → Stands net intent steps (drop position steps) place
       by_node None e =
-          absurd (false≢true (ap is_some (sym (ap (option_and_then (λ n. stand_after net n (drop position steps))) e)) ∙ ap is_some (sym split)
+          absurd (false≢true (ap is_some (sym (ap (option_and_then (λ n. stand_after net n (drop position steps))) e))
+          ∙ ap is_some (sym split)
           ∙ whole))
       by_node (Some node) e =
           let opens : is_some (stand_after net node (drop position steps)) ≡ true

@@ -1,25 +1,17 @@
 -- Where stages first send nothing: behind links whose trace splits into parts of the steps. (own rule)
 use Rattle.std.specs.Prelude.{◌≡◌, ℕ, List, [], ◌∷◌, map}
 use Rattle.net_model.specs.Network.{Network}
-use Rattle.walk_rules.specs.declared.place.Outcome.{Outcome}
 use Rattle.walk_rules.specs.declared.place.Outcome.TheVariants as outcomes
 use Rattle.walk_rules.specs.Walk.{Stage}
 use Rattle.step_traces.specs.declared.steps.Step.{Step}
 use Rattle.step_traces.specs.Traces.{Crossed, Leaves}
-use Rattle.loose_ways.specs.Stops.{Stop, ends_in}
+use Rattle.loose_ways.specs.Stops.{SendsNothing, Stop, ends_in}
 
 -- stages cross these links, one after the other, and then the rest comes
 abbrev pub AreSent : List ℕ → List Stage → List Stage → Type 0
 AreSent [] ss rest = ss ≡ rest
 AreSent (link ∷ links) [] rest = ⊥
 AreSent (link ∷ links) (s ∷ ss) rest = (s.gave.outcome ≡ outcomes.Send link) × AreSent links ss rest
-
-abbrev pub SendsNothing : Outcome → Type 0
-SendsNothing (outcomes.Send link) = ⊥
-SendsNothing (outcomes.Again n how) = Unit {0}
-SendsNothing (outcomes.Hand n how family) = Unit {0}
-SendsNothing outcomes.Local = Unit {0}
-SendsNothing (outcomes.Drop reason error) = Unit {0}
 
 -- a stage that sends nothing comes behind links, and their trace splits into the parts of the steps that are finished and what the next one
 -- has begun with: where it is to reach a node, links that all lead to another

@@ -14,17 +14,19 @@ ghost use Rattle.step_traces.specs.declared.steps.Step.{Step};
 ghost use Rattle.walk_rules.specs.Walk.{Stage};
 
 /// In a flat network of at most 128 SIDs the legs and finishes along steps of which some may be to
-/// reach a node keep the laws of legs: each leads on from a SID of its position to one of the position
-/// where it ends, in the order of the SIDs, one for each prefix, by few lowerings (own rule).
+/// reach a node keep the laws of legs: each leads on from a SID of its position to one of the
+/// position where it ends, in the order of the SIDs, one for each prefix, by few lowerings (own
+/// rule).
 pub fn loose_legs_keep_the_laws()
     ensures { (net : Network) (intent : Intent) (steps : List Step) → IsNetwork net → IsFlat net →
         AreSteps net intent steps → length net.sids ≤ 128 →
         KeepsLaws (loose_legs_value net intent steps) }
 {}
 
-/// The first stage that sends nothing, by which the sentences on legs and finishes say where a SID is
-/// executed, is the one behind links whose trace splits into the parts of the steps that are finished
-/// and, where the next one is to reach a node, links that all lead to another node (own rule).
+/// The first stage that sends nothing, by which the sentences on legs and finishes say where a SID
+/// is executed, is the one behind links whose trace splits into the parts of the steps that are
+/// finished and, where the next one is to reach a node, links that all lead to another node (own
+/// rule).
 pub fn a_stop_is_behind_links_that_leave_the_steps()
     ensures { (net : Network) (ts : List Step) (ss : List Stage) (stop : Stop) →
         (first_stop (ends_in net) ts ss ≡ Some stop) ↔ IsBehindLinks net ts ss stop }

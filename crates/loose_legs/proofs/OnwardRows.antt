@@ -1,5 +1,5 @@
 -- What leads on from positions and SIDs, as the rows grow.
-use Rattle.std.proofs.Common.{◌≡◌, ℕ, ◌+◌, ◌-◌, ◌<◌, ◌≤◌, ◌⊎◌, inl, inr, Bool, true, false, ◌==◌, ◌&&◌, nat_le, if◌then◌else◌, List, [], ◌∷◌, ◌++◌, length, Option, Some, None, get_or, slice_get, refl, sym, ◌∙◌, ap, ap₂, subst, arith, eqb-true, length-append}
+use Rattle.std.proofs.Common.{◌≡◌, ℕ, ◌+◌, ◌-◌, ◌<◌, ◌≤◌, ◌⊎◌, inl, inr, Bool, true, false, ◌==◌, ◌&&◌, nat_le, if◌then◌else◌, List, [], ◌∷◌, ◌++◌, length, Option, Some, None, get_or, slice_get, refl, sym, ◌∙◌, ap, ap₂, subst, arith, eqb-true}
 use Rattle.std.specs.Prelude.{IfSome}
 use Rattle.std.specs.Option.{option_map, option_and_then}
 use Rattle.std.proofs.lemmas.Bool.{cases_lt, le-leb, lt-leb}
@@ -14,15 +14,15 @@ use Rattle.list_pack.specs.declared.types.Leg.{Leg}
 use Rattle.step_traces.specs.declared.steps.Step.{Step}
 use Rattle.loose_graph.specs.declared.spots.Found.{Found}
 use Rattle.loose_graph.specs.Tables.{AreFound}
+use Rattle.loose_graph.proofs.Lists.{each-more, list-more}
 use Rattle.loose_ways.specs.Graphs.{found_in, graph_in, numbers_of, start_at}
 use Rattle.loose_ways.proofs.Nodes.{few-lowerings_from}
 use Rattle.leg_table.specs.Leg.{middle_place, middle_place_by, place_behind, place_from}
 use Rattle.leg_table.specs.Sids.{first_address, is_last, is_middle, sid_address, sid_exposes, sid_goes_on, takes_step}
-use Rattle.leg_table.proofs.Options.{get-before, get-pushed, some-same}
 use Rattle.loose_meanings.specs.Legs.{finish_found, leg_found, way_found}
 use Rattle.loose_meanings.specs.Sids.{is_sid_at, is_start, is_via, sid_suits, start_of, step_before}
 use Rattle.loose_meanings.specs.Steps.{AreSteps, node_at, steps_left}
-use Rattle.loose_meanings.proofs.Meaning.{start-at}
+use Rattle.loose_meanings.proofs.Ways.{start-at}
 use Rattle.loose_legs.specs.Table.{AreFurther, AreOnward, AreRowsFrom, AreTables, IsRowFrom, finish_to, leg_to, onward_at, onward_from, onward_of, onward_or_none, row_at, row_or_none}
 use Rattle.loose_legs.specs.declared.onwards.Onward.{Onward}
 
@@ -39,24 +39,10 @@ module _ (net : Network) (steps : List Step) where
       → AreTables net steps count tables → slice_get net.sids count ≡ Some s → a ≡ s.prefix.value
       → AreFound (graph_in net a steps) table → more ≡ tables ++ table ∷ [] → AreTables net steps (count + 1) more
   table-more count a s tables more table are there address is e =
-      let size = length-append tables (table ∷ []) in
-      let long = are.long in
-      let sized : length more ≡ count + 1 = ap length e ∙ size ∙ ap (λ (n : ℕ). n + 1) long in
-      record { long = sized; each = λ n other at. by_place n other at (slice_get_within more n other at) sized (cases_lt n count) }
-    where
-      by_place : (n : ℕ) (other : List (Option Found)) → slice_get more n ≡ Some other → n < length more → length more ≡ count + 1
-          → (n < count) ⊎ (count ≤ n) → AreFound (graph_in net (sid_address net n) steps) other
-      by_place n other at within sized (inl less) =
-          let long = are.long in
-          are.each n other (sym (get-before tables table n (omega (arith, less, long))) ∙ sym (ap (λ xs. slice_get xs n) e) ∙ at)
-      by_place n other at within sized (inr least) =
-          let long = are.long in
-          let same : n ≡ count = omega (arith, within, least, sized) in
-          let is_other : table ≡ other
-          = some-same table other (sym (get-pushed tables table n (omega (arith, same, long))) ∙ sym (ap (λ xs. slice_get xs n) e) ∙ at) in
-          let where_is : a ≡ sid_address net n = sid-address net count a s there address ∙ ap (sid_address net) (sym same) in
-          subst (λ (t : List (Option Found)). AreFound (graph_in net (sid_address net n) steps) t) is_other
-          (subst (λ (d : ℕ). AreFound (graph_in net d steps) table) where_is is)
+      let m =
+      each-more (λ (n : ℕ) (t : List (Option Found)). AreFound (graph_in net (sid_address net n) steps) t) count tables more table are.long
+      are.each (subst (λ (d : ℕ). AreFound (graph_in net d steps) table) (sid-address net count a s there address) is) e in
+      record { long = m.0; each = m.1 }
 
   pub found-low : Keeps net → (d left : ℕ) (place : Place) (found : Option Found) → found ≡ found_in net d steps left place
       → IfSome found (λ f. f.most ≤ 256)
@@ -90,21 +76,10 @@ module _ (net : Network) (intent : Intent) (steps : List Step) where
       → AreOnward net intent steps left place count row → onward ≡ onward_from net intent steps left place count
       → more ≡ row ++ onward ∷ [] → AreOnward net intent steps left place (count + 1) more
   onward-more left place count row more onward are is e =
-      let size = length-append row (onward ∷ []) in
-      let long = are.long in
-      let sized : length more ≡ count + 1 = ap length e ∙ size ∙ ap (λ (n : ℕ). n + 1) long in
-      record { long = sized; each = λ next low. by_place next low (cases_lt next count) }
-    where
-      by_place : (next : ℕ) → next < count + 1 → (next < count) ⊎ (count ≤ next)
-          → slice_get more next ≡ Some (onward_from net intent steps left place next)
-      by_place next low (inl less) =
-          let long = are.long in
-          ap (λ xs. slice_get xs next) e ∙ get-before row onward next (omega (arith, less, long)) ∙ are.each next less
-      by_place next low (inr least) =
-          let long = are.long in
-          let same : next ≡ count = omega (arith, low, least) in
-          ap (λ xs. slice_get xs next) e ∙ get-pushed row onward next (omega (arith, same, long))
-          ∙ ap Some (is ∙ ap (onward_from net intent steps left place) (sym same))
+      let m =
+      list-more (λ (next : ℕ). Some (onward_from net intent steps left place next)) count row more onward are.long are.each (ap Some is)
+      e in
+      record { long = m.0; each = m.1 }
 
   -- ---- starts
 
@@ -226,23 +201,10 @@ module _ (net : Network) (intent : Intent) (steps : List Step) where
   pub row-more : (position count : ℕ) (rows more : List (List Onward)) (row : List Onward) → AreRowsBelow position count rows
       → IsRowFrom net intent steps position (Some count) row → more ≡ rows ++ row ∷ [] → AreRowsBelow position (count + 1) more
   row-more position count rows more row are is e =
-      let size = length-append rows (row ∷ []) in
-      let long = are.long in
-      let sized : length more ≡ count + 1 = ap length e ∙ size ∙ ap (λ (n : ℕ). n + 1) long in
-      record { long = sized; each = λ via other at. by_place via other at (slice_get_within more via other at) sized (cases_lt via count) }
-    where
-      by_place : (via : ℕ) (other : List Onward) → slice_get more via ≡ Some other → via < length more → length more ≡ count + 1
-          → (via < count) ⊎ (count ≤ via) → IsRowFrom net intent steps position (Some via) other
-      by_place via other at within sized (inl less) =
-          let long = are.long in
-          are.each via other (sym (get-before rows row via (omega (arith, less, long))) ∙ sym (ap (λ xs. slice_get xs via) e) ∙ at)
-      by_place via other at within sized (inr least) =
-          let long = are.long in
-          let same : via ≡ count = omega (arith, within, least, sized) in
-          let is_other : row ≡ other
-          = some-same row other (sym (get-pushed rows row via (omega (arith, same, long))) ∙ sym (ap (λ xs. slice_get xs via) e) ∙ at) in
-          subst (λ (xs : List Onward). IsRowFrom net intent steps position (Some via) xs) is_other
-          (subst (λ (n : ℕ). IsRowFrom net intent steps position (Some n) row) (sym same) is)
+      let m =
+      each-more (λ (via : ℕ) (xs : List Onward). IsRowFrom net intent steps position (Some via) xs) count rows more row are.long are.each is
+      e in
+      record { long = m.0; each = m.1 }
 
   pub whole-rows : (position : ℕ) (rows : List (List Onward)) → AreRowsBelow position (length net.sids) rows
       → AreRowsFrom net intent steps position rows
@@ -290,25 +252,5 @@ module _ (net : Network) (intent : Intent) (steps : List Step) where
       → AreFurther net intent steps count further → AreRowsFrom net intent steps count rows → more ≡ further ++ rows ∷ []
       → AreFurther net intent steps (count + 1) more
   further-more count further more rows are is e =
-      let size = length-append further (rows ∷ []) in
-      let long = are.long in
-      let sized : length more ≡ count + 1 = ap length e ∙ size ∙ ap (λ (n : ℕ). n + 1) long in
-      record {
-        long = sized;
-        each = λ position other at. by_place position other at (slice_get_within more position other at) sized (cases_lt position count);
-      }
-    where
-      by_place : (position : ℕ) (other : List (List Onward)) → slice_get more position ≡ Some other → position < length more
-          → length more ≡ count + 1 → (position < count) ⊎ (count ≤ position) → AreRowsFrom net intent steps position other
-      by_place position other at within sized (inl less) =
-          let long = are.long in
-          are.each position other
-          (sym (get-before further rows position (omega (arith, less, long))) ∙ sym (ap (λ xs. slice_get xs position) e) ∙ at)
-      by_place position other at within sized (inr least) =
-          let long = are.long in
-          let same : position ≡ count = omega (arith, within, least, sized) in
-          let is_other : rows ≡ other
-          = some-same rows other
-          (sym (get-pushed further rows position (omega (arith, same, long))) ∙ sym (ap (λ xs. slice_get xs position) e) ∙ at) in
-          subst (AreRowsFrom net intent steps position) is_other
-          (subst (λ (n : ℕ). AreRowsFrom net intent steps n rows) (sym same) is)
+      let m = each-more (AreRowsFrom net intent steps) count further more rows are.long are.each is e in
+      record { long = m.0; each = m.1 }

@@ -1,7 +1,6 @@
 -- Where the walk stands at each position, and the SIDs of each position.
-use Rattle.std.proofs.Common.{◌≡◌, ℕ, suc, ◌+◌, ◌<◌, ◌≤◌, ◌⊎◌, inl, inr, Bool, true, false, List, [], ◌∷◌, ◌++◌, length, get_or, take, drop, Option, Some, None, is_some, slice_get, slice_index, Contains, refl, sym, ◌∙◌, ap, subst, arith, add-one, length-append}
+use Rattle.std.proofs.Common.{◌≡◌, ℕ, suc, ◌+◌, ◌<◌, Bool, true, false, List, [], ◌∷◌, ◌++◌, length, get_or, take, drop, Option, Some, None, is_some, slice_get, slice_index, Contains, refl, sym, ◌∙◌, ap, arith, add-one}
 use Rattle.std.specs.Option.{option_and_then}
-use Rattle.std.proofs.lemmas.Bool.{cases_lt}
 use Rattle.std.proofs.lemmas.List.{take-append-drop}
 use Rattle.std.proofs.lemmas.Option.{slice_get-get_or, slice_get_within}
 use Rattle.std.proofs.Math.Seq.{drop-cons, take-suc}
@@ -9,7 +8,7 @@ use Rattle.net_model.specs.Network.{Network}
 use Rattle.net_model.specs.Keeps.{Keeps}
 use Rattle.intent_reader.specs.declared.intent.Intent.{Intent}
 use Rattle.step_traces.specs.declared.steps.Step.{Step}
-use Rattle.leg_table.proofs.Options.{get-before, get-pushed}
+use Rattle.loose_graph.proofs.Lists.{list-more}
 use Rattle.loose_meanings.specs.Sids.{is_sid_at, sid_suits, step_before}
 use Rattle.loose_meanings.specs.Steps.{AreSteps, node_after, node_at, stand_after}
 use Rattle.loose_laws.specs.Value.{placed, sids_below, sids_of}
@@ -88,21 +87,9 @@ module _ (net : Network) (intent : Intent) (steps : List Step) where
   pub stands-more : (count : ℕ) (stands more : List ℕ) (node : ℕ) → AreStands net intent steps count stands
       → node_at net intent steps count ≡ Some node → more ≡ stands ++ node ∷ [] → AreStands net intent steps (count + 1) more
   stands-more count stands more node are is e =
-      let size = length-append stands (node ∷ []) in
-      let long = are.long in
-      let sized : length more ≡ count + 1 = ap length e ∙ size ∙ ap (λ (n : ℕ). n + 1) long in
-      record { long = sized; each = λ position low. by_place position low (cases_lt position count) }
-    where
-      by_place : (position : ℕ) → position < count + 1 → (position < count) ⊎ (count ≤ position)
-          → node_at net intent steps position ≡ slice_get more position
-      by_place position low (inl less) =
-          let long = are.long in
-          are.each position less ∙ sym (ap (λ xs. slice_get xs position) e ∙ get-before stands node position (omega (arith, less, long)))
-      by_place position low (inr least) =
-          let long = are.long in
-          let same : position ≡ count = omega (arith, low, least) in
-          ap (node_at net intent steps) same ∙ is
-          ∙ sym (ap (λ xs. slice_get xs position) e ∙ get-pushed stands node position (omega (arith, same, long)))
+      let m =
+      list-more (node_at net intent steps) count stands more node are.long (λ position low. sym (are.each position low)) (sym is) e in
+      record { long = m.0; each = λ position low. sym (m.1 position low) }
 
   pub stands-first : (items : List ℕ) → items ≡ [] ++ intent.headend ∷ [] → AreStands net intent steps (0 + 1) items
   stands-first items e = stands-more 0 [] items intent.headend (record { long = refl; each = λ position low. absurd (omega arith) }) refl e
@@ -117,18 +104,6 @@ module _ (net : Network) (intent : Intent) (steps : List Step) where
   pub rows-more : (count : ℕ) (rows more : List (List ℕ)) (row : List ℕ) → AreRows net intent steps count rows
       → row ≡ sids_of net intent steps count → more ≡ rows ++ row ∷ [] → AreRows net intent steps (count + 1) more
   rows-more count rows more row are is e =
-      let size = length-append rows (row ∷ []) in
-      let long = are.long in
-      let sized : length more ≡ count + 1 = ap length e ∙ size ∙ ap (λ (n : ℕ). n + 1) long in
-      record { long = sized; each = λ position low. by_place position low (cases_lt position count) }
-    where
-      by_place : (position : ℕ) → position < count + 1 → (position < count) ⊎ (count ≤ position)
-          → slice_get more position ≡ Some (sids_of net intent steps position)
-      by_place position low (inl less) =
-          let long = are.long in
-          ap (λ xs. slice_get xs position) e ∙ get-before rows row position (omega (arith, less, long)) ∙ are.each position less
-      by_place position low (inr least) =
-          let long = are.long in
-          let same : position ≡ count = omega (arith, low, least) in
-          ap (λ xs. slice_get xs position) e ∙ get-pushed rows row position (omega (arith, same, long))
-          ∙ ap Some (is ∙ ap (sids_of net intent steps) (sym same))
+      let m =
+      list-more (λ (position : ℕ). Some (sids_of net intent steps position)) count rows more row are.long are.each (ap Some is) e in
+      record { long = m.0; each = m.1 }

@@ -1,5 +1,5 @@
 -- The steps of an intent, as traces with reaches and ways over graphs know them.
-use Rattle.std.specs.Prelude.{ℕ, List, map}
+use Rattle.std.specs.Prelude.{List, map}
 use Rattle.intent_reader.specs.declared.intent.Step.{Step}
 use Rattle.intent_reader.specs.declared.intent.Step.TheVariants as intents
 use Rattle.intent_reader.specs.declared.intent.Intent.{Intent}

@@ -1,32 +1,26 @@
 //! The table of an intent's legs along steps of which some may be to reach a node.
 
-ghost use Rattle.std.specs.Prelude.{◌≡◌, ◌+◌, ◌<◌, ◌≤◌, length, slice_get, Some, IfOk};
-ghost use Rattle.srv6_rules.specs.declared.sid.SidEntry.{SidEntry};
+ghost use Rattle.std.specs.Prelude.{◌≡◌, ◌<◌, ◌≤◌, length, Some, IfOk};
 ghost use Rattle.net_model.specs.Keeps.{Keeps};
 ghost use Rattle.net_model.specs.Rules.{IsNetwork};
 ghost use Rattle.flat_networks.specs.Flat.{IsFlat};
-ghost use Rattle.flat_networks.specs.Units.{AreNestedUnits};
 ghost use Rattle.intent_reader.specs.Rules.{IsIntent};
-ghost use Rattle.list_pack.specs.SidLists.{block_at};
-ghost use Rattle.leg_table.specs.Sids as strict;
 ghost use Rattle.loose_meanings.specs.Steps.{AreSteps};
 ghost use Rattle.loose_laws.specs.Value.{sids_of};
 ghost use Rattle.loose_legs.specs.Steps.{trace_steps};
 ghost use Rattle.loose_legs.specs.Table.{AreLegRows, AreRowsFrom, IsRowFrom, onward_of};
 
-use crate::nests::{Units, nested_of, stays};
 use crate::onwards::{Onward, Onwards, first_onwards, further_onwards, tables_of};
 use crate::rows::{Row, rows_of, stands_of};
 use crate::steps::steps_of;
 use base::{NoMemory, Seq};
 use intent_reader::Intent;
+use leg_table::{Units, may_stay, nested_of, shape_of};
 use list_pack::{Leg, Legs, ListLegs, Shape};
 use net_model::Net;
-use srv6_rules::SidEntry;
 use std::alloc::Global;
 use std::marker::Model;
 use step_traces::Step;
-use v6_addr::Prefix;
 
 /// The SIDs of each position, and what leads on from them. (own rule)
 #[derive(Debug, Drop)]
@@ -176,15 +170,6 @@ impl<'a> LooseLegs<'a> {
             },
         }
     }
-
-    /// the units of the SIDs nested in a SID
-    fn units(&self, sid: u32) -> &[u16]
-        requires { sid < length self.now.net.sids }
-        ensures { (s : SidEntry) → slice_get self.now.net.sids sid ≡ Some s
-            → AreNestedUnits self.now.net s result.now }
-    {
-        self.nested[sid as usize].as_slice()
-    }
 }
 
 impl<'a> Legs for LooseLegs<'a> {
@@ -204,14 +189,7 @@ impl<'a> Legs for LooseLegs<'a> {
 
     fn shape(&self, sid: u32) -> Shape {
         self.keeps_rules();
-        let sid = self.net.sid(sid);
-        Shape {
-            prefix: sid.prefix,
-            block: block_at(self.net, &sid.prefix),
-            lbl: sid.block_len,
-            csid: sid.csid,
-            middle: takes_step(sid),
-        }
+        shape_of(self.net, sid)
     }
 
     fn leg(&self, position: u32, via: Option<u32>, next: u32) -> Option<Leg> {
@@ -224,7 +202,7 @@ impl<'a> Legs for LooseLegs<'a> {
 
     fn stays(&self, sid: u32, next: u32) -> bool {
         self.keeps_rules();
-        stays(self.net, self.units(sid), sid, next)
+        may_stay(self.net, self.nested.as_slice(), sid, next)
     }
 }
 
@@ -243,24 +221,4 @@ impl<'a> ListLegs for LooseLegs<'a> {
     fn keeps_meaning(&self) {
         self.keeps_rules();
     }
-}
-
-/// the number of the block that a prefix lies strictly inside
-#[tactic(auto, using(leg_table::proofs::Searches::searching))]
-fn block_at(net: &Net, prefix: &Prefix) -> Option<u32>
-    ensures { result ≡ block_at net.now.blocks prefix.now }
-{
-    for n in 0..net.blocks() {
-        if prefix.inside(&net.block(n).prefix) {
-            return Some(n);
-        }
-    }
-    None
-}
-
-/// the packet goes on from the SID to a next segment, after no further header
-fn takes_step(sid: &SidEntry) -> bool
-    ensures { result ≡ strict.takes_step sid.now }
-{
-    sid.goes_on() && sid.behaviour.policy().is_none()
 }

@@ -4,7 +4,6 @@ ghost use Rattle.std.specs.Prelude.{◌≡◌, ◌+◌, ◌<◌, ◌≤◌, ℕ,
 ghost use Rattle.walk_rules.specs.Relation.{IsPlace};
 ghost use Rattle.loose_graph.specs.Tables.{AreFound};
 ghost use Rattle.loose_ways.specs.Graphs.{graph_in};
-ghost use Rattle.leg_table.specs.Leg.{if_none_left};
 ghost use Rattle.leg_table.specs.Sids.{sid_address};
 ghost use Rattle.loose_meanings.specs.Legs as legs;
 ghost use Rattle.loose_meanings.specs.Sids.{start_of};
@@ -13,18 +12,17 @@ ghost use Rattle.loose_legs.specs.Table.{AreFurther, AreOnward, AreRowsFrom, Are
 
 use crate::rows::is_sid_at;
 use crate::steps::left_found;
-use crate::tables::{Table, table_of};
 use base::{NoMemory, Seq};
 use intent_reader::Intent;
-use leg_table::{is_last, is_middle, place_behind};
+use leg_table::{headend_place, if_none_left, is_last, is_middle, leg_with, place_behind};
 use list_pack::Leg;
 use loose_graph::Found;
-use loose_ways::find_from;
+use loose_ways::{find_from, find_ways};
 use net_model::Net;
 use srv6_rules::Family;
 use std::alloc::Global;
 use step_traces::Step;
-use walk_rules::{How, Place};
+use walk_rules::Place;
 
 /// What leads to a next SID. (own rule)
 #[derive(Clone, Copy, Debug)]
@@ -38,6 +36,9 @@ pub struct Onward {
 /// What leads to all SIDs, by their numbers; empty where nothing leads on. (own rule)
 pub type Onwards = Seq<Onward>;
 
+/// What is found at the spots of a destination's graph, by the spots' numbers. (own rule)
+pub type Table = Seq<Option<Found>>;
+
 /// What is found in the graph of each SID's first address, by the SIDs' numbers. (own rule)
 pub fn tables_of(alloc: Global, net: &Net, steps: &[Step]) -> Result<Vec<Table>, NoMemory>
     requires { length steps.now ≤ 48 }
@@ -46,7 +47,8 @@ pub fn tables_of(alloc: Global, net: &Net, steps: &[Step]) -> Result<Vec<Table>,
 {
     let mut tables = Vec::new(alloc);
     for n in 0..net.sids() {
-        tables.push(table_of(alloc, net, net.sid(n).prefix.value(), steps)?)?;
+        let destination = net.sid(n).prefix.value();
+        tables.push(Table::new(find_ways(alloc, net, destination, steps)?))?;
     }
     Ok(tables)
 }
@@ -59,10 +61,7 @@ fn leg_found(net: &Net, steps: &[Step], next: u32, found: &Found) -> Option<Leg>
     ensures { result ≡ legs.leg_found net.now steps.now next found.now }
 {
     let left = left_found(net, steps, next, found)?;
-    Some(Leg {
-        to: steps.len() as u32 - left,
-        hops: found.most + 1,
-    })
+    Some(leg_with(steps.len() as u32, found.most, left))
 }
 
 /// the leg to a SID, where it is middle
@@ -77,13 +76,6 @@ fn leg_to(net: &Net, steps: &[Step], next: u32, found: Option<Found>) -> Option<
     }
     let found = found?;
     leg_found(net, steps, next, &found)
-}
-
-/// how often the hop limit was lowered, where no step is left
-fn if_none_left(lowered: u32, left: u32) -> Option<u32>
-    ensures { result ≡ if_none_left lowered left }
-{
-    if left == 0 { Some(lowered) } else { None }
 }
 
 /// the finish at a SID that is found
@@ -201,11 +193,7 @@ pub fn first_onwards(
     requires tables { AreTables net.now steps.now (length net.now.sids) tables.now }
     ensures { IfOk result (IsRowFrom net.now intent.now steps.now 0 None) }
 {
-    let place = Place {
-        node: intent.headend,
-        how: How::Submitted { table: 0 },
-        family: Family::V6,
-    };
+    let place = headend_place(intent);
     let row = onwards_from(alloc, net, intent, steps, tables, steps.len(), &place)?;
     Ok(row)
 }

@@ -1,6 +1,6 @@
 //! The steps of an intent as ways over graphs know them, and how many are left behind an execution.
 
-ghost use Rattle.std.specs.Prelude.{◌≡◌, ◌<◌, ◌≤◌, map, length, IfOk, IfSome};
+ghost use Rattle.std.specs.Prelude.{◌≡◌, ◌<◌, ◌≤◌, length, IfOk, IfSome};
 ghost use Rattle.loose_legs.specs.Steps.{trace_step, trace_steps};
 ghost use Rattle.loose_meanings.specs.Legs as legs;
 ghost use Rattle.loose_meanings.specs.Steps.{steps_left};

@@ -12,13 +12,13 @@ use Rattle.list_pack.specs.SidLists.{IsLegalList, list_values, prefixes_in}
 use Rattle.step_traces.specs.declared.steps.Step.{Step}
 use Rattle.leg_table.specs.Meant.{IsExecuting, IsRealizing}
 use Rattle.leg_table.specs.OneLeg.{KindLaws}
-use Rattle.leg_table.proofs.Meanings.{kind-means}
+use Rattle.leg_table.proofs.Meanings.{means-as}
 use Rattle.loose_meanings.specs.Steps.{AreSteps}
 use Rattle.loose_laws.specs.Value.{loose_legs_value}
 use Rattle.loose_kinds.specs.Kind.{loose_kind}
 use Rattle.loose_kinds.specs.Longest.{Longest}
 use Rattle.loose_kinds.proofs.PublicLaws.{loose-kind_laws}
-use Rattle.loose_ups.proofs.PublicLaws.{loose-leg_laws}
+use Rattle.loose_leg_laws.proofs.PublicLaws.{loose-leg_laws}
 use Rattle.loose_lists.specs.Executions.{Execution}
 use Rattle.loose_lists.specs.Realizes.{ExecutesEach, LooseAlwaysHands, LooseListExecutes, LooseListHands, LooseListRealizes, LooseReaches}
 use Rattle.loose_lists.proofs.Realizing.{executes-of, hands-to, one-shows, realizes-iff, realizes-of, realizes-to}
@@ -29,32 +29,15 @@ means-by : (net : Network) (intent : Intent) (steps : List Step) (Longest : Opti
     → Means (loose_legs_value net intent steps) net (LooseListRealizes net intent steps) (LooseListExecutes net intent steps)
     (LooseListHands net intent steps)
 means-by net intent steps Longest laws =
-    let kind = kind-means (loose_kind net intent steps) Longest laws in
-    record {
-      sids = kind.sids;
-      suits = kind.suits;
-      lists = λ moves c cost.
-          let is = kind.lists moves c cost in
-          record {
-            of_path = is.of_path;
-            legal = is.legal;
-            realizes = realizes-of net intent steps Longest laws _ is.legal c.hops is.realizes is.executes;
-            executes = executes-of net intent steps _ _ is.executes;
-          };
-      paths = λ list need legal real.
-          let both = realizes-to net intent steps Longest laws list legal need real in
-          let path = kind.paths list need legal both.0 in
-          record {
-            moves = path.moves;
-            hops = path.hops;
-            cost = path.cost;
-            within = path.within;
-            whole = λ executes. path.whole both.1;
-          };
-      handing = λ list hop legal hands. kind.handing list hop legal (hands-to net intent steps list hop hands);
-    }
+    means-as (loose_kind net intent steps) Longest laws (LooseListRealizes net intent steps) (LooseListExecutes net intent steps)
+    (LooseListHands net intent steps)
+    (λ list need legal real executes. realizes-of net intent steps Longest laws list legal need real executes)
+    (executes-of net intent steps)
+    (λ list need legal real. let both = realizes-to net intent steps Longest laws list legal need real in (both.0, λ executes. both.1))
+    (hands-to net intent steps)
 
-module _ (net : Network) (intent : Intent) (steps : List Step) (network : IsNetwork net) (flat : IsFlat net) (are : AreSteps net intent steps)
+module _ (net : Network) (intent : Intent) (steps : List Step) (network : IsNetwork net) (flat : IsFlat net)
+    (are : AreSteps net intent steps)
     (few : length net.sids ≤ 128) where
   laws : KindLaws (loose_kind net intent steps) (Longest net intent)
   laws = loose-kind_laws net intent steps network flat are few (loose-leg_laws net intent steps network flat are)

@@ -96,7 +96,8 @@ module _ (net : Network) (keeps : Keeps net) (steps : List Step) (few : length s
   facts-of : (pick : ℕ → ℕ) (fuel : ℕ) (stop : Stop) → first_stop (ends_in net) ts (stages pick fuel) ≡ Some stop
       → StopFacts net p (λ us at. Unit {0}) stop
   facts-of pick fuel stop h =
-      stop-facts net p (λ us at. Unit {0}) (λ ts us at set lower link node way left end holds. tt) fuel p.hop_limit place pick 0 ts stop tt h
+      stop-facts net p (λ us at. Unit {0}) (λ ts us at set lower link node way left end holds. tt) fuel p.hop_limit place pick 0 ts stop tt
+      h
 
   few-left : (pick : ℕ → ℕ) (fuel : ℕ) (stop : Stop) → first_stop (ends_in net) ts (stages pick fuel) ≡ Some stop
       → IsLeft steps stop.left × (length stop.left ≤ 48)

@@ -2,4 +2,5 @@ pub mod Stops
 pub mod Tests
 pub mod Always
 pub mod Sames
+pub mod Ways
 pub mod Meaning

@@ -1,52 +1,34 @@
 -- A leg and a finish by look-ups alone are there exactly where all choices take a packet so.
-use Rattle.std.proofs.Common.{◌≡◌, ℕ, zero, suc, ◌+◌, ◌-◌, ◌*◌, ◌/◌, ◌%◌, ◌^◌, ◌<◌, ◌≤◌, ◌↔◌, Bool, true, false, ◌==◌, ◌&&◌, not, nat_le, if◌then◌else◌, List, length, drop, Option, Some, None, slice_get, refl, sym, ◌∙◌, ap, subst, arith, eqb-true}
-use Rattle.std.specs.Option.{option_map, option_and_then}
-use Rattle.std.proofs.lemmas.Bool.{and_parts, eq-eqb, leb-true}
+use Rattle.std.proofs.Common.{◌≡◌, ℕ, suc, ◌+◌, ◌-◌, ◌*◌, ◌/◌, ◌%◌, ◌<◌, ◌≤◌, ◌↔◌, Bool, true, false, if◌then◌else◌, List, length, drop, Option, Some, slice_get, refl, sym, ◌∙◌, ap, subst, arith}
 use Rattle.std.proofs.lemmas.List.{length-drop}
-use Rattle.v6_addr.specs.Address.{IsPrefix}
-use Rattle.srv6_rules.specs.declared.sid.Family.TheVariants as families
 use Rattle.srv6_rules.specs.declared.sid.SidEntry.{SidEntry}
-use Rattle.srv6_rules.specs.Compressed.{argument_of}
-use Rattle.srv6_rules.specs.CompressedSteps.{compression_of, shifts, is_next}
+use Rattle.srv6_rules.specs.CompressedSteps.{compression_of, shifts}
 use Rattle.srv6_rules.specs.Packet.{Packet}
 use Rattle.net_model.specs.Network.{Network}
 use Rattle.net_model.specs.Keeps.{Keeps}
 use Rattle.walk_rules.specs.declared.place.Place.{Place}
 use Rattle.walk_rules.specs.declared.place.Outcome.{Outcome}
-use Rattle.walk_rules.specs.Relation.{IsPlace}
-use Rattle.walk_rules.proofs.PublicLaws.{sid-how}
 use Rattle.intent_reader.specs.declared.intent.Intent.{Intent}
 use Rattle.list_pack.specs.declared.types.Leg.{Leg}
 use Rattle.step_traces.specs.declared.steps.Step.{Step}
-use Rattle.step_traces.proofs.Parts.{if-some}
 use Rattle.loose_graph.specs.declared.spots.Found.{Found}
-use Rattle.loose_graph.proofs.Options.{then-some, some-same}
+use Rattle.loose_graph.proofs.Options.{some-same}
 use Rattle.loose_ways.specs.Graphs.{found_in}
 use Rattle.leg_table.specs.Choices.{AtPlace}
-use Rattle.leg_table.specs.Leg.{has_next_segment, has_packet_inside, if_none_left, is_again, is_hand, leg_with, place_behind, place_from}
+use Rattle.leg_table.specs.Leg.{has_next_segment, has_packet_inside, is_again, is_hand, place_from}
 use Rattle.leg_table.specs.Sids.{first_address, is_last, is_middle, sid_address}
 use Rattle.leg_table.specs.Trace.{is_titled}
 use Rattle.leg_table.proofs.NextRides.{middle-sid, last-sid}
-use Rattle.leg_table.proofs.Options.{map-some}
 use Rattle.leg_table.proofs.Witnesses.{some_packet, some_packet-has, last_packet, last_packet-has}
-use Rattle.loose_meanings.specs.Legs.{finish_of, finish_found, leg_of, leg_found, left_after, left_found, way_found}
+use Rattle.leg_table.proofs.LegLemmas.{place-from, value-alone}
+use Rattle.loose_meanings.specs.Legs.{finish_of, leg_of, left_after}
 use Rattle.loose_meanings.specs.Sentences.{AlwaysExecutes, IsFinish, IsHanded, IsLeg, IsTaken}
-use Rattle.loose_meanings.specs.Sids.{is_start, is_via, start_of}
+use Rattle.loose_meanings.specs.Sids.{is_start}
 use Rattle.loose_meanings.specs.Steps.{AreSteps, steps_left}
 use Rattle.loose_meanings.proofs.Always.{after-count, always-found, found-always}
 use Rattle.loose_meanings.proofs.Sames.{AreAlike, found-same}
 use Rattle.loose_meanings.proofs.Tests.{IsTest, again-test, hand-test}
-
--- a SID does not shift the first address of its prefix
-value-alone : (s : SidEntry) → IsPrefix s.prefix → shifts (compression_of s) s.prefix.value ≡ false
-unfolding argument_of
-value-alone s is =
-    let none : ((s.prefix.value % 2 ^ (128 - s.prefix.len)) == 0) ≡ true = eq-eqb (s.prefix.value % 2 ^ (128 - s.prefix.len)) 0 is.2 in
-    ap (λ (b : Bool). is_next s.csid && not b) none ∙ never (is_next s.csid)
-  where
-    never : (b : Bool) → (b && false) ≡ false
-    never true = refl
-    never false = refl
+use Rattle.loose_meanings.proofs.Ways.{Way, start-at, leg-way, leg-from, finish-way, finish-from}
 
 pub first-alone : (net : Network) → Keeps net → (next : ℕ) (s : SidEntry) → slice_get net.sids next ≡ Some s
     → shifts (compression_of s) (sid_address net next) ≡ false
@@ -54,119 +36,8 @@ first-alone net keeps next s there =
     subst (λ (a : ℕ). shifts (compression_of s) a ≡ false) (ap first_address (sym there)) (value-alone s (keeps.sid next s there).prefix)
 
 module _ (net : Network) (keeps : Keeps net) (intent : Intent) (steps : List Step) (are : AreSteps net intent steps) where
-  -- ---- from where a packet starts
-
-  pub record StartsAt (position : ℕ) (via : Option ℕ) (place : Place) : Type 0 where
-    pub within : position ≤ length steps
-    pub from : place_from net intent via ≡ Some place
-    pub is_place : IsPlace net place
-    pub family : place.family ≡ families.V6
-
-  via-place : (via : Option ℕ) (place : Place) → place_from net intent via ≡ Some place → IsPlace net place × (place.family ≡ families.V6)
-  via-place None place from =
-      subst (λ (at : Place). IsPlace net at × (at.family ≡ families.V6)) (some-same _ place from) ((are.headend, tt), refl)
-  via-place (Some v) place from = by_sid (slice_get net.sids v) refl from
-    where
-      by_sid : (o : Option SidEntry) → slice_get net.sids v ≡ o → option_map (place_behind v) o ≡ Some place
-          → IsPlace net place × (place.family ≡ families.V6)
-      by_sid None e h = absurd (cc)
-      by_sid (Some s) e h =
-          subst (λ (at : Place). IsPlace net at × (at.family ≡ families.V6)) (some-same _ place h)
-          (((keeps.sid v s e).node, sid-how net v s keeps e), refl)
-
-  pub start-at : (position : ℕ) (via : Option ℕ) (place : Place) → is_start net intent steps position via ≡ true
-      → place_from net intent via ≡ Some place → StartsAt position via place
-  start-at position via place start from =
-      let parts = and_parts (nat_le position (length steps)) (is_via net intent steps position via) start in
-      let is = via-place via place from in
-      record { within = leb-true position (length steps) parts.0; from = from; is_place = is.0; family = is.1 }
-
-  -- ---- what is found, taken apart
-
-  pub record Way (position : ℕ) (via : Option ℕ) (next : ℕ) : Type 0 where
-    pub start : is_start net intent steps position via ≡ true
-    pub place : Place
-    pub from : place_from net intent via ≡ Some place
-    pub found : Found
-    pub there : found_in net (sid_address net next) steps (length steps - position) place ≡ Some found
-    pub sid : found.answer / 64 ≡ next
-    pub left : ℕ
-    pub behind : left_after net next (steps_left steps (found.answer % 64)) ≡ Some left
-
-  pub way-parts : (position : ℕ) (via : Option ℕ) (next : ℕ) (f : Found) (left : ℕ)
-      → way_found net intent steps position via (sid_address net next) ≡ Some f → left_found net steps next f ≡ Some left
-      → (w : Way position via next) × (w.found ≡ f) × (w.left ≡ left)
-  way-parts position via next f left way found =
-      let a = then-some (found_in net (sid_address net next) steps (length steps - position)) (start_of net intent steps position via) f way in
-      let b = if-some (is_start net intent steps position via) (place_from net intent via) a.0 a.1 in
-      let c = if-some (f.answer / 64 == next) (left_after net next (steps_left steps (f.answer % 64))) left found in (
-        record {
-          start = b.0;
-          place = a.0;
-          from = b.1;
-          found = f;
-          there = a.2;
-          sid = eqb-true (f.answer / 64) next c.0;
-          left = left;
-          behind = c.1;
-        },
-        refl,
-        refl,
-      )
-
-  way-is : (position : ℕ) (via : Option ℕ) (next : ℕ) (w : Way position via next)
-      → way_found net intent steps position via (sid_address net next) ≡ Some w.found
-  way-is position via next w =
-      ap (option_and_then (found_in net (sid_address net next) steps (length steps - position)))
-      (ap (λ (b : Bool). if b then place_from net intent via else None) w.start ∙ w.from)
-      ∙ w.there
-
-  left-is-found : (position : ℕ) (via : Option ℕ) (next : ℕ) (w : Way position via next) → left_found net steps next w.found ≡ Some w.left
-  left-is-found position via next w =
-      ap (λ (b : Bool). if b then left_after net next (steps_left steps (w.found.answer % 64)) else None)
-      (eq-eqb (w.found.answer / 64) next w.sid)
-      ∙ w.behind
-
-  pub leg-way : (position : ℕ) (via : Option ℕ) (next : ℕ) (leg : Leg) → leg_of net intent steps position via next ≡ Some leg
-      → (is_middle net next ≡ true) × (w : Way position via next) × (leg_with (length steps) w.found.most w.left ≡ leg)
-  unfolding way-parts
-  leg-way position via next leg h =
-      let a = if-some (is_middle net next) _ leg h in
-      let b = then-some (leg_found net steps next) (way_found net intent steps position via (sid_address net next)) leg a.1 in
-      let c = map-some (leg_with (length steps) b.0.most) (left_found net steps next b.0) leg b.2 in
-      let w = way-parts position via next b.0 c.0 b.1 c.1 in
-      (a.0, w.0, c.2)
-
-  pub leg-from : (position : ℕ) (via : Option ℕ) (next : ℕ) (w : Way position via next) → is_middle net next ≡ true
-      → leg_of net intent steps position via next ≡ Some (leg_with (length steps) w.found.most w.left)
-  leg-from position via next w middle =
-      ap (λ (b : Bool). if b then option_and_then (leg_found net steps next) (way_found net intent steps position via (sid_address net next))
-      else None) middle
-      ∙ ap (option_and_then (leg_found net steps next)) (way-is position via next w)
-      ∙ ap (option_map (leg_with (length steps) w.found.most)) (left-is-found position via next w)
-
-  none-parts : (lowered left n : ℕ) → if_none_left lowered left ≡ Some n → (left ≡ 0) × (lowered ≡ n)
-  none-parts lowered zero n h = (refl, some-same lowered n h)
-  none-parts lowered (suc more) n h = absurd (cc)
-
-  pub finish-way : (position : ℕ) (via : Option ℕ) (next lowered : ℕ) → finish_of net intent steps position via next ≡ Some lowered
-      → (is_last net intent.inner next ≡ true) × (w : Way position via next) × (w.found.most ≡ lowered) × (w.left ≡ 0)
-  unfolding way-parts
-  finish-way position via next lowered h =
-      let a = if-some (is_last net intent.inner next) _ lowered h in
-      let b = then-some (finish_found net steps next) (way_found net intent steps position via (sid_address net next)) lowered a.1 in
-      let c = then-some (if_none_left b.0.most) (left_found net steps next b.0) lowered b.2 in
-      let d = none-parts b.0.most c.0 lowered c.2 in
-      let w = way-parts position via next b.0 c.0 b.1 c.1 in
-      (a.0, w.0, d.1, d.0)
-
-  pub finish-from : (position : ℕ) (via : Option ℕ) (next : ℕ) (w : Way position via next) → is_last net intent.inner next ≡ true
-      → w.left ≡ 0 → finish_of net intent steps position via next ≡ Some w.found.most
-  finish-from position via next w last none =
-      ap (λ (b : Bool). if b then option_and_then (finish_found net steps next) (way_found net intent steps position via (sid_address net next))
-      else None) last
-      ∙ ap (option_and_then (finish_found net steps next)) (way-is position via next w)
-      ∙ ap (option_and_then (if_none_left w.found.most)) (left-is-found position via next w ∙ ap Some none)
+  abbrev W : ℕ → Option ℕ → ℕ → Type 0
+  W = Way net keeps intent steps are
 
   -- ---- all choices
 
@@ -178,10 +49,10 @@ module _ (net : Network) (keeps : Keeps net) (intent : Intent) (steps : List Ste
         ap (λ (n : ℕ). drop n steps) k
 
     -- all choices execute exactly where the way is found with few enough lowerings
-    pub way-always : (w : Way position via next) (p : Packet) → IsTest net p next executes lowers → p.destination ≡ address
+    pub way-always : (w : W position via next) (p : Packet) → IsTest net p next executes lowers → p.destination ≡ address
         → w.found.most + lowers ≤ p.hop_limit - 1 → AlwaysExecutes net executes (drop position steps) next w.left p w.place
     way-always w p test to few =
-        let s = start-at position via w.place w.start w.from in
+        let s = start-at net keeps intent steps are position via w.place w.start w.from in
         let there : found_in net p.destination steps (length steps - position) w.place ≡ Some w.found
         = ap (λ (d : ℕ). found_in net d steps (length steps - position) w.place) to
         ∙ found-same net address (sid_address net next) alike steps (length steps - position) w.place s.family ∙ w.there in
@@ -202,9 +73,9 @@ module _ (net : Network) (keeps : Keeps net) (intent : Intent) (steps : List Ste
     pub always-way : (place : Place) (left : ℕ) (p : Packet) → is_start net intent steps position via ≡ true
         → place_from net intent via ≡ Some place → IsTest net p next executes lowers → p.destination ≡ address
         → AlwaysExecutes net executes (drop position steps) next left p place
-        → (w : Way position via next) × (w.place ≡ place) × (w.left ≡ left) × (w.found.most + lowers ≤ p.hop_limit - 1)
+        → (w : W position via next) × (w.place ≡ place) × (w.left ≡ left) × (w.found.most + lowers ≤ p.hop_limit - 1)
     always-way place left p start from test to all =
-        let s = start-at position via place start from in
+        let s = start-at net keeps intent steps are position via place start from in
         let f =
         always-found net keeps steps are.few (length steps - position) place s.is_place s.family p next executes lowers test left
         (subst (λ (ts : List Step). AlwaysExecutes net executes ts next left p place) (sym (drop-is s.within)) all) in
@@ -229,32 +100,29 @@ module _ (net : Network) (keeps : Keeps net) (intent : Intent) (steps : List Ste
         )
 
   -- the steps left behind an execution are no more than the steps
-  left-few : (position : ℕ) (via : Option ℕ) (next : ℕ) (w : Way position via next) → w.left ≤ length steps
+  left-few : (position : ℕ) (via : Option ℕ) (next : ℕ) (w : W position via next) → w.left ≤ length steps
   left-few position via next w =
       let count = after-count net next w.left (steps_left steps (w.found.answer % 64)) w.behind in
       let long : length (steps_left steps (w.found.answer % 64)) ≡ length steps - (length steps - w.found.answer % 64)
       = length-drop (length steps - w.found.answer % 64) steps in
       by_title (is_titled net next) (sym count ∙ long)
     where
-      by_title : (b : Bool) → (if b then suc w.left else w.left) ≡ length steps - (length steps - w.found.answer % 64) → w.left ≤ length steps
+      by_title : (b : Bool) → (if b then suc w.left else w.left) ≡ length steps - (length steps - w.found.answer % 64)
+          → w.left ≤ length steps
       by_title true e = omega (arith, e)
       by_title false e = omega (arith, e)
 
   -- from one place all choices come to one
-  one-way : (position : ℕ) (via : Option ℕ) (next : ℕ) (w v : Way position via next) → w.place ≡ v.place → w.found.most ≡ v.found.most
+  one-way : (position : ℕ) (via : Option ℕ) (next : ℕ) (w v : W position via next) → w.place ≡ v.place → w.found.most ≡ v.found.most
   one-way position via next w v same =
       ap (λ (f : Found). f.most)
       (some-same w.found v.found
       (sym w.there ∙ ap (found_in net (sid_address net next) steps (length steps - position)) same ∙ v.there))
 
-  at-place : (o : Option Place) (P : Place → Type 0) → AtPlace o P → (place : Place) × (o ≡ Some place) × P place
-  at-place None P h = absurd h
-  at-place (Some place) P h = (place, refl, h)
-
   module _ (position : ℕ) (via : Option ℕ) (next address : ℕ) (alike : AreAlike net address (sid_address net next)) where
     -- ---- legs
 
-    taken-by : (w : Way position via next) (s : SidEntry) → slice_get net.sids next ≡ Some s
+    taken-by : (w : W position via next) (s : SidEntry) → slice_get net.sids next ≡ Some s
         → IsTaken net address (drop position steps) next w.left (w.found.most + 1) w.place
     taken-by w s there p to on positive =
         let test = again-test net p next s there on in (
@@ -262,13 +130,13 @@ module _ (net : Network) (keeps : Keeps net) (intent : Intent) (steps : List Ste
           λ all. below (always-way position via next is_again 1 address alike w.place w.left p w.start w.from test to all),
         )
       where
-        below : (v : Way position via next) × (v.place ≡ w.place) × (v.left ≡ w.left) × (v.found.most + 1 ≤ p.hop_limit - 1)
+        below : (v : W position via next) × (v.place ≡ w.place) × (v.left ≡ w.left) × (v.found.most + 1 ≤ p.hop_limit - 1)
             → w.found.most + 1 < p.hop_limit
         below v = let e = one-way position via next v.0 w v.1 in omega (arith, e, v.3, positive)
 
     leg-is : (leg : Leg) → leg_of net intent steps position via next ≡ Some leg → IsLeg net intent steps address position via next leg
     leg-is leg h =
-        let g = leg-way position via next leg h in
+        let g = leg-way net keeps intent steps are position via next leg h in
         let w = g.1 in
         let s = middle-sid net next g.0 in
         let few : w.left ≤ length steps = left-few position via next w in
@@ -289,7 +157,7 @@ module _ (net : Network) (keeps : Keeps net) (intent : Intent) (steps : List Ste
     pub leg-one : (place : Place) (left : ℕ) (p : Packet) → is_start net intent steps position via ≡ true → is_middle net next ≡ true
         → place_from net intent via ≡ Some place → p.destination ≡ address → has_next_segment net next p ≡ true → 0 < p.hop_limit
         → AlwaysExecutes net is_again (drop position steps) next left p place
-        → (w : Way position via next) × (w.place ≡ place) × (w.left ≡ left) × (w.found.most + 1 < p.hop_limit)
+        → (w : W position via next) × (w.place ≡ place) × (w.left ≡ left) × (w.found.most + 1 < p.hop_limit)
     leg-one place left p start middle from to on positive all =
         let s = middle-sid net next middle in
         let x = always-way position via next is_again 1 address alike place left p start from (again-test net p next s.0 s.1 on) to all in
@@ -299,7 +167,7 @@ module _ (net : Network) (keeps : Keeps net) (intent : Intent) (steps : List Ste
     is-leg : (leg : Leg) → IsLeg net intent steps address position via next leg → leg_of net intent steps position via next ≡ Some leg
     is-leg leg h =
         let at =
-        at-place (place_from net intent via) (IsTaken net address (drop position steps) next (length steps - leg.to) leg.hops) h.taken in
+        place-from (place_from net intent via) (IsTaken net address (drop position steps) next (length steps - leg.to) leg.hops) h.taken in
         let s = middle-sid net next h.middle in
         let one = some_packet-has net next s.0 address (leg.hops + 1) s.1 s.2 in
         let p = some_packet address (leg.hops + 1) in
@@ -323,7 +191,8 @@ module _ (net : Network) (keeps : Keeps net) (intent : Intent) (steps : List Ste
         let hops : w.found.most + 1 ≡ leg.hops = omega (arith, less, more) in
         let within = h.within in
         let to : length steps - w.left ≡ leg.to = same-to w.left (length steps) leg.to within x.2 in
-        leg-from position via next w h.middle ∙ ap Some (same-leg (length steps - w.left) leg.to (w.found.most + 1) leg.hops to hops)
+        leg-from net keeps intent steps are position via next w h.middle
+        ∙ ap Some (same-leg (length steps - w.left) leg.to (w.found.most + 1) leg.hops to hops)
       where
         same-to : (left count to : ℕ) → to ≤ count → left ≡ count - to → count - left ≡ to
         same-to left count to within e = omega arith
@@ -337,7 +206,7 @@ module _ (net : Network) (keeps : Keeps net) (intent : Intent) (steps : List Ste
 
     -- ---- finishes
 
-    handed-by : (w : Way position via next) (s : SidEntry) → slice_get net.sids next ≡ Some s
+    handed-by : (w : W position via next) (s : SidEntry) → slice_get net.sids next ≡ Some s
         → IsHanded net address (drop position steps) next w.left w.found.most w.place
     handed-by w s there p to on positive =
         let test = hand-test net p next s there on in (
@@ -345,14 +214,14 @@ module _ (net : Network) (keeps : Keeps net) (intent : Intent) (steps : List Ste
           λ all. below (always-way position via next is_hand 0 address alike w.place w.left p w.start w.from test to all),
         )
       where
-        below : (v : Way position via next) × (v.place ≡ w.place) × (v.left ≡ w.left) × (v.found.most + 0 ≤ p.hop_limit - 1)
+        below : (v : W position via next) × (v.place ≡ w.place) × (v.left ≡ w.left) × (v.found.most + 0 ≤ p.hop_limit - 1)
             → w.found.most < p.hop_limit
         below v = let e = one-way position via next v.0 w v.1 in omega (arith, e, v.3, positive)
 
     finish-is : (lowered : ℕ) → finish_of net intent steps position via next ≡ Some lowered
         → IsFinish net intent steps address position via next lowered
     finish-is lowered h =
-        let g = finish-way position via next lowered h in
+        let g = finish-way net keeps intent steps are position via next lowered h in
         let w = g.1 in
         let s = last-sid net intent.inner next g.0 in
         subst (IsFinish net intent steps address position via next) g.2
@@ -368,7 +237,7 @@ module _ (net : Network) (keeps : Keeps net) (intent : Intent) (steps : List Ste
         → is_last net intent.inner next ≡ true
         → place_from net intent via ≡ Some place → p.destination ≡ address → has_packet_inside net next p ≡ true → 0 < p.hop_limit
         → AlwaysExecutes net is_hand (drop position steps) next left p place
-        → (w : Way position via next) × (w.place ≡ place) × (w.left ≡ left) × (w.found.most < p.hop_limit)
+        → (w : W position via next) × (w.place ≡ place) × (w.left ≡ left) × (w.found.most < p.hop_limit)
     finish-one place left p start last from to on positive all =
         let s = last-sid net intent.inner next last in
         let x = always-way position via next is_hand 0 address alike place left p start from (hand-test net p next s.0 s.1 on) to all in
@@ -379,7 +248,7 @@ module _ (net : Network) (keeps : Keeps net) (intent : Intent) (steps : List Ste
       is-finish : (lowered : ℕ) → IsFinish net intent steps address position via next lowered
           → finish_of net intent steps position via next ≡ Some lowered
       is-finish lowered h =
-          let at = at-place (place_from net intent via) (IsHanded net address (drop position steps) next 0 lowered) h.handed in
+          let at = place-from (place_from net intent via) (IsHanded net address (drop position steps) next 0 lowered) h.handed in
           let s = last-sid net intent.inner next h.last in
           let one = last_packet-has net next s.0 intent.inner address (lowered + 1) s.1 (alone s.0 s.1) s.2 in
           let p = last_packet intent.inner address (lowered + 1) in
@@ -400,7 +269,7 @@ module _ (net : Network) (keeps : Keeps net) (intent : Intent) (steps : List Ste
           let high : lowered < q.hop_limit = (at.2 q two.1 two.0 q_positive).1 mine in
           let more : lowered < w.found.most + 1 = subst (λ (k : ℕ). lowered < k) two.2 high in
           let most : w.found.most ≡ lowered = omega (arith, less, more) in
-          finish-from position via next w h.last x.2 ∙ ap Some most
+          finish-from net keeps intent steps are position via next w h.last x.2 ∙ ap Some most
 
       pub finish-exactly : (lowered : ℕ)
           → (finish_of net intent steps position via next ≡ Some lowered) ↔ IsFinish net intent steps address position via next lowered

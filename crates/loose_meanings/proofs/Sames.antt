@@ -1,18 +1,11 @@
 -- In a flat network all choices come to the same for any two own addresses of a SID.
-use Rattle.std.proofs.Common.{◌≡◌, ℕ, zero, suc, Bool, true, false, if◌then◌else◌, List, [], ◌∷◌, ◌++◌, length, Some, slice_get, refl, sym, ◌∙◌, ap, ap₂, subst}
-use Rattle.v6_addr.specs.Kinds.{is_multicast}
-use Rattle.srv6_rules.specs.declared.sid.Family.{Family}
+use Rattle.std.proofs.Common.{◌≡◌, ℕ, zero, suc, List, [], ◌∷◌, ◌++◌, length, Some, slice_get, refl, sym, ap, ap₂, subst}
 use Rattle.srv6_rules.specs.declared.sid.Family.TheVariants as families
-use Rattle.srv6_rules.specs.declared.sid.Reason.TheVariants as reasons
 use Rattle.srv6_rules.specs.declared.sid.SidEntry.{SidEntry}
-use Rattle.net_model.specs.declared.net.Hit.{Hit}
 use Rattle.net_model.specs.Network.{Network}
-use Rattle.net_model.specs.Best.{lookup_of}
 use Rattle.flat_networks.specs.Nests.{IsOwn}
-use Rattle.walk_rules.specs.declared.place.How.{How}
-use Rattle.walk_rules.specs.declared.place.How.TheVariants.{Arrived, Submitted, Through}
 use Rattle.walk_rules.specs.declared.place.Place.{Place}
-use Rattle.walk_rules.specs.Way.{Way, Away, way_of, way_by, way_by_hit, way_by_table}
+use Rattle.walk_rules.specs.Way.{Way, way_of}
 use Rattle.step_traces.specs.declared.steps.Step.{Step}
 use Rattle.loose_graph.specs.declared.spots.Spot.{Spot}
 use Rattle.loose_graph.specs.declared.spots.Start.{Start}
@@ -20,6 +13,7 @@ use Rattle.loose_graph.specs.Finding.{found_from}
 use Rattle.loose_ways.specs.Graphs.{Numbers, arrived, found_in, lowers_by, numbers_of, row_from, rows_of, spot_by, spot_of_node}
 use Rattle.leg_table.specs.Leg.{IsAddressOf}
 use Rattle.leg_table.specs.Sids.{first_address, sid_address}
+use Rattle.leg_table.proofs.Alike.{way-alike}
 use Rattle.leg_table.proofs.FlatNets.{FlatFacts}
 use Rattle.loose_meanings.specs.Steps.{steps_left}
 
@@ -49,29 +43,10 @@ module _ (net : Network) (a b : ℕ) (alike : AreAlike net a b) where
       ap₂ (λ (g : List Spot) (s : Start). found_from g s) (rows-same (numbers_of net (length steps)) steps)
       (ap (start_with (numbers_of net (length steps)) (steps_left steps left)) (alike place v6))
 
-module _ (net : Network) (facts : FlatFacts net) (n : ℕ) (s : SidEntry) (there : slice_get net.sids n ≡ Some s) (a b : ℕ)
-    (a_own : IsOwn net s a) (b_own : IsOwn net s b) (kind : is_multicast a ≡ is_multicast b) where
-  table-alike : (node table : ℕ) (lower : Bool) → way_by_table net node table families.V6 lower a ≡ way_by_table net node table
-      families.V6 lower b
-  table-alike node table lower =
-      ap (λ (t : Bool). if t then Away reasons.Multicast else way_by_hit net lower (lookup_of net node table families.V6 a)) kind
-      ∙ ap (λ (h : Hit). if is_multicast b then Away reasons.Multicast else way_by_hit net lower h)
-      (facts.alike n node table a b s there a_own b_own)
-
-  how-alike : (node : ℕ) (how : How) → way_by net node how families.V6 a ≡ way_by net node how families.V6 b
-  how-alike node (Arrived table) = table-alike node table true
-  how-alike node (Submitted table) = table-alike node table false
-  how-alike node (Through sid lower) = refl
-
-  pub ways-alike : AreAlike net a b
-  unfolding way_of
-  ways-alike place v6 =
-      subst (λ (f : Family). way_by net place.node place.how f a ≡ way_by net place.node place.how f b) (sym v6)
-      (how-alike place.node place.how)
-
 -- an address of a SID and the first of its prefix
 pub address-alike : (net : Network) → FlatFacts net → (n : ℕ) (s : SidEntry) → slice_get net.sids n ≡ Some s → (address : ℕ)
     → IsAddressOf net n address → AreAlike net address (sid_address net n)
-address-alike net facts n s there address is =
+address-alike net facts n s there address is place v6 =
     let value : s.prefix.value ≡ sid_address net n = ap first_address (sym there) in
-    ways-alike net facts n s there address (sid_address net n) (is.own s there) (subst (IsOwn net s) value (facts.first n s there)) is.kind
+    way-alike net facts n s there address (sid_address net n) (is.own s there) (subst (IsOwn net s) value (facts.first n s there)) is.kind
+    place v6

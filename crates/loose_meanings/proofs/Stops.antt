@@ -17,8 +17,8 @@ use Rattle.walk_rules.proofs.PublicLaws.{sent-low, sent-high, decisions-few}
 use Rattle.step_traces.specs.declared.steps.Step.{Step}
 use Rattle.step_traces.specs.Traces.{Ends, Crossed, left_behind}
 use Rattle.loose_graph.proofs.Options.{then-some, some-same}
-use Rattle.loose_ways.specs.Stops.{ends_in, Stop, stop_by, first_stop}
-use Rattle.loose_ways.proofs.Quiet.{IsQuiet, quiet-stops, address-quiet, into-quiet}
+use Rattle.loose_ways.specs.Stops.{ends_in, Stop, stop_by, first_stop, SendsNothing}
+use Rattle.loose_ways.proofs.Quiet.{quiet-stops, address-quiet, into-quiet}
 use Rattle.leg_table.specs.Ride.{with_hop_limit}
 
 -- where a packet is that came over a link to a node
@@ -40,104 +40,109 @@ nowhere net (suc fuel) content pick taken = refl
 
 -- what holds of the steps left and the place, and of those behind each link that is crossed, holds at the stop
 module _ (net : Network) (p : Packet) (P : List Step → Place → Type 0)
-    (next : (ts us : List Step) (place : Place) (set : List ℕ) (lower : Bool) (link node : ℕ) → way_of net place p.destination ≡ Over set lower
-    → left_behind (ends_in net) ts (Crossed link) ≡ Some us → ends_in net link ≡ Some node → P ts place → P us (arrived_at node place)) where
-  abbrev at_hop : ℕ → Content
-  at_hop hop = V6 (with_hop_limit hop p)
+    (next : (ts us : List Step) (place : Place) (set : List ℕ) (lower : Bool) (link node : ℕ)
+    → way_of net place p.destination ≡ Over set lower
+    → left_behind (ends_in net) ts (Crossed link) ≡ Some us → ends_in net link ≡ Some node → P ts place → P us (arrived_at node place))
+  where
+    abbrev at_hop : ℕ → Content
+    at_hop hop = V6 (with_hop_limit hop p)
 
-  -- the stop by what the first stage gives
-  abbrev by_gave : ℕ → ℕ → Place → (ℕ → ℕ) → ℕ → List Step → Gave → Option Stop
-  by_gave more hop place pick taken ts gave =
-      stop_by (ends_in net)
-      (λ us. first_stop (ends_in net) us
-      (free_walk_of more net (next_place net place gave.outcome) gave.after pick (taken + decisions gave.outcome)))
-      ts (record { place = place; before = at_hop hop; gave = gave }) gave.outcome
+    -- the stop by what the first stage gives
+    abbrev by_gave : ℕ → ℕ → Place → (ℕ → ℕ) → ℕ → List Step → Gave → Option Stop
+    by_gave more hop place pick taken ts gave =
+        stop_by (ends_in net)
+        (λ us. first_stop (ends_in net) us
+        (free_walk_of more net (next_place net place gave.outcome) gave.after pick (taken + decisions gave.outcome)))
+        ts (record { place = place; before = at_hop hop; gave = gave }) gave.outcome
 
-  unfolds : (more hop : ℕ) (place : Place) (pick : ℕ → ℕ) (taken : ℕ) (ts : List Step)
-      → first_stop (ends_in net) ts (free_walk_of (suc more) net (Some place) (at_hop hop) pick taken)
-      ≡ by_gave more hop place pick taken ts (free_step_of net place (at_hop hop) (pick taken))
-  unfolding walk_by
-  unfolds more hop place pick taken ts = refl
+    unfolds : (more hop : ℕ) (place : Place) (pick : ℕ → ℕ) (taken : ℕ) (ts : List Step)
+        → first_stop (ends_in net) ts (free_walk_of (suc more) net (Some place) (at_hop hop) pick taken)
+        ≡ by_gave more hop place pick taken ts (free_step_of net place (at_hop hop) (pick taken))
+    unfolding walk_by
+    unfolds more hop place pick taken ts = refl
 
-  abbrev Facts : Stop → Type 0
-  Facts = StopFacts net p P
+    abbrev Facts : Stop → Type 0
+    Facts = StopFacts net p P
 
-  quiet-facts : (more hop : ℕ) (place : Place) (pick : ℕ → ℕ) (taken : ℕ) (ts : List Step) (gave : Gave) (stop : Stop) → IsQuiet gave.outcome
-      → gave ≡ free_step_of net place (at_hop hop) (pick taken) → P ts place → by_gave more hop place pick taken ts gave ≡ Some stop
-      → Facts stop
-  quiet-facts more hop place pick taken ts gave stop quiet is holds h =
-      let here : Stop = record { stage = record { place = place; before = at_hop hop; gave = gave }; left = ts } in
-      let same : here ≡ stop
-      = some-same here stop (sym (quiet-stops (ends_in net)
-      (λ us. first_stop (ends_in net) us
-      (free_walk_of more net (next_place net place gave.outcome) gave.after pick (taken + decisions gave.outcome)))
-      ts (record { place = place; before = at_hop hop; gave = gave }) gave.outcome quiet) ∙ h) in
-      subst Facts same (record { hop = hop; choice = pick taken; before = refl; gave = is; holds = holds })
+    quiet-facts : (more hop : ℕ) (place : Place) (pick : ℕ → ℕ) (taken : ℕ) (ts : List Step) (gave : Gave) (stop : Stop)
+        → SendsNothing gave.outcome
+        → gave ≡ free_step_of net place (at_hop hop) (pick taken) → P ts place → by_gave more hop place pick taken ts gave ≡ Some stop
+        → Facts stop
+    quiet-facts more hop place pick taken ts gave stop quiet is holds h =
+        let here : Stop = record { stage = record { place = place; before = at_hop hop; gave = gave }; left = ts } in
+        let same : here ≡ stop
+        = some-same here stop (sym (quiet-stops (ends_in net)
+        (λ us. first_stop (ends_in net) us
+        (free_walk_of more net (next_place net place gave.outcome) gave.after pick (taken + decisions gave.outcome)))
+        ts (record { place = place; before = at_hop hop; gave = gave }) gave.outcome quiet) ∙ h) in
+        subst Facts same (record { hop = hop; choice = pick taken; before = refl; gave = is; holds = holds })
 
-  -- what holds at stops of so many stages
-  abbrev Holds : ℕ → Type 0
-  Holds fuel = (hop : ℕ) (place : Place) (pick : ℕ → ℕ) (taken : ℕ) (ts : List Step) (stop : Stop) → P ts place
-      → first_stop (ends_in net) ts (free_walk_of fuel net (Some place) (at_hop hop) pick taken) ≡ Some stop → Facts stop
+    -- what holds at stops of so many stages
+    abbrev Holds : ℕ → Type 0
+    Holds fuel = (hop : ℕ) (place : Place) (pick : ℕ → ℕ) (taken : ℕ) (ts : List Step) (stop : Stop) → P ts place
+        → first_stop (ends_in net) ts (free_walk_of fuel net (Some place) (at_hop hop) pick taken) ≡ Some stop → Facts stop
 
-  sent-facts : (more hop after : ℕ) (place : Place) (set : List ℕ) (lower : Bool) (link : ℕ) (pick : ℕ → ℕ) (taken : ℕ) (ts : List Step)
-      (stop : Stop)
-      → way_of net place p.destination ≡ Over set lower → Holds more → P ts place
-      → by_gave more hop place pick taken ts (goes (outcomes.Send link) (at_hop after)) ≡ Some stop → Facts stop
-  sent-facts more hop after place set lower link pick taken ts stop way ih holds h =
-      let t =
-      then-some (λ us. first_stop (ends_in net) us
-      (free_walk_of more net (arrival (ends_in net link) place) (at_hop after) pick (taken + 1)))
-      (left_behind (ends_in net) ts (Crossed link)) stop h in
-      by_end t.0 t.1 (ends_in net link) refl t.2
-    where
-      by_end : (us : List Step) → left_behind (ends_in net) ts (Crossed link) ≡ Some us → (o : Option ℕ) → ends_in net link ≡ o
-          → first_stop (ends_in net) us (free_walk_of more net (arrival o place) (at_hop after) pick (taken + 1)) ≡ Some stop → Facts stop
-      by_end us left None e h =
-          absurd (none-stop (sym (ap (first_stop (ends_in net) us) (nowhere net more (at_hop after) pick (taken + 1))) ∙ h))
-        where
-          none-stop : None ≡ Some stop → ⊥
-          none-stop e = cc
-      by_end us left (Some node) e h =
-          ih after (arrived_at node place) pick (taken + 1) us stop (next ts us place set lower link node way left e holds) h
+    sent-facts : (more hop after : ℕ) (place : Place) (set : List ℕ) (lower : Bool) (link : ℕ) (pick : ℕ → ℕ) (taken : ℕ) (ts : List Step)
+        (stop : Stop)
+        → way_of net place p.destination ≡ Over set lower → Holds more → P ts place
+        → by_gave more hop place pick taken ts (goes (outcomes.Send link) (at_hop after)) ≡ Some stop → Facts stop
+    sent-facts more hop after place set lower link pick taken ts stop way ih holds h =
+        let t =
+        then-some (λ us. first_stop (ends_in net) us
+        (free_walk_of more net (arrival (ends_in net link) place) (at_hop after) pick (taken + 1)))
+        (left_behind (ends_in net) ts (Crossed link)) stop h in
+        by_end t.0 t.1 (ends_in net link) refl t.2
+      where
+        by_end : (us : List Step) → left_behind (ends_in net) ts (Crossed link) ≡ Some us → (o : Option ℕ) → ends_in net link ≡ o
+            → first_stop (ends_in net) us (free_walk_of more net (arrival o place) (at_hop after) pick (taken + 1)) ≡ Some stop → Facts stop
+        by_end us left None e h =
+            absurd (none-stop (sym (ap (first_stop (ends_in net) us) (nowhere net more (at_hop after) pick (taken + 1))) ∙ h))
+          where
+            none-stop : None ≡ Some stop → ⊥
+            none-stop e = cc
+        by_end us left (Some node) e h =
+            ih after (arrived_at node place) pick (taken + 1) us stop (next ts us place set lower link node way left e holds) h
 
-  by-way : (more : ℕ) → Holds more → (hop : ℕ) (place : Place) (pick : ℕ → ℕ) (taken : ℕ) (ts : List Step) (stop : Stop) → P ts place
-      → (w : Way) → way_of net place p.destination ≡ w
-      → free_step_of net place (at_hop hop) (pick taken) ≡ treated net place.node w (with_hop_limit hop p) (pick taken)
-      → by_gave more hop place pick taken ts (treated net place.node w (with_hop_limit hop p) (pick taken)) ≡ Some stop → Facts stop
-  by-way more ih hop place pick taken ts stop holds (Away reason) way is h =
-      quiet-facts more hop place pick taken ts (treated net place.node (Away reason) (with_hop_limit hop p) (pick taken)) stop tt (sym is) holds h
-  by-way more ih hop place pick taken ts stop holds Own way is h =
-      quiet-facts more hop place pick taken ts (treated net place.node Own (with_hop_limit hop p) (pick taken)) stop
-      (address-quiet net place.node (with_hop_limit hop p) (at_address (with_hop_limit hop p))) (sym is) holds h
-  by-way more ih hop place pick taken ts stop holds (Into n) way is h =
-      quiet-facts more hop place pick taken ts (treated net place.node (Into n) (with_hop_limit hop p) (pick taken)) stop
-      (into-quiet net place.node n (slice_get net.sids n) (with_hop_limit hop p)) (sym is) holds h
-  by-way more ih hop place pick taken ts stop holds (Over set false) way is h =
-      sent-facts more hop hop place set false (member_of set (pick taken)) pick taken ts stop way ih holds h
-  by-way more ih hop place pick taken ts stop holds (Over set true) way is h = by_limit (leb_tells hop 1)
-    where
-      by_limit : ((nat_le hop 1 ≡ true) × (hop ≤ 1)) ⊎ ((nat_le hop 1 ≡ false) × (1 < hop)) → Facts stop
-      by_limit (inl low) =
-          let gave : Gave = dropped net place.node reasons.HopLimit 0 (at_hop hop) in
-          let gives = sent-low net place.node set (with_hop_limit hop p) (pick taken) low.1 in
-          quiet-facts more hop place pick taken ts gave stop tt (sym (is ∙ gives)) holds
-          (sym (ap (by_gave more hop place pick taken ts) gives) ∙ h)
-      by_limit (inr high) =
-          let gives = sent-high net place.node set (with_hop_limit hop p) (pick taken) high.1 in
-          sent-facts more hop (hop - 1) place set true (member_of set (pick taken)) pick taken ts stop way ih holds
-          (sym (ap (by_gave more hop place pick taken ts) gives) ∙ h)
+    by-way : (more : ℕ) → Holds more → (hop : ℕ) (place : Place) (pick : ℕ → ℕ) (taken : ℕ) (ts : List Step) (stop : Stop) → P ts place
+        → (w : Way) → way_of net place p.destination ≡ w
+        → free_step_of net place (at_hop hop) (pick taken) ≡ treated net place.node w (with_hop_limit hop p) (pick taken)
+        → by_gave more hop place pick taken ts (treated net place.node w (with_hop_limit hop p) (pick taken)) ≡ Some stop → Facts stop
+    by-way more ih hop place pick taken ts stop holds (Away reason) way is h =
+        quiet-facts more hop place pick taken ts (treated net place.node (Away reason) (with_hop_limit hop p) (pick taken)) stop tt (sym is)
+        holds h
+    by-way more ih hop place pick taken ts stop holds Own way is h =
+        quiet-facts more hop place pick taken ts (treated net place.node Own (with_hop_limit hop p) (pick taken)) stop
+        (address-quiet net place.node (with_hop_limit hop p) (at_address (with_hop_limit hop p))) (sym is) holds h
+    by-way more ih hop place pick taken ts stop holds (Into n) way is h =
+        quiet-facts more hop place pick taken ts (treated net place.node (Into n) (with_hop_limit hop p) (pick taken)) stop
+        (into-quiet net place.node n (slice_get net.sids n) (with_hop_limit hop p)) (sym is) holds h
+    by-way more ih hop place pick taken ts stop holds (Over set false) way is h =
+        sent-facts more hop hop place set false (member_of set (pick taken)) pick taken ts stop way ih holds h
+    by-way more ih hop place pick taken ts stop holds (Over set true) way is h = by_limit (leb_tells hop 1)
+      where
+        by_limit : ((nat_le hop 1 ≡ true) × (hop ≤ 1)) ⊎ ((nat_le hop 1 ≡ false) × (1 < hop)) → Facts stop
+        by_limit (inl low) =
+            let gave : Gave = dropped net place.node reasons.HopLimit 0 (at_hop hop) in
+            let gives = sent-low net place.node set (with_hop_limit hop p) (pick taken) low.1 in
+            quiet-facts more hop place pick taken ts gave stop tt (sym (is ∙ gives)) holds
+            (sym (ap (by_gave more hop place pick taken ts) gives) ∙ h)
+        by_limit (inr high) =
+            let gives = sent-high net place.node set (with_hop_limit hop p) (pick taken) high.1 in
+            sent-facts more hop (hop - 1) place set true (member_of set (pick taken)) pick taken ts stop way ih holds
+            (sym (ap (by_gave more hop place pick taken ts) gives) ∙ h)
 
-  pub stop-facts : (fuel : ℕ) → Holds fuel
-  unfolding walk_by
-  stop-facts zero hop place pick taken ts stop holds h = absurd (cc)
-  stop-facts (suc more) hop place pick taken ts stop holds h =
-      by-way more (stop-facts more) hop place pick taken ts stop holds (way_of net place p.destination) refl refl
-      (sym (unfolds more hop place pick taken ts) ∙ h)
+    pub stop-facts : (fuel : ℕ) → Holds fuel
+    unfolding walk_by
+    stop-facts zero hop place pick taken ts stop holds h = absurd (cc)
+    stop-facts (suc more) hop place pick taken ts stop holds h =
+        by-way more (stop-facts more) hop place pick taken ts stop holds (way_of net place p.destination) refl refl
+        (sym (unfolds more hop place pick taken ts) ∙ h)
 
 -- ---- more stages, and other choices
 
 stop-on : (to : Ends) (rest more : List Step → Option Stop) (ts : List Step) (s : Stage) (o : Outcome) (stop : Stop)
-    → ((us : List Step) → rest us ≡ Some stop → more us ≡ Some stop) → stop_by to rest ts s o ≡ Some stop → stop_by to more ts s o ≡ Some stop
+    → ((us : List Step) → rest us ≡ Some stop → more us ≡ Some stop) → stop_by to rest ts s o ≡ Some stop
+    → stop_by to more ts s o ≡ Some stop
 stop-on to rest more ts s (outcomes.Send link) stop on h =
     let t = then-some rest (left_behind to ts (Crossed link)) stop h in
     ap (option_and_then more) t.1 ∙ on t.0 t.2
@@ -162,7 +167,8 @@ stop-longer net (suc few) (suc many) l (Some place) content pick taken ts stop h
     (λ us. first_stop (ends_in net) us
     (free_walk_of many net (next_place net place gave.outcome) gave.after pick (taken + decisions gave.outcome)))
     ts (record { place = place; before = content; gave = gave }) gave.outcome stop
-    (λ us. stop-longer net few many (omega arith) (next_place net place gave.outcome) gave.after pick (taken + decisions gave.outcome) us stop)
+    (λ us. stop-longer net few many (omega arith) (next_place net place gave.outcome) gave.after pick (taken + decisions gave.outcome) us
+    stop)
     h
 
 -- the choices of the decisions from one on, so many of them, are the same

@@ -16,7 +16,7 @@ use Rattle.leg_table.specs.Sids.{is_last, is_middle}
 use Rattle.loose_meanings.specs.Legs.{left_after}
 use Rattle.loose_meanings.specs.Sids.{is_start}
 
--- the first stage that sends nothing, behind links that keep to the steps, executes SID n, by its outcome; and so many steps are left behind
+-- the first stage that sends nothing, behind links that keep to the steps, executes SID n, by its outcome; so many steps are left behind
 -- the execution
 pub record ExecutesAlong (net : Network) (executes : ℕ → Outcome → Bool) (ts : List Step) (n left : ℕ) (ss : List Stage) : Type 0 where
   pub stop : Stop

@@ -17,15 +17,15 @@ ghost use Rattle.srv6_rules.specs.Packet.{Packet};
 ghost use Rattle.step_traces.specs.declared.steps.Step.{Step};
 ghost use Rattle.walk_rules.specs.declared.place.Place.{Place};
 
-/// A leg by look-ups alone is there exactly where for all choices a packet to the next SID is taken to
-/// that SID, along links that keep to the steps, and executed there, with as many steps left behind
-/// it as the leg's end leaves; where the step that is left first is to reach a node, the links behind
-/// the steps before it lead to other nodes. Its hops are the greatest number of lowerings over all
-/// choices, with that of the execution. So it is for a packet to the first address of the SID's
-/// prefix, and in a flat network for one to any address of the SID's own that is multicast exactly
-/// where the first one is. Where even one packet, with whatever hop limit, is executed so, there is a
-/// leg; so there is none exactly where choices disagree, where one is lost, and where a loop of routes
-/// can be passed any number of times (own rule).
+/// A leg by look-ups alone is there exactly where for all choices a packet to the next SID is taken
+/// to that SID, along links that keep to the steps, and executed there, with as many steps left
+/// behind it as the leg's end leaves; where the step that is left first is to reach a node, the
+/// links behind the steps before it lead to other nodes. Its hops are the greatest number of
+/// lowerings over all choices, with that of the execution. So it is for a packet to the first
+/// address of the SID's prefix, and in a flat network for one to any address of the SID's own that
+/// is multicast exactly where the first one is. Where even one packet, with whatever hop limit, is
+/// executed so, there is a leg; so there is none exactly where choices disagree, where one is lost,
+/// and where a loop of routes can be passed any number of times (own rule).
 pub fn a_loose_leg_is_for_all_choices()
     ensures first { (net : Network) (intent : Intent) (steps : List Step) (position : ℕ) →
         (via : Option ℕ) (next : ℕ) (leg : Leg) → Keeps net → AreSteps net intent steps →
@@ -46,12 +46,12 @@ pub fn a_loose_leg_is_for_all_choices()
         × (leg.to ≡ length steps - left) × (leg.hops < p.hop_limit) }
 {}
 
-/// A finish by look-ups alone is there exactly where for all choices a packet to the last SID is taken
-/// to that SID along links that keep to the steps, and the packet inside exposed there with no step
-/// left. Its number is the greatest number of lowerings over all choices. So it is for a packet to
-/// the first address of the SID's prefix, and in a flat network for one to any address of the SID's
-/// own that is multicast exactly where the first one is and has no further SID after it. Where even
-/// one packet, with whatever hop limit, is exposed so, there is a finish (own rule).
+/// A finish by look-ups alone is there exactly where for all choices a packet to the last SID is
+/// taken to that SID along links that keep to the steps, and the packet inside exposed there with
+/// no step left. Its number is the greatest number of lowerings over all choices. So it is for a
+/// packet to the first address of the SID's prefix, and in a flat network for one to any address of
+/// the SID's own that is multicast exactly where the first one is and has no further SID after it.
+/// Where even one packet, with whatever hop limit, is exposed so, there is a finish (own rule).
 pub fn a_loose_finish_is_for_all_choices()
     ensures first { (net : Network) (intent : Intent) (steps : List Step) (position : ℕ) →
         (via : Option ℕ) (next lowered : ℕ) → Keeps net → AreSteps net intent steps →

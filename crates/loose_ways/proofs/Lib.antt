@@ -5,4 +5,6 @@ pub mod Making
 pub mod Numbering
 pub mod Nodes
 pub mod Starting
+pub mod WayRows
+pub mod Filling
 pub mod Reaching

@@ -6,6 +6,7 @@ use Rattle.walk_rules.specs.Way.{way_of}
 use Rattle.step_traces.specs.declared.steps.Step.{Step}
 use Rattle.loose_graph.specs.declared.spots.Spot.{Spot}
 use Rattle.loose_graph.specs.Walks.{spot_of, spot_at}
+use Rattle.loose_graph.proofs.Lists.{get-before, get-behind}
 use Rattle.loose_ways.specs.Graphs.{Numbers, arrived, spot_by, IsLeft, IsGraph, row_from, rows_of, numbers_of, graph_in}
 
 pub row-length : (value : ℕ → Spot) (node count : ℕ) → length (row_from value node count) ≡ count
@@ -18,16 +19,6 @@ row-get value node (suc count) zero l = let n : node ≡ node + 0 = omega arith 
 row-get value node (suc count) (suc k) l =
     row-get value (suc node) count k (omega arith)
     ∙ (let n : suc node + k ≡ node + suc k = omega arith in ap (λ (v : ℕ). Some (value v)) n)
-
-get-before : (xs ys : List Spot) (k : ℕ) → k < length xs → slice_get (xs ++ ys) k ≡ slice_get xs k
-get-before [] ys k l = absurd (omega arith)
-get-before (x ∷ xs) ys zero l = refl
-get-before (x ∷ xs) ys (suc k) l = get-before xs ys k (omega arith)
-
-get-behind : (xs ys : List Spot) (n k : ℕ) → n ≡ length xs + k → slice_get (xs ++ ys) n ≡ slice_get ys k
-get-behind [] ys n k e = let same : n ≡ k = omega arith in ap (slice_get ys) same
-get-behind (x ∷ xs) ys zero k e = absurd (omega arith)
-get-behind (x ∷ xs) ys (suc n) k e = get-behind xs ys n k (omega arith)
 
 module _ (net : Network) (numbers : Numbers) (a : ℕ) where
   pub rows-length : (ts : List Step) → length (rows_of net numbers a ts) ≡ (length ts + 1) * length net.nodes
@@ -71,7 +62,11 @@ module _ (net : Network) (numbers : Numbers) (a : ℕ) where
 pub graph-is : (net : Network) (destination : ℕ) (steps : List Step)
     → IsGraph net destination steps (numbers_of net (length steps)) (graph_in net destination steps)
 graph-is net a steps =
-    record { at = at; lost = ap spot_of (slice_get_past (graph_in net a steps) ((length steps + 1) * length net.nodes) (omega (arith, long))) }
+    record {
+      at = at;
+      lost = ap spot_of (slice_get_past (graph_in net a steps) ((length steps + 1) * length net.nodes)
+          (omega (arith, long)));
+    }
   where
     long : length (graph_in net a steps) ≡ (length steps + 1) * length net.nodes
     long = rows-length net (numbers_of net (length steps)) a steps

@@ -65,7 +65,8 @@ module _ (net : Network) (keeps : Keeps net) (a : ℕ) (steps : List Step) where
           inr (ap (λ (k : ℕ). k ∷ map under (map (next_spot net (numbers_of net (length steps)) ts) links)) is
           ∙ ap (λ (ks : List ℕ). node_behind net link ∷ ks) all)
 
-  way-over : (ts : List Step) (w : Way) → IsOver graph under answer_under (spot_by net (numbers_of net (length steps)) ts w) (node_spot_by net w)
+  way-over : (ts : List Step) (w : Way) → IsOver graph under answer_under (spot_by net (numbers_of net (length steps)) ts w)
+      (node_spot_by net w)
   way-over ts (Away reason) = tt
   way-over ts Own = tt
   way-over ts (Into n) = refl
@@ -98,7 +99,8 @@ module _ (net : Network) (keeps : Keeps net) (a : ℕ) (steps : List Step) where
           let count : length ts ≡ left = (let l = length-drop (length steps - left) steps in omega (arith, l)) in
           let place : length ts * length net.nodes + node ≡ v
           = ap (λ (k : ℕ). k * length net.nodes + node) count ∙ div-add-mod' v (length net.nodes) in
-          let own = (graph-is net a steps).at ts node (take (length steps - left) steps, sym (take-append-drop (length steps - left) steps)) there in
+          let own = (graph-is net a steps).at ts node (take (length steps - left) steps, sym (take-append-drop (length steps - left) steps))
+          there in
           let here : spot_at graph v ≡ spot_by net (numbers_of net (length steps)) ts (way_of net (arrived node) a)
           = ap (spot_at graph) (sym place) ∙ own in
           let zero_is : 0 + node ≡ node = omega arith in
@@ -106,7 +108,8 @@ module _ (net : Network) (keeps : Keeps net) (a : ℕ) (steps : List Step) where
           = ap spot_of (row-get (λ n. node_spot_by net (way_of net (arrived n) a)) 0 (length net.nodes) node there)
           ∙ ap (λ (n : ℕ). node_spot_by net (way_of net (arrived n) a)) zero_is in
           subst (λ (s : Spot). IsOver graph under answer_under s (spot_at (nodes_in net a) node)) (sym here)
-          (subst (λ (s : Spot). IsOver graph under answer_under (spot_by net (numbers_of net (length steps)) ts (way_of net (arrived node) a)) s)
+          (subst (λ (s : Spot). IsOver graph under answer_under
+          (spot_by net (numbers_of net (length steps)) ts (way_of net (arrived node) a)) s)
           (sym below) (way-over ts (way_of net (arrived node) a)))
         where
           some-nodes : v < (length steps + 1) * length net.nodes → 0 < length net.nodes

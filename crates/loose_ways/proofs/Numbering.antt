@@ -33,7 +33,8 @@ next-is net count link result size lost left behind end size_is lost_is end_is b
     e ∙ ap (λ (n : ℕ). number_behind n lost behind end) size_is
     ∙ ap (λ (n : ℕ). number_behind (length net.nodes) n behind end) (lost_is ∙ ap (λ (n : ℕ). (count + 1) * n) size_is)
     ∙ ap (λ (o : Option ℕ). number_behind (length net.nodes) ((count + 1) * length net.nodes) o end) behind_is
-    ∙ ap (number_behind (length net.nodes) ((count + 1) * length net.nodes) (count_left (left_behind (ends_in net) left (Crossed link)))) end_is
+    ∙ ap (number_behind (length net.nodes) ((count + 1) * length net.nodes) (count_left (left_behind (ends_in net) left (Crossed link))))
+    end_is
     ∙ sym (number-is net count (left_behind (ends_in net) left (Crossed link)) (ends_in net link))
 
 pub behind-few : (net : Network) (left : List Step) (link : ℕ) (behind : Option ℕ) → length left ≤ 48

@@ -21,18 +21,10 @@ use Rattle.step_traces.specs.declared.steps.Step.TheVariants.{Links, Function, R
 use Rattle.step_traces.specs.Traces.{Ends, Event, Crossed, Executed, has_link, left_by_reach, left_behind}
 use Rattle.step_traces.proofs.Parts.{if-some, some-same}
 use Rattle.loose_graph.specs.Walks.{Picks, later, member_of, End, over}
-use Rattle.loose_ways.specs.Stops.{ends_in, Stop, stop_by}
+use Rattle.loose_ways.specs.Stops.{ends_in, SendsNothing, Stop, stop_by}
 use Rattle.loose_ways.specs.Graphs.{IsLeft}
 
--- an outcome that sends nothing
-abbrev pub IsQuiet : Outcome → Type 0
-IsQuiet (outcomes.Send link) = ⊥
-IsQuiet (outcomes.Again n how) = Unit {0}
-IsQuiet (outcomes.Hand n how family) = Unit {0}
-IsQuiet outcomes.Local = Unit {0}
-IsQuiet (outcomes.Drop reason error) = Unit {0}
-
-pub quiet-stops : (to : Ends) (rest : List Step → Option Stop) (ts : List Step) (s : Stage) (o : Outcome) → IsQuiet o
+pub quiet-stops : (to : Ends) (rest : List Step → Option Stop) (ts : List Step) (s : Stage) (o : Outcome) → SendsNothing o
     → stop_by to rest ts s o ≡ Some (record { stage = s; left = ts })
 quiet-stops to rest ts s (outcomes.Send link) q = absurd q
 quiet-stops to rest ts s (outcomes.Again n how) q = refl
@@ -40,32 +32,35 @@ quiet-stops to rest ts s (outcomes.Hand n how family) q = refl
 quiet-stops to rest ts s outcomes.Local q = refl
 quiet-stops to rest ts s (outcomes.Drop reason error) q = refl
 
-pub address-quiet : (net : Network) (node : ℕ) (p : Packet) (e : Endpoint) → IsQuiet (treated_at_address net node p e).outcome
+pub address-quiet : (net : Network) (node : ℕ) (p : Packet) (e : Endpoint) → SendsNothing (treated_at_address net node p e).outcome
 address-quiet net node p (Onward q) = tt
 address-quiet net node p (Exposed family bytes) = tt
 address-quiet net node p (Delivered q) = tt
 address-quiet net node p (Refused reason at) = tt
 
-pushed-quiet : (net : Network) (node n : ℕ) (b : Behaviour) (p : Packet) (e : Encapsulating) → IsQuiet (pushed_at_sid net node n b p e).outcome
+pushed-quiet : (net : Network) (node n : ℕ) (b : Behaviour) (p : Packet) (e : Encapsulating)
+    → SendsNothing (pushed_at_sid net node n b p e).outcome
 pushed-quiet net node n b p (Outer outer) = tt
 pushed-quiet net node n b p (TooBig long) = tt
 pushed-quiet net node n b p InnerHop = tt
 
-onward-quiet : (net : Network) (node n : ℕ) (b : Behaviour) (p q : Packet) (o : Option ℕ) → IsQuiet (onward_at_sid net node n b p q o).outcome
+onward-quiet : (net : Network) (node n : ℕ) (b : Behaviour) (p q : Packet) (o : Option ℕ)
+    → SendsNothing (onward_at_sid net node n b p q o).outcome
 onward-quiet net node n b p q None = tt
 onward-quiet net node n b p q (Some number) = by_policy (slice_get net.policies number)
   where
-    by_policy : (o : Option NamedPolicy) → IsQuiet (bound_at_sid net node n b p q o).outcome
+    by_policy : (o : Option NamedPolicy) → SendsNothing (bound_at_sid net node n b p q o).outcome
     by_policy None = tt
     by_policy (Some named) = pushed-quiet net node n b p (pushed_by named.policy (behaviour_reduces b) families.V6 (spelling q))
 
-sid-quiet : (net : Network) (node n : ℕ) (b : Behaviour) (p : Packet) (e : Endpoint) → IsQuiet (treated_at_sid net node n b p e).outcome
+sid-quiet : (net : Network) (node n : ℕ) (b : Behaviour) (p : Packet) (e : Endpoint)
+    → SendsNothing (treated_at_sid net node n b p e).outcome
 sid-quiet net node n b p (Onward q) = onward-quiet net node n b p q (behaviour_policy b)
 sid-quiet net node n b p (Exposed family bytes) = tt
 sid-quiet net node n b p (Delivered q) = tt
 sid-quiet net node n b p (Refused reason at) = tt
 
-pub into-quiet : (net : Network) (node n : ℕ) (o : Option SidEntry) (p : Packet) → IsQuiet (treated_in net node n o p).outcome
+pub into-quiet : (net : Network) (node n : ℕ) (o : Option SidEntry) (p : Packet) → SendsNothing (treated_in net node n o p).outcome
 into-quiet net node n None p = tt
 into-quiet net node n (Some s) p = sid-quiet net node n s.behaviour p (at_sid s (allow_of (slice_get net.nodes node)) p)
 

@@ -1,5 +1,5 @@
 -- Where all choices come to a SID with enough of the hop limit.
-use Rattle.std.proofs.Common.{◌≡◌, ℕ, zero, suc, ◌+◌, ◌-◌, ◌*◌, ◌<◌, ◌≤◌, ◌↔◌, ◌==◌, if◌then◌else◌, Bool, true, List, [], ◌∷◌, ◌++◌, take, drop, length, Option, Some, None, refl, sym, ◌∙◌, ap, subst, arith, eqb-true, eq-eqb, append_assoc, length-append}
+use Rattle.std.proofs.Common.{◌≡◌, ℕ, zero, suc, ◌+◌, ◌-◌, ◌*◌, ◌<◌, ◌≤◌, ◌↔◌, ◌==◌, true, List, [], ◌∷◌, ◌++◌, take, drop, length, Option, Some, None, refl, sym, ◌∙◌, ap, subst, arith, eqb-true, eq-eqb, append_assoc, length-append}
 use Rattle.std.proofs.lemmas.List.{take-append-drop}
 use Rattle.std.specs.Option.{option_map, option_and_then}
 use Rattle.srv6_rules.specs.declared.sid.Family.TheVariants as families
@@ -19,9 +19,9 @@ use Rattle.loose_graph.specs.declared.spots.Start.{Start}
 use Rattle.loose_graph.specs.declared.spots.Found.{Found}
 use Rattle.loose_graph.specs.Walks.{Picks, End, walk_from}
 use Rattle.loose_graph.specs.Finding.{found_from}
-use Rattle.loose_graph.specs.Legs.{Leg, executed, done_behind, goes_through, AlwaysGoesThrough, leg_need, need_of, need}
-use Rattle.loose_graph.proofs.Options.{then-some, if-some, some-same, none-some, both-true, true-both}
-use Rattle.loose_graph.proofs.Legs.{LegNeed, through-enough, through-needed}
+use Rattle.loose_graph.specs.Legs.{Leg, executed, done_behind, goes_through, AlwaysGoesThrough, need_of, need}
+use Rattle.loose_graph.proofs.Options.{then-some, some-same, none-some, both-true, true-both}
+use Rattle.loose_graph.proofs.Legs.{leg-need, need-leg, through-enough, through-needed}
 use Rattle.loose_ways.specs.Stops.{ends_in, Stop, stop_by, first_stop, room_of, Coming, coming_by, coming_at, coming, coming_of, ComesTo}
 use Rattle.loose_ways.specs.Graphs.{IsLeft, found_in, graph_in, numbers_of, start_at}
 use Rattle.loose_ways.proofs.Quiet.{left-steps}
@@ -97,28 +97,15 @@ exec-from zero room picks l = refl
 exec-from (suc k) zero picks l = absurd (omega arith)
 exec-from (suc k) (suc room) picks l = exec-from k room picks (omega arith)
 
-leg-need : (leg : Leg) (n : ℕ) → need_of leg ≡ Some n → LegNeed leg n
-leg-need leg n e =
-    let t = then-some (leg_need leg.answer leg.lowers) (found_from leg.spots leg.start) n e in
-    let i = if-some (t.0.answer == leg.answer) (Some (t.0.most + leg.lowers)) n t.2 in
-    record {
-      found = t.0;
-      here = t.1;
-      same = eqb-true t.0.answer leg.answer i.0;
-      sum = some-same (t.0.most + leg.lowers) n i.1;
-    }
-
 need-one : (leg : Leg) (f : Found) → found_from leg.spots leg.start ≡ Some f → f.answer ≡ leg.answer
     → need (leg ∷ []) ≡ Some (f.most + leg.lowers + 0)
 need-one leg f e same =
-    let own : need_of leg ≡ Some (f.most + leg.lowers)
-    = ap (option_and_then (leg_need leg.answer leg.lowers)) e
-    ∙ ap (λ (b : Bool). if b then Some (f.most + leg.lowers) else None) (eq-eqb f.answer leg.answer same) in
-    ap (option_and_then (λ (k : ℕ). option_map (λ m. k + m) (Some 0))) own
+    ap (option_and_then (λ (k : ℕ). option_map (λ m. k + m) (Some 0))) (need-leg leg f e same)
 
 -- ---- all choices
 
-module _ (net : Network) (keeps : Keeps net) (steps ts : List Step) (few : length steps ≤ 48) (left : IsLeft steps ts) (place : Place) (p : Packet)
+module _ (net : Network) (keeps : Keeps net) (steps ts : List Step) (few : length steps ≤ 48) (left : IsLeft steps ts) (place : Place)
+    (p : Packet)
     (is_place : IsPlace net place) (family : place.family ≡ families.V6) (fuel : ℕ) (enough : p.hop_limit + 1 < fuel)
   where
     abbrev graph : List Spot
@@ -139,7 +126,8 @@ module _ (net : Network) (keeps : Keeps net) (steps ts : List Step) (few : lengt
     walk-is : (pick : Picks)
         → option_map coming_of (walk_from graph (p.hop_limit - 1) pick start) ≡ coming net p.destination code ts (stages pick)
     walk-is pick =
-        walks-are net steps ts (numbers_of net (length steps)) graph place p pick fuel keeps (graph-is net p.destination steps) left is_place family
+        walks-are net steps ts (numbers_of net (length steps)) graph place p pick fuel keeps (graph-is net p.destination steps) left
+        is_place family
         enough
 
     few-left : (stop : Stop) (ss : List Stage) → first_stop (ends_in net) ts ss ≡ Some stop → length stop.left ≤ 48
@@ -192,7 +180,8 @@ module _ (net : Network) (keeps : Keeps net) (steps ts : List Step) (few : lengt
             let room : e.room ≡ room_of c.stop.stage.before = ap (λ (x : Coming). x.room) same in
             let high : lowers ≤ e.room = subst (λ (k : ℕ). lowers ≤ k) (sym room) c.room in
             ap (done_behind (goes_through []) (leg_to n rest lowers)) is
-            ∙ true-both (e.answer == n * 64 + rest) (executed (goes_through []) lowers e.room e.picks) (eq-eqb e.answer (n * 64 + rest) answer)
+            ∙ true-both (e.answer == n * 64 + rest) (executed (goes_through []) lowers e.room e.picks)
+            (eq-eqb e.answer (n * 64 + rest) answer)
             (exec-from lowers e.room e.picks high)
 
     pub comes-found : (n rest lowers : ℕ) → rest < 64
@@ -223,8 +212,11 @@ module _ (net : Network) (keeps : Keeps net) (steps ts : List Step) (few : lengt
 
 pub where-found : (net : Network) (steps : List Step) (left : ℕ) (place : Place) (p : Packet) (fuel n rest lowers : ℕ) → Keeps net
     → length steps ≤ 48 → rest < 64 → IsPlace net place → place.family ≡ families.V6 → p.hop_limit + 1 < fuel
-    → ((pick : ℕ → ℕ) → ComesTo net p.destination (drop (length steps - left) steps) n rest lowers (free_walk_of fuel net (Some place) (V6 p) pick 0))
-    ↔ ((f : Found) × (found_in net p.destination steps left place ≡ Some f) × (f.answer ≡ n * 64 + rest) × (f.most + lowers ≤ p.hop_limit - 1))
+    → ((pick : ℕ → ℕ) → ComesTo net p.destination (drop (length steps - left) steps) n rest lowers
+    (free_walk_of fuel net (Some place) (V6 p) pick 0))
+    ↔ ((f : Found) × (found_in net p.destination steps left place ≡ Some f) × (f.answer ≡ n * 64 + rest)
+    × (f.most + lowers ≤ p.hop_limit - 1))
 where-found net steps left place p fuel n rest lowers keeps few low is_place family enough =
     comes-found net keeps steps (drop (length steps - left) steps) few
-    (take (length steps - left) steps, sym (take-append-drop (length steps - left) steps)) place p is_place family fuel enough n rest lowers low
+    (take (length steps - left) steps, sym (take-append-drop (length steps - left) steps)) place p is_place family fuel enough n rest lowers
+    low

@@ -25,9 +25,9 @@ use Rattle.loose_graph.specs.declared.spots.Spot.{Spot}
 use Rattle.loose_graph.specs.declared.spots.Spot.TheVariants as spots
 use Rattle.loose_graph.specs.Walks.{Picks, later, spot_at, over, walk, walk_first, walk_from}
 use Rattle.loose_graph.proofs.Walking.{walk-is, over-nowhere, first-stop, Behind}
-use Rattle.loose_ways.specs.Stops.{ends_in, stop_by, first_stop, Coming, coming_by, coming_at, coming, coming_of}
+use Rattle.loose_ways.specs.Stops.{ends_in, stop_by, first_stop, Coming, coming_by, coming_at, coming, coming_of, SendsNothing}
 use Rattle.loose_ways.specs.Graphs.{Numbers, arrived, spot_behind, next_spot, spot_by, lowers_by, start_at, IsLeft, IsGraph}
-use Rattle.loose_ways.proofs.Quiet.{IsQuiet, quiet-stops, address-quiet, into-quiet, left-on, end-there, over-map}
+use Rattle.loose_ways.proofs.Quiet.{quiet-stops, address-quiet, into-quiet, left-on, end-there, over-map}
 
 first-lost : (graph : List Spot) (lowers : Bool) (room : ℕ) (picks : Picks) → walk_first graph lowers room picks spots.Lost ≡ None
 first-lost graph false room picks = refl
@@ -39,9 +39,10 @@ walk-lost graph room picks v lost =
     walk-is graph room picks v ∙ ap (walk_first graph true room picks) lost ∙ first-lost graph true room picks
 
 -- a packet that has come over a link lowers its hop limit with the next one
-arrived-lowers : (net : Network) (node destination : ℕ) → lowers_by (way_of net (arrived node) destination) ≡ true
+pub family-lowers : (net : Network) (node : ℕ) (family : Family) (destination : ℕ)
+    → lowers_by (way_of net (record { node = node; how = Arrived 0; family = family }) destination) ≡ true
 unfolding way_of
-arrived-lowers net node destination = by_kind (is_multicast_of families.V6 destination)
+family-lowers net node family destination = by_kind (is_multicast_of family destination)
   where
     by_hit : (h : Hit) → lowers_by (way_by_hit net true h) ≡ true
     by_hit (hits.Sid n) = refl
@@ -50,14 +51,18 @@ arrived-lowers net node destination = by_kind (is_multicast_of families.V6 desti
     by_hit hits.Nothing = refl
 
     by_kind : (b : Bool) → lowers_by (if b then Away reasons.Multicast
-        else way_by_hit net true (lookup_of net node 0 families.V6 destination)) ≡ true
+        else way_by_hit net true (lookup_of net node 0 family destination)) ≡ true
     by_kind true = refl
-    by_kind false = by_hit (lookup_of net node 0 families.V6 destination)
+    by_kind false = by_hit (lookup_of net node 0 family destination)
 
-walk-nowhere : (net : Network) (fuel : ℕ) (content : Content) (pick : ℕ → ℕ) (taken : ℕ) → free_walk_of fuel net None content pick taken ≡ []
+pub arrived-lowers : (net : Network) (node destination : ℕ) → lowers_by (way_of net (arrived node) destination) ≡ true
+arrived-lowers net node destination = family-lowers net node families.V6 destination
+
+pub walk-none : (net : Network) (fuel : ℕ) (content : Content) (pick : ℕ → ℕ) (taken : ℕ)
+    → free_walk_of fuel net None content pick taken ≡ []
 unfolding walk_by
-walk-nowhere net zero content pick taken = refl
-walk-nowhere net (suc fuel) content pick taken = refl
+walk-none net zero content pick taken = refl
+walk-none net (suc fuel) content pick taken = refl
 
 -- the choices that are left
 abbrev pub ArePicks : Picks → (ℕ → ℕ) → ℕ → Type 0
@@ -86,7 +91,7 @@ module _ (net : Network) (keeps : Keeps net) (a : ℕ) (steps : List Step) (numb
   stage-comes more place p pick taken ts gave e = ap (comes_by more place p pick taken ts) e
 
   quiet-comes : (more : ℕ) (place : Place) (p : Packet) (pick : ℕ → ℕ) (taken : ℕ) (ts : List Step) (gave : Gave) (w : Way)
-      → IsQuiet gave.outcome → way_of net place a ≡ w
+      → SendsNothing gave.outcome → way_of net place a ≡ w
       → comes_by more place p pick taken ts gave
       ≡ coming_by numbers.code (record { stage = record { place = place; before = V6 p; gave = gave }; left = ts }) w
   quiet-comes more place p pick taken ts gave w quiet way =
@@ -117,7 +122,7 @@ module _ (net : Network) (keeps : Keeps net) (a : ℕ) (steps : List Step) (numb
   behind-link room more l holds place family ts left link q to_a low pick picks taken same (Some us) o_is None e_is =
       ap (option_map coming_of) (walk-lost graph room picks numbers.lost is.lost)
       ∙ ap (λ (ss : List Stage). option_and_then (coming_at net a numbers.code) (first_stop (ends_in net) us ss))
-      (sym (walk-nowhere net more (V6 q) pick taken))
+      (sym (walk-none net more (V6 q) pick taken))
   behind-link room more l holds place family ts left link q to_a low pick picks taken same (Some us) o_is (Some node) e_is =
       holds more l us (left-on steps ts us (ends_in net) (Crossed link) left o_is) node (end-there net keeps link node e_is) q to_a low
       pick picks taken same

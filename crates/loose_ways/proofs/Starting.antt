@@ -19,7 +19,8 @@ pub few-rows : (net : Network) (numbers : Numbers) (a : ℕ) (ts : List Step) �
     → length (rows_of net numbers a ts) ≤ 12544
 few-rows net numbers a ts keeps few =
     let long : length (rows_of net numbers a ts) ≡ (length ts + 1) * length net.nodes = rows-length net numbers a ts in
-    let most : (length ts + 1) * length net.nodes ≤ 12544 = small_product (length ts + 1) (length net.nodes) (omega arith) keeps.node_count in
+    let most : (length ts + 1) * length net.nodes ≤ 12544 = small_product (length ts + 1) (length net.nodes) (omega arith)
+    keeps.node_count in
     omega (arith, long, most)
 
 pub ruleset row_lengths = (few-rows, row-length)

@@ -15,6 +15,14 @@ use Rattle.step_traces.specs.Traces.{Ends, Crossed, left_behind}
 abbrev pub ends_in : Network → Ends
 ends_in net link = far_end (slice_get net.links link)
 
+-- an outcome that sends nothing
+abbrev pub SendsNothing : Outcome → Type 0
+SendsNothing (outcomes.Send link) = ⊥
+SendsNothing (outcomes.Again n how) = Unit {0}
+SendsNothing (outcomes.Hand n how family) = Unit {0}
+SendsNothing outcomes.Local = Unit {0}
+SendsNothing (outcomes.Drop reason error) = Unit {0}
+
 -- the first stage that sends nothing, and the steps that are left there
 pub record Stop : Type 0 where
   pub stage : Stage

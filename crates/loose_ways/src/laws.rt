@@ -18,9 +18,9 @@ ghost use Rattle.loose_graph.specs.Finding.{found_at, found_from};
 ghost use Rattle.loose_ways.specs.Stops.{ComesTo, answer_of_coming, coming, coming_of};
 ghost use Rattle.loose_ways.specs.Graphs.{IsGraph, IsLeft, Numbers, found_in, graph_in, numbers_of, start_at};
 
-/// The stages of a packet's walk come to a SID, with so many steps left and so much of the hop limit,
-/// exactly where the walk over the graph comes to that answer with that room, under the same choices.
-/// Two stages more than its hop limit says are enough (own rule).
+/// The stages of a packet's walk come to a SID, with so many steps left and so much of the hop
+/// limit, exactly where the walk over the graph comes to that answer with that room, under the same
+/// choices. Two stages more than its hop limit says are enough (own rule).
 pub fn walks_are_ways_over_the_graph()
     ensures { (net : Network) (steps ts : List Step) (numbers : Numbers) (graph : List Spot)
         → (place : Place) (p : Packet) (pick : ℕ → ℕ) (fuel : ℕ)
@@ -28,12 +28,13 @@ pub fn walks_are_ways_over_the_graph()
         → IsPlace net place → place.family ≡ Family.V6 → p.hop_limit + 1 < fuel
         → option_map coming_of (walk_from graph (p.hop_limit - 1) pick
         (start_at net numbers ts place p.destination))
-        ≡ coming net p.destination numbers.code ts (free_walk_of fuel net (Some place) (V6 p) pick 0) }
+        ≡ coming net p.destination numbers.code ts
+        (free_walk_of fuel net (Some place) (V6 p) pick 0) }
 {}
 
-/// Under every list of choices the stages of a packet's walk come to one SID with one number of steps
-/// left exactly where that is found from its start in the graph, and the greatest number of lowerings
-/// on the way, over all choices, is at most the hop limit less one (own rule).
+/// Under every list of choices the stages of a packet's walk come to one SID with one number of
+/// steps left exactly where that is found from its start in the graph, and the greatest number of
+/// lowerings on the way, over all choices, is at most the hop limit less one (own rule).
 pub fn all_choices_come_where_the_graph_finds()
     ensures { (net : Network) (steps ts : List Step) (numbers : Numbers) (graph : List Spot)
         → (place : Place) (p : Packet) (fuel answer : ℕ)
@@ -48,8 +49,8 @@ pub fn all_choices_come_where_the_graph_finds()
 
 /// Under every row of choices the stages of a packet's walk come first to SID n with so many steps
 /// left, and leave its hop limit so high that it can be lowered so many times more there, exactly
-/// where that SID with those steps is found from its place, and the greatest number of lowerings over
-/// all choices and those at the SID are together at most the hop limit less one (own rule).
+/// where that SID with those steps is found from its place, and the greatest number of lowerings
+/// over all choices and those at the SID are together at most the hop limit less one (own rule).
 pub fn all_choices_come_to_a_sid_that_is_found()
     ensures { (net : Network) (steps : List Step) (left : ℕ) (place : Place) (p : Packet)
         → (fuel n rest lowers : ℕ) → Keeps net → length steps ≤ 48 → rest < 64
@@ -70,9 +71,10 @@ pub fn networks_have_graphs()
 /// What is found in that graph takes fewer lowerings than there are nodes, though it has a spot for
 /// each node and each number of steps left; from a start at most as many (own rule).
 pub fn lowerings_are_fewer_than_the_nodes()
-    ensures spot { (net : Network) (destination : ℕ) (steps : List Step) (v : ℕ) (f : Found) → Keeps net
-        → found_at (graph_in net destination steps) v ≡ Some f → f.most < length net.nodes }
-    ensures start { (net : Network) (destination : ℕ) (steps : List Step) (start : Start) (f : Found)
-        → Keeps net → found_from (graph_in net destination steps) start ≡ Some f
+    ensures spot { (net : Network) (destination : ℕ) (steps : List Step) (v : ℕ) (f : Found)
+        → Keeps net → found_at (graph_in net destination steps) v ≡ Some f
+        → f.most < length net.nodes }
+    ensures start { (net : Network) (destination : ℕ) (steps : List Step) (start : Start)
+        → (f : Found) → Keeps net → found_from (graph_in net destination steps) start ≡ Some f
         → f.most ≤ length net.nodes }
 {}

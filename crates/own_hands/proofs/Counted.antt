@@ -7,7 +7,7 @@ use Rattle.net_model.specs.Network.{Network}
 use Rattle.walk_rules.specs.declared.place.Place.{Place}
 use Rattle.walk_rules.specs.declared.place.Outcome.{Outcome}
 use Rattle.walk_rules.specs.declared.place.Outcome.TheVariants as outcomes
-use Rattle.walk_rules.specs.Treatment.{Gave, goes, free_step_of}
+use Rattle.walk_rules.specs.Treatment.{Gave}
 use Rattle.walk_rules.specs.Walk.{next_place, decisions, walk_by, free_walk_of}
 use Rattle.walk_rules.proofs.Contents.{free-content}
 use Rattle.leg_table.specs.Trace.{Crossed, executed, Handed, after_events, after_execution}
@@ -15,6 +15,7 @@ use Rattle.deep_stages.specs.Stages.{DeepGave, deep_step}
 use Rattle.deep_stages.specs.Walks.{DeepStage, deep_walk, depth_after, behind_own, through_own}
 use Rattle.deep_stages.specs.Layers.{AreLayersOf, AreSmall, spelled_content}
 use Rattle.deep_stages.proofs.PublicLaws.{as-values, depth-stage}
+use Rattle.deep_stages.proofs.Spelled.{content-alone, layers-alone}
 use Rattle.own_hands.specs.OwnHands.{behind_push, handed_by, handed_own}
 use Rattle.own_hands.specs.Counting.{counted_by, handed_at_depth}
 use Rattle.own_hands.proofs.OwnFirsts.{none-hands, some-within}
@@ -32,7 +33,8 @@ module _ (net : Network) (after : Content) (left : List Packet) (later counted :
   passes f None none small e = none-hands _ h e
   passes f (Some g) some small e = ap (option_map f) (rest g some small) ∙ e
 
-pub stage-counted : (Small : List DeepStage → Type 0) (net : Network) (after : Content) (left under : List Packet) (o : Outcome) (later counted : Option Handed) (h : Handed)
+pub stage-counted : (Small : List DeepStage → Type 0) (net : Network) (after : Content) (left under : List Packet) (o : Outcome)
+    (later counted : Option Handed) (h : Handed)
     (small : List DeepStage) → length left ≡ depth_after net (length under) o
     → handed_by net after under o later ≡ Some h → Small (behind_own o under small)
     → ((g : Handed) → later ≡ Some g → Small small → counted ≡ Some g)
@@ -78,21 +80,11 @@ counted-from (suc more) net (Some place) content below pick taken n h keeps laye
     (λ g is few. counted-from more net (next_place net place deep.outcome) deep.after deep.below pick (taken + decisions deep.outcome)
     (behind_push n below) g keeps gives.1 fine few is)
 
-pub alone-content : (content : Content) → spelled_content content [] ≡ content
-alone-content (V6 p) = refl
-alone-content (V4 p) = refl
-alone-content (Unreadable bytes reason) = refl
-
-pub alone-layers : (content : Content) → AreLayersOf content []
-alone-layers (V6 p) = tt
-alone-layers (V4 p) = refl
-alone-layers (Unreadable bytes reason) = refl
-
 pub counted-own : (fuel : ℕ) (net : Network) (place : Option Place) (content : Content) (pick : ℕ → ℕ) (taken : ℕ) (h : Handed)
     → Keeps net → IsContent content → AreSmall (through_own (deep_walk fuel net place content [] pick taken))
     → handed_own net 0 (deep_walk fuel net place content [] pick taken) ≡ Some h
     → handed_at_depth net 0 (free_walk_of fuel net place content pick taken) ≡ Some h
 counted-own fuel net place content pick taken h keeps ok small e =
-    ap (λ c. handed_at_depth net 0 (free_walk_of fuel net place c pick taken)) (sym (alone-content content))
-    ∙ counted-from fuel net place content [] pick taken 0 h keeps (alone-layers content) (subst IsContent (sym (alone-content content)) ok)
+    ap (λ c. handed_at_depth net 0 (free_walk_of fuel net place c pick taken)) (sym (content-alone content))
+    ∙ counted-from fuel net place content [] pick taken 0 h keeps (layers-alone content) (subst IsContent (sym (content-alone content)) ok)
     small e

@@ -1,5 +1,5 @@
 -- A packet's own hand-over is the first one without a header in front.
-use Rattle.std.proofs.Common.{◌≡◌, ◌↔◌, ◌⊎◌, inl, inr, ℕ, ◌+◌, ◌≤◌, Bool, true, false, nat_le, if◌then◌else◌, List, [], ◌∷◌, ◌++◌, length, Option, Some, None, refl, sym, ◌∙◌, ap, subst, append-nil}
+use Rattle.std.proofs.Common.{◌≡◌, ◌↔◌, ◌⊎◌, inl, inr, ℕ, ◌+◌, ◌≤◌, false, nat_le, List, [], ◌∷◌, ◌++◌, Option, Some, None, refl, sym, ◌∙◌, ap, append-nil}
 use Rattle.std.proofs.lemmas.Bool.{cases_Bool, le-leb, leb-true}
 use Rattle.srv6_rules.specs.declared.sid.Family.{Family}
 use Rattle.srv6_rules.specs.Packet.{Packet, Content}
@@ -11,7 +11,7 @@ use Rattle.leg_table.specs.Trace.{Handed, events_of, executed}
 use Rattle.deep_stages.specs.Walks.{DeepStage}
 use Rattle.own_hands.specs.OwnHands.{most_stages, behind_push, handed_by, handed_own}
 use Rattle.own_hands.specs.Reading.{IsOnTheWay, AreOnTheWay, IsOwnHand, own_sid, own_sids, deep_trace}
-use Rattle.own_hands.proofs.Shorts.{ShortFrom, NoLongRun, short-down, short-up}
+use Rattle.own_hands.proofs.Shorts.{ShortFrom, short-down, short-up}
 
 -- ---- one stage
 
@@ -179,7 +179,8 @@ own-forth net n (s ∷ ss) h e = elim (cases_Bool (nat_le (behind_push n s.under
       let later : Option Handed = handed_own net (behind_push n s.under) ss in
       elim (stage-either net s.gave.after s.under s.gave.outcome later h (sym (within-limit net n s ss few) ∙ e)) [
         | inl there ↦ own-here net n s ss h few there
-        | inr later ↦ own-behind net n s ss h later.next few later.way later.is (own-forth net (behind_push n s.under) ss later.next later.there)
+        | inr later ↦ own-behind net n s ss h later.next few later.way later.is
+            (own-forth net (behind_push n s.under) ss later.next later.there)
       ]
 ]
 

@@ -1,5 +1,5 @@
 -- Where no SID binds a policy, lists realize what they do today.
-use Rattle.std.proofs.Common.{◌≡◌, ◌↔◌, ℕ, ◌<◌, ◌≤◌, Bool, false, List, [], ◌∷◌, length, All, Option, Some, None, slice_get, refl, sym, ◌∙◌, ap}
+use Rattle.std.proofs.Common.{◌≡◌, ◌↔◌, ℕ, false, List, [], ◌∷◌, All, Option, Some, None, slice_get, refl, sym, ◌∙◌}
 use Rattle.std.specs.Prelude.{is_some}
 use Rattle.std.proofs.lemmas.List.Elements.{All-nil, All-cons}
 use Rattle.srv6_rules.specs.declared.sid.SidEntry.{SidEntry}
@@ -14,7 +14,8 @@ use Rattle.deep_stages.specs.Stages.{NothingBinds, policy_at}
 use Rattle.own_hands.specs.Realizes.{HandsAbove, RealizesBy, OwnHandsOver, OwnRealizes, OwnExecutes}
 use Rattle.own_hands.proofs.Firsts.{first-walk}
 
-binds-same : (o : Option SidEntry) → sid_binds o ≡ is_some (policy_at o)
+-- by either definition a SID binds a policy
+pub binds-same : (o : Option SidEntry) → sid_binds o ≡ is_some (policy_at o)
 binds-same None = refl
 binds-same (Some s) = refl
 

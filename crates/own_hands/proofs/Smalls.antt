@@ -1,5 +1,5 @@
 -- Packets that fit their headers and links are handed over as values are, also where links have MTUs and a walk may have more stages.
-use Rattle.std.proofs.Common.{◌≡◌, ℕ, zero, suc, ◌+◌, ◌<◌, ◌≤◌, Bool, true, List, [], ◌∷◌, length, Option, Some, None, refl, sym, ◌∙◌, ap, subst, arith}
+use Rattle.std.proofs.Common.{◌≡◌, ℕ, zero, suc, ◌+◌, ◌<◌, ◌≤◌, true, List, [], length, Option, Some, None, refl, sym, ◌∙◌, ap, subst, arith}
 use Rattle.std.proofs.lemmas.Bool.{le-leb}
 use Rattle.srv6_rules.specs.Packet.{Packet, Content, V6, IsContent}
 use Rattle.net_model.specs.Keeps.{Keeps}
@@ -7,7 +7,7 @@ use Rattle.net_model.specs.Network.{Network}
 use Rattle.walk_rules.specs.declared.place.Place.{Place}
 use Rattle.walk_rules.specs.declared.place.Outcome.{Outcome}
 use Rattle.walk_rules.specs.declared.place.Outcome.TheVariants as outcomes
-use Rattle.walk_rules.specs.Treatment.{Gave, goes, judged, own_len, mtu_at, free_step_of}
+use Rattle.walk_rules.specs.Treatment.{Gave, goes, judged, own_len, mtu_at}
 use Rattle.walk_rules.specs.Walk.{next_place, decisions, walk_by, walk_of, choice_at}
 use Rattle.walk_rules.proofs.Contents.{free-content}
 use Rattle.walk_rules.specs.declared.limits.TheConstants.{MAX_STAGES}
@@ -23,7 +23,8 @@ use Rattle.own_hands.specs.Counting.{counted_by, handed_at_depth}
 use Rattle.own_hands.specs.Small.{SentFits, FitAll, IsSmall, KeepsTo}
 use Rattle.own_hands.specs.Realizes.{OwnRealizes}
 use Rattle.own_hands.proofs.OwnFirsts.{none-hands, some-within}
-use Rattle.own_hands.proofs.Counted.{stage-counted, alone-content, alone-layers}
+use Rattle.deep_stages.proofs.Spelled.{content-alone, layers-alone}
+use Rattle.own_hands.proofs.Counted.{stage-counted}
 
 -- what fits its link is given as where no link has an MTU
 judged-goes : (net : Network) (node : ℕ) (content after : Content) (o : Outcome) → SentFits net content o
@@ -48,7 +49,8 @@ handed-further net after under outcomes.Local later h e = none-hands _ h e
 handed-further net after under (outcomes.Drop reason error) later h e = none-hands _ h e
 
 small-from : (fuel room : ℕ) (net : Network) (place : Option Place) (content : Content) (below : List Packet) (pick : ℕ → ℕ)
-    (taken n : ℕ) (h : Handed) → length (through_own (deep_walk fuel net place content below pick taken)) ≤ room → Keeps net → AreLayersOf content below → IsContent (spelled_content content below)
+    (taken n : ℕ) (h : Handed) → length (through_own (deep_walk fuel net place content below pick taken)) ≤ room → Keeps net
+    → AreLayersOf content below → IsContent (spelled_content content below)
     → FitAll net (through_own (deep_walk fuel net place content below pick taken))
     → handed_own net n (deep_walk fuel net place content below pick taken) ≡ Some h
     → handed_at_depth net (length below) (walk_of room net place (spelled_content content below) pick taken) ≡ Some h
@@ -82,13 +84,14 @@ small-from (suc more) (suc room) net (Some place) content below pick taken n h e
     (behind_push n below) g few.1 keeps gives.1 fine few.0 is)
 
 pub small-own : (fuel room : ℕ) (net : Network) (place : Option Place) (content : Content) (pick : ℕ → ℕ) (taken : ℕ) (h : Handed)
-    → length (through_own (deep_walk fuel net place content [] pick taken)) ≤ room → Keeps net → IsContent content → FitAll net (through_own (deep_walk fuel net place content [] pick taken))
+    → length (through_own (deep_walk fuel net place content [] pick taken)) ≤ room → Keeps net → IsContent content
+    → FitAll net (through_own (deep_walk fuel net place content [] pick taken))
     → handed_own net 0 (deep_walk fuel net place content [] pick taken) ≡ Some h
     → handed_at_depth net 0 (walk_of room net place content pick taken) ≡ Some h
 small-own fuel room net place content pick taken h enough keeps ok fit e =
-    ap (λ c. handed_at_depth net 0 (walk_of room net place c pick taken)) (sym (alone-content content))
-    ∙ small-from fuel room net place content [] pick taken 0 h enough keeps (alone-layers content)
-    (subst IsContent (sym (alone-content content)) ok) fit e
+    ap (λ c. handed_at_depth net 0 (walk_of room net place c pick taken)) (sym (content-alone content))
+    ∙ small-from fuel room net place content [] pick taken 0 h enough keeps (layers-alone content)
+    (subst IsContent (sym (content-alone content)) ok) fit e
 
 -- a small packet keeps to the intent that its list realizes
 pub small-keeps : (net : Network) (intent : Intent) (segments : List ℕ) (inner : Content) (need hop : ℕ) (choices : List ℕ) → Keeps net

@@ -1,5 +1,5 @@
 -- Packets that fit their headers and their links on the way to their own hand-over (RFC 8200 sections 3 and 5).
-use Rattle.std.specs.Prelude.{◌≡◌, ℕ, ◌<◌, ◌≤◌, List, [], ◌∷◌, length, Option, Some, IsTrue}
+use Rattle.std.specs.Prelude.{◌≡◌, ℕ, ◌<◌, ◌≤◌, List, [], ◌∷◌, length, Some, IsTrue}
 use Rattle.srv6_rules.specs.Packet.{Content, V6, IsSpellable}
 use Rattle.net_model.specs.Network.{Network}
 use Rattle.walk_rules.specs.declared.place.Outcome.{Outcome}
@@ -33,7 +33,8 @@ FitAll net (s ∷ ss) = PushFits s.under s.gave × SentFits net (spelled_content
 -- the stages of the encapsulated packet, at most so many, up to and with its own hand-over, under a list of choices
 abbrev pub stages_for : Network → Intent → List ℕ → Content → ℕ → List ℕ → ℕ → List DeepStage
 stages_for net intent segments inner hop choices fuel =
-    through_own (deep_walk fuel net (Some (headend_place intent)) (V6 (encapsulated_for intent segments inner hop)) [] (choice_at choices) 0)
+    through_own (deep_walk fuel net (Some (headend_place intent)) (V6 (encapsulated_for intent segments inner hop)) []
+    (choice_at choices) 0)
 
 -- an inner packet is small: bytes spell it with the first header, and for every list of choices the payload of each header that is pushed
 -- up to the own hand-over fits, each packet fits the links that it is sent on, and there are fewer stages than a walk may have

@@ -18,8 +18,8 @@ ghost use Rattle.own_hands.specs.Reading.{IsOwnHand};
 ghost use Rattle.own_hands.specs.Small.{FitAll, IsSmall, KeepsTo};
 ghost use Rattle.own_hands.specs.Realizes.{OwnExecutes, OwnHandsOver, OwnRealizes, RealizesBy};
 
-/// What stages hand over of a packet is what the first of them without a header in front hands over,
-/// where nothing was taken away before and at most 1,000 stages lie from a binding SID to the
+/// What stages hand over of a packet is what the first of them without a header in front hands
+/// over, where nothing was taken away before and at most 1,000 stages lie from a binding SID to the
 /// hand-over that takes off the last header in front, both counted. The trace up to there has each
 /// link and each function, the SIDs are those that the packet executed without a header in front
 /// (RFC 8986 sections 4.13, 4.14 and 4.16.3; the limit is an own rule).
@@ -49,9 +49,10 @@ pub fn bytes_hand_over_as_values_do()
         handed_at_depth net 0 (walk_of room net place content pick taken) ≡ Some handed }
 {}
 
-/// Where a list realizes an intent through binding SIDs, every inner packet that may be encapsulated,
-/// at an outer hop limit above the need, and that is small, keeps to the intent for every list of
-/// choices: in the walk of its bytes, with all MTUs and at most 10,000 stages (own rule).
+/// Where a list realizes an intent through binding SIDs, every inner packet that may be
+/// encapsulated, at an outer hop limit above the need, and that is small, keeps to the intent for
+/// every list of choices: in the walk of its bytes, with all MTUs and at most 10,000 stages (own
+/// rule).
 pub fn what_is_small_keeps_to_the_intent()
     ensures { (net : Network) (intent : Intent) (segments : List ℕ) (inner : Content) →
         (need hop : ℕ) (choices : List ℕ) → Keeps net → OwnRealizes net intent segments need →
@@ -81,8 +82,8 @@ pub fn without_binding_sids_hand_overs_are_the_first()
         OwnExecutes net intent segments count ↔ Executes net intent segments count }
 {}
 
-/// To realize an intent is said once, over any relation of packets, hop limits and choices that says
-/// what handing over is (own rule).
+/// To realize an intent is said once, over any relation of packets, hop limits and choices that
+/// says what handing over is (own rule).
 pub fn realizing_is_said_once()
     ensures { (net : Network) (intent : Intent) (segments : List ℕ) (need : ℕ) →
         RealizesBy (HandsOver net intent segments) intent.inner need

@@ -1,5 +1,5 @@
 -- From the least path over legs to the chosen list.
-use Rattle.std.proofs.Common.{◌≡◌, ℕ, ◌+◌, ◌<◌, ◌≤◌, arith, Bool, true, false, ◌==◌, eqb-true, List, [], ◌∷◌, length, map, Option, Some, None, Result, Ok, Err, refl, sym, ◌∙◌, ap, subst}
+use Rattle.std.proofs.Common.{◌≡◌, ℕ, ◌+◌, ◌<◌, ◌≤◌, arith, Bool, true, false, ◌==◌, eqb-true, List, [], ◌∷◌, length, map, Option, Some, Result, Ok, Err, refl, sym, ◌∙◌, ap, subst}
 use Rattle.std.specs.Prelude.{IfOk, ◌*◌, nat_lt, if◌then◌else◌}
 use Rattle.std.proofs.lemmas.Bool.{ltb-true, ltb-false}
 use Rattle.base.specs.declared.no_memory.NoMemory.{NoMemory}
@@ -11,7 +11,7 @@ use Rattle.list_pack.specs.declared.types.Cost.{Cost}
 use Rattle.list_pack.specs.declared.types.PathStep.{PathStep}
 use Rattle.list_pack.specs.declared.types.Solution.{Solution}
 use Rattle.list_pack.specs.Value.{LegsValue}
-use Rattle.list_pack.specs.Costs.{Move, AtMost, cost_of, Under, start}
+use Rattle.list_pack.specs.Costs.{Move, AtMost, Under, start}
 use Rattle.list_pack.specs.Least.{IsFirstLeast, IsPathOrNone, IsSolution, IsWithoutPath, step_of, path_before}
 use Rattle.list_pack.specs.Meaning.{Means, IsPathOf}
 use Rattle.list_pack.specs.Paths.{cost_with}

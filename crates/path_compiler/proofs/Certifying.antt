@@ -1,5 +1,5 @@
 -- The certificate of what the search found is judged as the list was.
-use Rattle.std.proofs.Common.{◌≡◌, ℕ, arith, Bool, List, [], ◌∷◌, length, Some, Result, Ok, Err, IsOk, refl, sym, ◌∙◌, ap, subst}
+use Rattle.std.proofs.Common.{◌≡◌, ℕ, Bool, List, [], ◌∷◌, length, Some, Result, Ok, Err, IsOk, refl, sym, ◌∙◌, ap, subst}
 use Rattle.net_model.specs.Network.{Network}
 use Rattle.net_model.specs.Rules.{IsNetwork}
 use Rattle.flat_networks.specs.Flat.{IsFlat, flatness_of}
@@ -27,23 +27,13 @@ use Rattle.leg_table.specs.Value.{legs_value}
 use Rattle.leg_table.proofs.FlatNets.{flat-facts}
 use Rattle.leg_table.proofs.PublicLaws.{strict-laws, legs-mean}
 use Rattle.path_compiler.specs.declared.compiled.Compiled.{Compiled}
+use Rattle.list_pack.proofs.PublicLaws.{at_most-both}
 use Rattle.path_compiler.specs.declared.compiled.CompileFault.{CompileFault}
 use Rattle.path_compiler.specs.declared.compiled.CompileFault.TheVariants as faults
 use Rattle.path_compiler.specs.Checked.{Certifies, CertifiesAnswer, CertifiesAnswerOver, CertifiesOver}
 use Rattle.path_compiler.specs.Compiled.{AnswersOver, CompileAnswers, IsChosen, IsFound}
 use Rattle.path_compiler.proofs.Answering.{none-realizes}
 use Rattle.path_compiler.proofs.Checking.{under-list}
-
--- of two costs that are each at most the other the first is the second
-costs-one : (a b : Cost) → AtMost a b → AtMost b a → a ≡ b
-costs-one a b down up =
-    let one = down.containers in
-    let two = up.containers in
-    let containers : a.containers ≡ b.containers = omega (arith, one, two) in
-    let three = down.hops containers in
-    let four = up.hops (sym containers) in
-    let hops : a.hops ≡ b.hops = omega (arith, three, four) in
-    ap (λ (n : ℕ). cost_with n a.hops) containers ∙ ap (cost_with b.containers) hops
 
 module _ (v : LegsValue) (net : Network) (Realizes Executes Hands : List Container → ℕ → Type 0)
     (means : Means v net Realizes Executes Hands)
@@ -59,7 +49,7 @@ module _ (v : LegsValue) (net : Network) (Realizes Executes Hands : List Contain
       let up : AtMost (cost_with (length list) need) cost
       = subst (λ (n : ℕ). AtMost (cost_with (length list) need) (cost_with n cost.hops)) made.of_path.count
       (chosen.least _ cost.hops made.legal made.realizes) in
-      costs-one cost (cost_with (length list) need) down up
+      at_most-both cost (cost_with (length list) need) down up
 
   module _ (reduced : Bool) (c : Compiled) (found : IsFound v net Realizes Executes reduced c) (head : ℕ) where
     least-by : (path : List PathStep) → c.solution.path ≡ path → IsAcceptedBy v head c.solution path
@@ -111,7 +101,8 @@ pub certifies-found : (net : Network) (intent : Intent) (reduced : Bool) (c : Co
     → IsIntent net intent → IsFound (legs_value net intent) net (ListRealizes net intent) (ListExecutes net intent) reduced c
     → Certifies net intent c.solution (Least c.containers c.need)
 certifies-found net intent reduced c network flat is found =
-    verdict-found (legs_value net intent) net (ListRealizes net intent) (ListExecutes net intent) (ListHands net intent) (legs-mean net intent network flat is)
+    verdict-found (legs_value net intent) net (ListRealizes net intent) (ListExecutes net intent) (ListHands net intent)
+    (legs-mean net intent network flat is)
     (strict net intent network flat is) reduced c found
 
 pub certifies-none : (net : Network) (intent : Intent) (s : Solution) → IsNetwork net → IsFlat net → IsIntent net intent

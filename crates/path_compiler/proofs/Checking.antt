@@ -1,10 +1,10 @@
 -- What the least cost of a path says of lists.
-use Rattle.std.proofs.Common.{◌≡◌, ℕ, ◌≤◌, arith, List, length, map, Option, Some, None, sym, ap, subst}
+use Rattle.std.proofs.Common.{ℕ, ◌≤◌, arith, List, length, map, Option, Some, None, subst}
 use Rattle.net_model.specs.Network.{Network}
 use Rattle.list_pack.specs.declared.types.Container.{Container}
 use Rattle.list_pack.specs.declared.types.Cost.{Cost}
 use Rattle.list_pack.specs.Value.{LegsValue, KeepsLaws}
-use Rattle.list_pack.specs.Costs.{AtMost, Under, start}
+use Rattle.list_pack.specs.Costs.{Under, start}
 use Rattle.list_pack.specs.Least.{IsLeast, step_of}
 use Rattle.list_pack.specs.Meaning.{Means}
 use Rattle.list_pack.specs.Paths.{cost_with}
@@ -34,7 +34,8 @@ module _ (v : LegsValue) (net : Network) (Realizes Executes Hands : List Contain
           let few = under.containers in
           record { containers = few; hops = λ same. let h = under.hops same in omega (arith, h, within) }
 
-  least-pair : (containers need : ℕ) → IsLeast v start (Some (cost_with containers need)) → IsLeastPair net Realizes Executes containers need
+  least-pair : (containers need : ℕ) → IsLeast v start (Some (cost_with containers need))
+      → IsLeastPair net Realizes Executes containers need
   least-pair containers need least =
       let path = least.attains in
       let made = means.lists path.0 (cost_with containers need) path.1 in

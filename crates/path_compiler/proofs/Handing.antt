@@ -1,5 +1,5 @@
 -- The least list is the least of the lists, too, that hand over even one packet.
-use Rattle.std.proofs.Common.{◌≡◌, ℕ, ◌+◌, ◌<◌, ◌≤◌, arith, Bool, List, length, map, Result, Ok, Err, sym, ◌∙◌, subst}
+use Rattle.std.proofs.Common.{◌≡◌, ℕ, ◌<◌, ◌≤◌, arith, Bool, List, length, map, Result, Ok, Err, sym, ◌∙◌, subst}
 use Rattle.srv6_rules.specs.Encapsulation.{header_bytes}
 use Rattle.net_model.specs.Network.{Network}
 use Rattle.net_model.specs.Rules.{IsNetwork}

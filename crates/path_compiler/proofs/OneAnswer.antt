@@ -6,7 +6,6 @@ use Rattle.flat_networks.specs.Flat.{flatness_of}
 use Rattle.flat_networks.specs.declared.not_flat.NotFlat.{NotFlat}
 use Rattle.intent_reader.specs.declared.intent.Intent.{Intent}
 use Rattle.list_pack.specs.declared.types.Container.{Container}
-use Rattle.list_pack.specs.declared.types.PathStep.{PathStep}
 use Rattle.list_pack.specs.declared.types.Solution.{Solution}
 use Rattle.list_pack.specs.Value.{LegsValue}
 use Rattle.list_pack.specs.PathLists.{list_of}

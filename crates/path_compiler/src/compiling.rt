@@ -104,10 +104,10 @@ fn answer_over<L: ListLegs>(
 /// rule; containers are those of RFC 9800 sections 6.2 to 6.4, the header is that of RFC 8986
 /// sections 5.1 and 5.2). The intent gives the form of the header and the bounds: `NoList` exactly
 /// where no legal list realizes it, else `TooLong` where the least list has more than
-/// `max_containers` containers, else `HopLimit` where its need is not below `hop_limit`. Of the legal
-/// lists that hand over even one packet at one hop limit none is less either: none needs fewer header
-/// bytes, nor has fewer containers, or as many at a hop limit that is not above the need; and with
-/// `NoList` there are none.
+/// `max_containers` containers, else `HopLimit` where its need is not below `hop_limit`. Of the
+/// legal lists that hand over even one packet at one hop limit none is less either: none needs
+/// fewer header bytes, nor has fewer containers, or as many at a hop limit that is not above the
+/// need; and with `NoList` there are none.
 pub fn compile_over<L: ListLegs>(
     alloc: Global,
     net: &Net,

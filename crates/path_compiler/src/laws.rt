@@ -37,17 +37,18 @@ pub fn a_certificate_tells_what_was_compiled()
         → CertifiesAnswer net intent answer }
 {}
 
-/// But for want of memory an intent has one answer of `compile` in a network: one refusal, or one list
-/// with its numbers; and what the search found is one too. (own rule)
+/// But for want of memory an intent has one answer of `compile` in a network: one refusal, or one
+/// list with its numbers; and what the search found is one too. (own rule)
 pub fn an_intent_has_one_answer()
     ensures { (net : Network) (intent : Intent) (a b : Result Compiled CompileFault)
         → CompileAnswers net intent a → CompileAnswers net intent b
         → a ≢ Err faults.NoMemory → b ≢ Err faults.NoMemory → a ≡ b }
 {}
 
-/// What a verdict says of the legal lists that realize an intent holds in a flat network of those too
-/// that hand over even one inner packet at one hop limit: `Least` gives the least pair of these, with a
-/// hop limit in the place of a need one higher, and with `NoList` there are none. (own rule)
+/// What a verdict says of the legal lists that realize an intent holds in a flat network of those
+/// too that hand over even one inner packet at one hop limit: `Least` gives the least pair of
+/// these, with a hop limit in the place of a need one higher, and with `NoList` there are none.
+/// (own rule)
 pub fn a_verdict_speaks_of_lists_that_hand_over()
     ensures { (net : Network) (intent : Intent) (verdict : Verdict)
         → IsNetwork net → IsFlat net → IsIntent net intent
@@ -55,10 +56,10 @@ pub fn a_verdict_speaks_of_lists_that_hand_over()
         → SaysOfHanding net intent verdict }
 {}
 
-/// Over any legs that mean lists the certificate of what the search found, wherever its head stands,
-/// is judged `Least` with exactly the chosen list's containers and need, in either form of the header,
-/// and `NoList` where no path was found. So it is for each answer over them, also where the least list
-/// is too long or its need not below the hop limit. (own rule)
+/// Over any legs that mean lists the certificate of what the search found, wherever its head
+/// stands, is judged `Least` with exactly the chosen list's containers and need, in either form of
+/// the header, and `NoList` where no path was found. So it is for each answer over them, also where
+/// the least list is too long or its need not below the hop limit. (own rule)
 pub fn a_certificate_tells_what_was_found<L: ListLegs>(legs: &L)
     ensures found { (reduced : Bool) (c : Compiled)
         → IsFound (L.seen legs.now) (L.network legs.now) (L.realizes legs.now) (L.executes legs.now)
@@ -86,9 +87,9 @@ pub fn legs_have_one_answer<L: ListLegs>(legs: &L)
         → a ≢ Err faults.NoMemory → b ≢ Err faults.NoMemory → a ≡ b }
 {}
 
-/// What a verdict says of the legal lists that realize what legs are for holds of those too that hand
-/// over even one packet at one hop limit: `Least` gives the least pair of these, with a hop limit in the
-/// place of a need one higher, and with `NoList` there are none. (own rule)
+/// What a verdict says of the legal lists that realize what legs are for holds of those too that
+/// hand over even one packet at one hop limit: `Least` gives the least pair of these, with a hop
+/// limit in the place of a need one higher, and with `NoList` there are none. (own rule)
 pub fn what_is_said_holds_of_lists_that_hand_over<L: ListLegs>(legs: &L)
     ensures { (verdict : Verdict)
         → Says (L.network legs.now) (L.realizes legs.now) (L.executes legs.now) verdict

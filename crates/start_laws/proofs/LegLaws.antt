@@ -1,30 +1,21 @@
 -- The legs of an intent through binding SIDs keep the laws of legs.
-use Rattle.std.proofs.Common.{◌≡◌, ℕ, ◌+◌, ◌-◌, ◌<◌, ◌≤◌, Bool, true, false, ◌&&◌, ◌||◌, if◌then◌else◌, List, [], ◌∷◌, length, drop, Option, Some, None, slice_get, Contains, refl, sym, ◌∙◌, ap, subst, arith}
-use Rattle.std.specs.Prelude.{is_some}
+use Rattle.std.proofs.Common.{◌≡◌, ℕ, ◌+◌, ◌-◌, ◌<◌, ◌≤◌, Bool, true, false, ◌&&◌, List, [], ◌∷◌, length, drop, Option, Some, slice_get, Contains, refl, sym, ◌∙◌, ap, subst, arith}
 use Rattle.std.proofs.lemmas.Bool.{false≢true}
 use Rattle.v6_addr.specs.Address.{PrefixValue}
-use Rattle.srv6_rules.specs.declared.sid.SidEntry.{SidEntry}
-use Rattle.net_model.specs.declared.parts.Block.{Block}
 use Rattle.net_model.specs.Network.{Network}
 use Rattle.net_model.specs.Keeps.{Keeps}
 use Rattle.intent_reader.specs.Rules.{IsIntent}
 use Rattle.intent_reader.specs.declared.intent.Intent.{Intent}
 use Rattle.list_pack.specs.declared.types.Leg.{Leg}
-use Rattle.list_pack.specs.Value.{comes_to, ascends, IsSid, IsShape, IsInBlock, ShareBlock, IsLegOf, IsFinishOf, KeepsLaws, is_compressed, same_block, sid_before}
-use Rattle.leg_table.specs.Tasks.{left_after}
+use Rattle.list_pack.specs.Value.{comes_to, ascends, IsShape, IsInBlock, ShareBlock, IsLegOf, IsFinishOf, KeepsLaws, sid_before}
 use Rattle.leg_table.specs.Ride.{Ride, ride_of}
-use Rattle.leg_table.specs.Sids.{first_address, is_last, sid_address, sids_of}
-use Rattle.leg_table.specs.Table.{shape_by, shape_of}
-use Rattle.leg_table.specs.Leg.{leg_behind, leg_with, finish_behind}
+use Rattle.leg_table.specs.Sids.{sid_address, sids_of}
+use Rattle.leg_table.specs.Table.{shape_of}
 use Rattle.leg_table.specs.Value.{legs_value}
-use Rattle.leg_table.proofs.PublicLaws.{are-sids}
-use Rattle.leg_table.proofs.Arrivals.{at-end}
-use Rattle.start_laws.proofs.Arrivals.{leg_behind-parts, finish_behind-parts, ride-arrives, ride-few}
-use Rattle.deep_walks.proofs.PublicLaws.{then_parts, if_parts}
+use Rattle.leg_table.proofs.PublicLaws.{are-sids, at-end, comes-by, ride-arrives, ride-few, shape-address}
+use Rattle.binding_starts.proofs.Ways.{WayTo, leg-parts, finish-parts}
 use Rattle.std.proofs.lemmas.Option.{same_Some}
 use Rattle.binding_starts.specs.declared.starts.Start.{Start}
-use Rattle.binding_starts.specs.Starts.{binding_start, binding_ride, leads_on, ride_from}
-use Rattle.start_laws.specs.Facts.{StartsFrom}
 use Rattle.binding_starts.specs.Value.{binding_finish, binding_leg, binding_legs_value, binding_shape}
 use Rattle.start_laws.proofs.StartFacts.{IsStarted, facts-of, start-is}
 
@@ -51,89 +42,30 @@ same-shape : (net : Network) (n : ℕ) → IsShape (shape_of net n) → IsShape 
 same-shape net n s =
     record { compressed = s.compressed; in_block = λ h. same-in_block net n (s.in_block h); replace = s.replace }
 
-same-share : (net : Network) (n m : ℕ) → ShareBlock (shape_of net n) (shape_of net m) → ShareBlock (binding_shape net n) (binding_shape net m)
+same-share : (net : Network) (n m : ℕ) → ShareBlock (shape_of net n) (shape_of net m)
+    → ShareBlock (binding_shape net n) (binding_shape net m)
 same-share net n m s = record { lbl = s.lbl; csid = s.csid; length = s.length }
-
-shape-address : (blocks : List Block) (o : Option SidEntry) → (shape_by blocks o).prefix.value ≡ first_address o
-shape-address blocks None = refl
-shape-address blocks (Some s) = refl
 
 -- ---- rides from starts
 
--- a ride from the start to the next SID that is executed, with the steps left then
-pub record BindingRide (net : Network) (intent : Intent) (position : ℕ) (via : Option ℕ) (next : ℕ) : Type 0 where
-  pub start : Start
-  pub from : binding_start net intent position via ≡ Some start
-  pub ride : Ride
-  pub is_ride : ride_from net intent next start ≡ Some ride
-  pub sid : ride.sid ≡ next
-  pub left : ℕ
-  pub left_is : left_after net next ride.left ≡ Some left
-
--- a leg is such a ride to a SID that leads on
-pub leg-ride : (net : Network) (intent : Intent) (position : ℕ) (via : Option ℕ) (next : ℕ) (leg : Leg)
-    → binding_leg net intent position via next ≡ Some leg
-    → (n : BindingRide net intent position via next) × (leads_on net next ≡ true)
-    × (leg_with (length intent.steps) n.ride.lowered n.left ≡ leg)
-leg-ride net intent position via next leg h =
-    let a = if_parts (leads_on net next) (leg_behind net (length intent.steps) next (binding_ride net intent position via next)) leg h in
-    let got = leg_behind-parts net (length intent.steps) next (binding_ride net intent position via next) leg a.1 in
-    let ridden = then_parts (ride_from net intent next) (binding_start net intent position via) got.0 got.1 in
-    let parts = got.3 in (
-      record {
-        start = ridden.0;
-        from = ridden.1;
-        ride = got.0;
-        is_ride = ridden.2;
-        sid = parts.0;
-        left = got.2;
-        left_is = parts.1;
-      },
-      a.0,
-      got.4,
-    )
-
--- a finish is one to a last SID with no step left
-pub finish-ride : (net : Network) (intent : Intent) (position : ℕ) (via : Option ℕ) (next lowered : ℕ)
-    → binding_finish net intent position via next ≡ Some lowered
-    → (n : BindingRide net intent position via next) × (is_last net intent.inner next ≡ true) × (n.ride.lowered ≡ lowered) × (n.left ≡ 0)
-finish-ride net intent position via next lowered h =
-    let a = if_parts (is_last net intent.inner next) (finish_behind net next (binding_ride net intent position via next)) lowered h in
-    let got = finish_behind-parts net next (binding_ride net intent position via next) lowered a.1 in
-    let ridden = then_parts (ride_from net intent next) (binding_start net intent position via) got.0 got.1 in
-    let parts = got.2 in (
-      record {
-        start = ridden.0;
-        from = ridden.1;
-        ride = got.0;
-        is_ride = ridden.2;
-        sid = parts.0;
-        left = 0;
-        left_is = parts.1;
-      },
-      a.0,
-      got.3,
-      refl,
-    )
-
 module _ (net : Network) (keeps : Keeps net) (intent : Intent) (is_intent : IsIntent net intent) where
   -- where a ride ends
-  record Ends (position : ℕ) (via : Option ℕ) (next : ℕ) (n : BindingRide net intent position via next) : Type 0 where
+  record Ends (position : ℕ) (via : Option ℕ) (next left : ℕ) (n : WayTo net intent position via next left) : Type 0 where
     started : IsStarted net keeps intent is_intent position via n.start
     to : ℕ
-    to_is : length intent.steps - n.left ≡ to
+    to_is : length intent.steps - left ≡ to
     from : position ≤ to
     within : to ≤ length intent.steps
     there : Contains (sids_of net intent to) next
     few : n.ride.lowered ≤ 48
 
-  ends : (position : ℕ) (via : Option ℕ) (next : ℕ) (n : BindingRide net intent position via next) → Ends position via next n
-  ends position via next n =
-      let started = start-is net keeps intent is_intent position via n.start n.from in
+  ends : (position : ℕ) (via : Option ℕ) (next left : ℕ) (n : WayTo net intent position via next left) → Ends position via next left n
+  ends position via next left n =
+      let started = start-is net keeps intent is_intent position via n.start n.starts in
       let is = started.starts.is_start in
       let f = facts-of net intent n.start.done n.start.place is in
-      let arrives = ride-arrives net keeps intent is_intent n.start.done n.start.place f next n.ride n.is_ride n.sid n.left n.left_is in
-      let at = at-end net keeps intent is_intent n.start.done next n.left arrives in
+      let arrives = ride-arrives net keeps intent is_intent n.start.done n.start.place f next n.ride n.is_ride n.sid left n.left_is in
+      let at = at-end net keeps intent is_intent n.start.done next left arrives in
       let from = started.starts.from in
       record {
         started = started;
@@ -148,33 +80,32 @@ module _ (net : Network) (keeps : Keeps net) (intent : Intent) (is_intent : IsIn
   law-leg : (position : ℕ) (via : Option ℕ) (next : ℕ) (leg : Leg) → binding_leg net intent position via next ≡ Some leg
       → IsLegOf (binding_legs_value net intent) position via next leg
   law-leg position via next leg h =
-      let got = leg-ride net intent position via next leg h in
-      let e = ends position via next got.0 in
+      let got = leg-parts net intent position via next leg h in
+      let e = ends position via next got.left got.way in
       let few = e.few in
       let from = e.from in
       let within = e.within in
       let is = e.to_is in
-      subst (IsLegOf (binding_legs_value net intent) position via next) got.2
+      subst (IsLegOf (binding_legs_value net intent) position via next) got.is
       (record {
         start = e.started.within;
         from_via = e.started.is_via;
         forward = omega (arith, is, from);
         within = omega (arith, is, within);
         is_next = subst (λ (to : ℕ). Contains (sids_of net intent to) next) (sym e.to_is) e.there;
-        middle = got.1;
+        middle = got.leads;
         hops = omega (arith, few);
       })
 
   law-finish : (position : ℕ) (via : Option ℕ) (next lowered : ℕ) → binding_finish net intent position via next ≡ Some lowered
       → IsFinishOf (binding_legs_value net intent) position via next lowered
   law-finish position via next lowered h =
-      let got = finish-ride net intent position via next lowered h in
-      let e = ends position via next got.0 in
+      let got = finish-parts net intent position via next lowered h in
+      let e = ends position via next 0 got.way in
       let few = e.few in
       let is = e.to_is in
-      let low = got.2 in
-      let none = got.3 in
-      let last : length intent.steps ≡ e.to = omega (arith, is, none) in
+      let low = got.is in
+      let last : length intent.steps ≡ e.to = omega (arith, is) in
       record {
         start = e.started.within;
         from_via = e.started.is_via;
@@ -184,25 +115,17 @@ module _ (net : Network) (keeps : Keeps net) (intent : Intent) (is_intent : IsIn
 
   -- what comes to a SID is a ride
   comes-ride : (position : ℕ) (via : Option ℕ) (next : ℕ) → comes_to (binding_legs_value net intent) position via next ≡ true
-      → BindingRide net intent position via next
-  comes-ride position via next h = by_leg (binding_leg net intent position via next) refl h
-    where
-      by_finish : (o : Option ℕ) → binding_finish net intent position via next ≡ o → is_some o ≡ true
-          → BindingRide net intent position via next
-      by_finish None e h = absurd (false≢true h)
-      by_finish (Some lowered) e h = (finish-ride net intent position via next lowered e).0
-
-      by_leg : (o : Option Leg) → binding_leg net intent position via next ≡ o
-          → (is_some o || is_some (binding_finish net intent position via next)) ≡ true
-          → BindingRide net intent position via next
-      by_leg None e h = by_finish (binding_finish net intent position via next) refl h
-      by_leg (Some leg) e h = (leg-ride net intent position via next leg e).0
+      → (left : ℕ) × WayTo net intent position via next left
+  comes-ride position via next h =
+      comes-by (binding_legs_value net intent) ((left : ℕ) × WayTo net intent position via next left) position via next
+      (λ leg e. let got = leg-parts net intent position via next leg e in (got.left, got.way))
+      (λ lowered e. (0, (finish-parts net intent position via next lowered e).way)) h
 
   -- rides to SIDs with one first address are one
-  same-rides : (position : ℕ) (via : Option ℕ) (next other : ℕ) (n : BindingRide net intent position via next)
-      → (m : BindingRide net intent position via other) → sid_address net next ≡ sid_address net other → n.ride ≡ m.ride
-  same-rides position via next other n m address =
-      let start : n.start ≡ m.start = same_Some n.start m.start (sym n.from ∙ m.from) in
+  same-rides : (position : ℕ) (via : Option ℕ) (next other left behind : ℕ) (n : WayTo net intent position via next left)
+      → (m : WayTo net intent position via other behind) → sid_address net next ≡ sid_address net other → n.ride ≡ m.ride
+  same-rides position via next other left behind n m address =
+      let start : n.start ≡ m.start = same_Some n.start m.start (sym n.starts ∙ m.starts) in
       same_Some n.ride m.ride
       (sym n.is_ride
       ∙ ap (λ (d : ℕ). ride_of net d (drop n.start.done intent.steps) n.start.place) address
@@ -218,18 +141,18 @@ module _ (net : Network) (keeps : Keeps net) (intent : Intent) (is_intent : IsIn
       let address : sid_address net next ≡ sid_address net other
       = sym (shape-address net.blocks (slice_get net.sids next)) ∙ ap (λ (p : PrefixValue). p.value) e
       ∙ shape-address net.blocks (slice_get net.sids other) in
-      sym n.sid ∙ ap (λ (r : Ride). r.sid) (same-rides position via next other n m address) ∙ m.sid
+      sym n.1.sid ∙ ap (λ (r : Ride). r.sid) (same-rides position via next other n.0 m.0 n.1 m.1 address) ∙ m.1.sid
 
   -- a leg lowers at the execution too, and a finish on the same ride does not
   law-above : (position : ℕ) (via : Option ℕ) (next : ℕ) (leg : Leg) (lowered : ℕ) → binding_leg net intent position via next ≡ Some leg
       → binding_finish net intent position via next ≡ Some lowered → lowered < leg.hops
   law-above position via next leg lowered h k =
-      let a = leg-ride net intent position via next leg h in
-      let b = finish-ride net intent position via next lowered k in
-      let hops : a.0.ride.lowered + 1 ≡ leg.hops = ap (λ (l : Leg). l.hops) a.2 in
-      let same : a.0.ride.lowered ≡ b.0.ride.lowered
-      = ap (λ (r : Ride). r.lowered) (same-rides position via next next a.0 b.0 refl) in
-      let low = b.2 in
+      let a = leg-parts net intent position via next leg h in
+      let b = finish-parts net intent position via next lowered k in
+      let hops : a.way.ride.lowered + 1 ≡ leg.hops = ap (λ (l : Leg). l.hops) a.is in
+      let same : a.way.ride.lowered ≡ b.way.ride.lowered
+      = ap (λ (r : Ride). r.lowered) (same-rides position via next next a.left 0 a.way b.way refl) in
+      let low = b.is in
       omega (arith, hops, same, low)
 
   -- what holds of all SIDs is as for strict legs

@@ -1,4 +1,3 @@
 pub mod StartFacts
-pub mod Arrivals
 pub mod LegLaws
 pub mod Strict

@@ -1,7 +1,7 @@
 -- What is known of the place from which a packet goes on, behind a binding SID too.
-use Rattle.std.proofs.Common.{◌≡◌, ℕ, ◌+◌, ◌-◌, ◌<◌, ◌≤◌, Bool, true, false, ◌==◌, ◌&&◌, nat_le, if◌then◌else◌, List, [], length, take, drop, slice_get, Option, Some, None, Contains, refl, sym, ap, ◌∙◌, subst, arith, eqb-true}
+use Rattle.std.proofs.Common.{◌≡◌, ℕ, ◌+◌, ◌-◌, ◌≤◌, true, ◌==◌, ◌&&◌, nat_le, [], length, take, drop, slice_get, Option, Some, None, refl, sym, ap, ◌∙◌, subst, arith, eqb-true}
 use Rattle.std.specs.Prelude.{is_some}
-use Rattle.std.specs.Option.{option_map, option_and_then}
+use Rattle.std.specs.Option.{option_and_then}
 use Rattle.std.proofs.lemmas.Bool.{and_parts, leb-true}
 use Rattle.std.proofs.lemmas.List.{length-drop, drop-drop}
 use Rattle.std.proofs.lemmas.Option.{same_Some}
@@ -14,7 +14,7 @@ use Rattle.net_model.specs.declared.parts.NamedPolicy.{NamedPolicy}
 use Rattle.net_model.specs.Network.{Network}
 use Rattle.net_model.specs.Keeps.{Keeps}
 use Rattle.walk_rules.specs.declared.place.Place.{Place}
-use Rattle.walk_rules.specs.Relation.{IsHow, IsPlace}
+use Rattle.walk_rules.specs.Relation.{IsPlace}
 use Rattle.walk_rules.proofs.PublicLaws.{sid-how}
 use Rattle.intent_reader.specs.Rules.{IsIntent, stand_after}
 use Rattle.intent_reader.specs.declared.intent.Step.{Step}
@@ -33,7 +33,7 @@ use Rattle.deep_choices.specs.Starts.{StartsBehind}
 use Rattle.deep_choices.proofs.Starts.{tunnel-starts, policy-head}
 use Rattle.list_pack.specs.Value.{IsVia}
 use Rattle.binding_starts.specs.declared.starts.Start.{Start}
-use Rattle.binding_starts.specs.Starts.{binding_start, leads_on, sid_leads_on, start_after, start_behind, start_onward, start_pushed}
+use Rattle.binding_starts.specs.Starts.{binding_start, sid_leads_on, start_after, start_behind, start_onward, start_pushed}
 use Rattle.start_laws.specs.Facts.{StartsFrom}
 use Rattle.binding_starts.specs.Value.{binding_legs_value}
 

@@ -1,5 +1,5 @@
 -- Without binding SIDs legs are the strict ones.
-use Rattle.std.proofs.Common.{◌≡◌, ℕ, zero, suc, Bool, true, false, ◌==◌, ◌&&◌, not, nat_le, if◌then◌else◌, List, drop, length, slice_get, Option, Some, None, refl, sym, ap, ◌∙◌, arith, eqb-true}
+use Rattle.std.proofs.Common.{◌≡◌, ℕ, zero, Bool, true, false, ◌==◌, ◌&&◌, not, nat_le, if◌then◌else◌, List, drop, length, slice_get, Option, Some, None, refl, sym, ap, ◌∙◌, arith, eqb-true}
 use Rattle.std.specs.Prelude.{is_some}
 use Rattle.std.specs.Option.{option_and_then, option_map}
 use Rattle.std.proofs.lemmas.Bool.{false≢true, le-leb}
@@ -8,11 +8,10 @@ use Rattle.srv6_rules.specs.Behaviours.{behaviour_policy, goes_on}
 use Rattle.net_model.specs.declared.parts.Block.{Block}
 use Rattle.net_model.specs.Network.{Network}
 use Rattle.intent_reader.specs.declared.intent.Intent.{Intent}
-use Rattle.list_pack.specs.declared.types.Leg.{Leg}
 use Rattle.leg_table.specs.Leg.{finish_behind, finish_of, is_start, leg_behind, leg_of, place_behind, ride_to}
 use Rattle.leg_table.specs.Realizes.{headend_place}
 use Rattle.leg_table.specs.Ride.{Ride, ride_of}
-use Rattle.leg_table.specs.Sids.{is_binding, is_last, is_middle, is_sid_at, sid_address, sid_binds, sid_goes_on, takes_step}
+use Rattle.leg_table.specs.Sids.{is_binding, is_last, is_middle, is_sid_at, sid_address, sid_binds, sid_goes_on}
 use Rattle.leg_table.specs.Table.{shape_by, shape_of}
 use Rattle.binding_starts.specs.declared.starts.Start.{Start}
 use Rattle.binding_starts.specs.Starts.{binding_ride, leads_on, ride_from, sid_leads_on, start_behind, start_onward}

@@ -16,9 +16,9 @@ ghost use Rattle.binding_starts.specs.Starts.{binding_start};
 ghost use Rattle.start_laws.specs.Facts.{StartsFrom};
 ghost use Rattle.binding_starts.specs.Value.{binding_finish, binding_leg, binding_legs_value, binding_shape};
 
-/// A packet goes on to its next SID from a place of the network where the walk stands after the steps
-/// that are done, and these are no fewer than those of the position; so it is behind the whole walk of
-/// a header that a binding SID pushes too. (own rule)
+/// A packet goes on to its next SID from a place of the network where the walk stands after the
+/// steps that are done, and these are no fewer than those of the position; so it is behind the
+/// whole walk of a header that a binding SID pushes too. (own rule)
 pub fn a_start_is_where_the_walk_stands()
     ensures { (net : Network) (intent : Intent) (position : ℕ) (via : Option ℕ) (start : Start) →
         Keeps net → IsIntent net intent → binding_start net intent position via ≡ Some start →
@@ -31,8 +31,8 @@ pub fn legs_through_binding_sids_keep_the_laws()
         IsIntent net intent → KeepsLaws (binding_legs_value net intent) }
 {}
 
-/// Where no SID binds a policy they are the strict legs: the same legs and finishes, and the same SIDs
-/// are middle. (own rule)
+/// Where no SID binds a policy they are the strict legs: the same legs and finishes, and the same
+/// SIDs are middle. (own rule)
 pub fn without_binding_sids_legs_are_strict()
     ensures leg { (net : Network) (intent : Intent) (position : ℕ) (via : Option ℕ) (next : ℕ) →
         ((n : ℕ) → is_binding net n ≡ false) →

@@ -1,6 +1,6 @@
 //! Laws about the definitions, each the contract of a function that does nothing.
 
-ghost use Rattle.std.specs.Prelude.{◌≡◌, ◌++◌, ◌↔◌, List, ℕ, Some, true};
+ghost use Rattle.std.specs.Prelude.{◌≡◌, ◌++◌, ◌↔◌, List, Some, true};
 ghost use Rattle.step_traces.specs.Traces.{Ends, Event, IsPart, IsStrict, Leaves, Matches, follows, left_by, meet_each};
 ghost use Rattle.step_traces.specs.declared.steps.Step.{Step};
 
@@ -17,8 +17,8 @@ pub fn traces_split_in_one_way()
 
 /// The steps that are left behind events, one after the other, are those that are left where the
 /// trace is split: into the parts of the finished steps, and the links that a reach has begun with,
-/// all of which lead to another node. So the number of steps that are left is all that a walk has to
-/// know of its past (own rule).
+/// all of which lead to another node. So the number of steps that are left is all that a walk has
+/// to know of its past (own rule).
 pub fn left_steps_are_a_state()
     ensures { (to : Ends) (ts us : List Step) (es : List Event)
         → (left_by to ts es ≡ Some us) ↔ Leaves to ts es us }

@@ -1,6 +1,6 @@
 //! Steps, and how many of them are left behind a link or a function.
 
-ghost use Rattle.std.specs.Prelude.{◌≡◌, ◌<◌, ◌^◌, ℕ, length};
+ghost use Rattle.std.specs.Prelude.{◌≡◌, ◌<◌};
 ghost use Rattle.step_traces.specs.Traces.{Crossed, Ends, Executed, count_left, has_link, left_behind};
 
 use base::Seq;

@@ -1,5 +1,5 @@
 use Rattle.std.proofs.Common.{◌-◌, length, Some, refl, ◌∙◌}
-use Rattle.loose_legs.proofs.OnwardRows.{no-row, row-from}
+use Rattle.loose_legs.proofs.OnwardRows.{row-from}
 use Rattle.loose_legs.proofs.onwards.onwards_behind.Goals as goal
 
 pub returns : goal.returns

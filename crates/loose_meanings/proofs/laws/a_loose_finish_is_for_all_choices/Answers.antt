@@ -6,9 +6,10 @@ use Rattle.leg_table.proofs.FlatNets.{flat-facts}
 use Rattle.leg_table.proofs.NextRides.{last-sid}
 use Rattle.step_traces.proofs.Parts.{if-some}
 use Rattle.loose_meanings.specs.Sids.{is_start}
-use Rattle.loose_meanings.proofs.Meaning.{first-alone, finish-exactly, finish-from, finish-one, finish-way}
+use Rattle.loose_meanings.proofs.Meaning.{first-alone, finish-exactly, finish-one}
 use Rattle.loose_meanings.proofs.Sames.{address-alike}
 use Rattle.loose_meanings.proofs.laws.a_loose_finish_is_for_all_choices.Goals as goal
+use Rattle.loose_meanings.proofs.Ways.{finish-from, finish-way}
 
 pub returns-clause-first : goal.returns-clause-first
 returns-clause-first c = λ net intent steps position via next lowered keeps are.

@@ -5,9 +5,10 @@ use Rattle.leg_table.proofs.FlatNets.{flat-facts}
 use Rattle.leg_table.proofs.NextRides.{middle-sid}
 use Rattle.step_traces.proofs.Parts.{if-some}
 use Rattle.loose_meanings.specs.Sids.{is_start}
-use Rattle.loose_meanings.proofs.Meaning.{leg-exactly, leg-from, leg-one, leg-way}
+use Rattle.loose_meanings.proofs.Meaning.{leg-exactly, leg-one}
 use Rattle.loose_meanings.proofs.Sames.{address-alike}
 use Rattle.loose_meanings.proofs.laws.a_loose_leg_is_for_all_choices.Goals as goal
+use Rattle.loose_meanings.proofs.Ways.{leg-from, leg-way}
 
 pub returns-clause-first : goal.returns-clause-first
 returns-clause-first c = λ net intent steps position via next leg keeps are.

@@ -7,7 +7,8 @@ use Rattle.loose_ways.proofs.starts.find_from.Goals as goal
 
 pub find_by-requires-clause-low : goal.find_by-requires-clause-low
 find_by-requires-clause-low c =
-    graph-low c.args.net.now c.keeps_rules.ensures.facts c.args.destination.value c.args.steps.now c.requires.few c.args.table.now c.requires.found
+    graph-low c.args.net.now c.keeps_rules.ensures.facts c.args.destination.value c.args.steps.now c.requires.few c.args.table.now
+    c.requires.found
 
 pub find_by-requires-clause-there : goal.find_by-requires-clause-there
 find_by-requires-clause-there c =

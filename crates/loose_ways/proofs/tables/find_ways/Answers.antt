@@ -1,10 +1,13 @@
-use Rattle.std.proofs.Common.{List, ◌∙◌, subst}
-use Rattle.std.specs.Prelude.{IfOk}
-use Rattle.loose_graph.specs.declared.spots.Spot.{Spot}
-use Rattle.loose_graph.specs.Tables.{AreFound}
+use Rattle.std.proofs.Common.{◌+◌, ◌*◌, length, ◌∙◌}
+use Rattle.loose_ways.proofs.Filling.{blank-long, blank-sound}
 use Rattle.loose_ways.proofs.tables.find_ways.Goals as goal
 
-pub returns : goal.returns
-returns c =
-    subst (λ (spots : List Spot). IfOk c.find_spots.result (λ table. AreFound spots table.items)) (c.as_slice.ensures.value ∙ c.in_ok-spots.ensures)
-    c.find_spots.ensures
+pub settle-requires-clause-one_each : goal.settle-requires-clause-one_each
+settle-requires-clause-one_each c =
+    blank-long c.args.net.now c.in_ok-ways.ways.destination.value c.args.steps.now c.as_mut_slice.result.now c.nodes.result c.nodes.ensures
+    (c.as_mut_slice.ensures.value ∙ c.in_ok-table.ensures)
+
+pub settle-requires-clause-sound : goal.settle-requires-clause-sound
+settle-requires-clause-sound c =
+    blank-sound c.args.net.now c.in_ok-ways.ways.destination.value c.args.steps.now c.as_mut_slice.result.now
+    ((length c.args.steps.now + 1) * c.nodes.result) (c.as_mut_slice.ensures.value ∙ c.in_ok-table.ensures)

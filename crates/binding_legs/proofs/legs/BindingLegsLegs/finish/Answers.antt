@@ -10,7 +10,7 @@ pub returns-in-Some : goal.returns-in-Some
 returns-in-Some c =
     let last = ap (λ (t : LegTable). is_last t.net t.intent.inner c.args.next) (sym c.self.view_is)
     ∙ sym c.is_last.ensures ∙ c.if-not-is_last.false in
-    c.lowered_at_the_end.ensures
+    c.if_none_left.ensures
     ∙ ap (option_and_then finish_from_behind) (sym c.in-Some.is ∙ c.way.ensures.value)
     ∙ finish-way c.args.self.now.net c.args.self.now.intent c.args.position c.args.via c.args.next last
 

@@ -2,7 +2,8 @@ use Rattle.std.proofs.Common.{length, sym, ◌∙◌, ap}
 use Rattle.std.specs.Option.{option_map}
 use Rattle.binding_starts.specs.Starts.{leads_on}
 use Rattle.leg_table.specs.Table.{LegTable}
-use Rattle.binding_legs.proofs.Ways.{leg-way, leg_from_behind}
+use Rattle.leg_table.specs.Course.{leg_from_behind}
+use Rattle.binding_legs.proofs.Ways.{leg-way}
 use Rattle.binding_legs.proofs.legs.BindingLegsLegs.leg.Goals as goal
 
 pub returns-in-None : goal.returns-in-None

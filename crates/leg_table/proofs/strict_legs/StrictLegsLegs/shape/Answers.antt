@@ -3,11 +3,8 @@ use Rattle.leg_table.specs.Table.{LegTable}
 use Rattle.leg_table.proofs.Positions.{sid-within}
 use Rattle.leg_table.proofs.strict_legs.StrictLegsLegs.shape.Goals as goal
 
-pub sid-sid-requires : goal.sid-sid-requires
-sid-sid-requires c =
-    let within =
-    sid-within c.args.self.now.net c.keeps_rules.ensures.facts c.args.self.now.intent
-    c.requires.0 c.args.sid
-    c.requires.2 in
+pub shape_of-requires : goal.shape_of-requires
+shape_of-requires c =
+    let within = sid-within c.args.self.now.net c.keeps_rules.ensures.facts c.args.self.now.intent c.requires.0 c.args.sid c.requires.2 in
     let e = ap (λ (t : LegTable). length t.net.sids) c.self.view_is in
     omega arith

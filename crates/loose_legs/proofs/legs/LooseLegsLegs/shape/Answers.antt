@@ -4,8 +4,8 @@ use Rattle.loose_legs.specs.Steps.{trace_steps}
 use Rattle.loose_legs.proofs.Positions.{sid-within}
 use Rattle.loose_legs.proofs.legs.LooseLegsLegs.shape.Goals as goal
 
-pub sid-sid-requires : goal.sid-sid-requires
-sid-sid-requires c =
+pub shape_of-requires : goal.shape_of-requires
+shape_of-requires c =
     let within =
     sid-within c.args.self.now.net c.args.self.now.intent (trace_steps c.args.self.now.intent) c.keeps_rules.ensures.facts c.requires.0
     c.args.sid c.requires.2 in

@@ -4,20 +4,15 @@ use Rattle.loose_legs.specs.Steps.{trace_steps}
 use Rattle.loose_legs.proofs.Positions.{sid-within}
 use Rattle.loose_legs.proofs.legs.LooseLegsLegs.stays.Goals as goal
 
-pub units-requires : goal.units-requires
-units-requires c =
-    sid-within c.args.self.now.net c.args.self.now.intent (trace_steps c.args.self.now.intent) c.keeps_rules.ensures.facts
-    c.requires.sid.0 c.args.sid c.requires.sid.2
-
-pub stays-requires-clause-is_there : goal.stays-requires-clause-is_there
-stays-requires-clause-is_there c =
+pub may_stay-requires-clause-is_there : goal.may_stay-requires-clause-is_there
+may_stay-requires-clause-is_there c =
     let within = sid-within c.args.self.now.net c.args.self.now.intent (trace_steps c.args.self.now.intent) c.keeps_rules.ensures.facts
     c.requires.sid.0 c.args.sid c.requires.sid.2 in
     let e = ap (λ (t : LegTable). length t.net.sids) c.self.view_is in
     omega arith
 
-pub stays-requires-clause-next_there : goal.stays-requires-clause-next_there
-stays-requires-clause-next_there c =
+pub may_stay-requires-clause-next_there : goal.may_stay-requires-clause-next_there
+may_stay-requires-clause-next_there c =
     let within = sid-within c.args.self.now.net c.args.self.now.intent (trace_steps c.args.self.now.intent) c.keeps_rules.ensures.facts
     c.requires.next.0 c.args.next c.requires.next.2 in
     let e = ap (λ (t : LegTable). length t.net.sids) c.self.view_is in

@@ -1,0 +1,13 @@
+pub mod Kept
+pub mod StopWalks
+pub mod Reached
+pub mod Up
+pub mod Shown
+pub mod Executing
+pub mod First
+pub mod Tight
+pub mod LongestWays
+pub mod Ends
+pub mod Going
+pub mod Down
+pub mod PublicLaws

@@ -1,6 +1,0 @@
-use Rattle.v6_addr.specs.Address.{is_inside}
-use Rattle.leg_table.proofs.Searches.{NoneBefore}
-use Rattle.loose_legs.proofs.legs.block_at.Given as goal
-
-abbrev pub invariant-loop-n : goal.invariant-loop-n
-invariant-loop-n l = NoneBefore (λ b. is_inside l.prefix b.prefix) l.net.blocks l.n
