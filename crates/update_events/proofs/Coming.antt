@@ -1,18 +1,16 @@
 -- A packet that is to come stays, or enters and takes its first stage.
-use Rattle.std.proofs.Common.{◌≡◌, ℕ, suc, ◌+◌, ◌<◌, ◌^◌, List, [], ◌∷◌, ◌++◌, length, length-append, slice_get, slice_set, Some, None, Result, Ok, Err, refl, sym, ap, ap₂, ◌∙◌, subst, arith}
+use Rattle.std.proofs.Common.{◌≡◌, ℕ, suc, ◌+◌, ◌<◌, ◌^◌, List, [], ◌∷◌, ◌++◌, length, slice_get, slice_set, Some, None, Result, Ok, Err, refl, sym, ap, ap₂, ◌∙◌, subst, arith}
 use Rattle.std.specs.Prelude.{OnOk}
 use Rattle.net_model.specs.Network.{Network}
 use Rattle.node_stage.specs.Fronted.{FrontedContent, fronted}
-use Rattle.packet_walk.specs.Flight.{InFlight, IsNumber, entering, with_front}
+use Rattle.packet_walk.specs.Flight.{InFlight, entering, with_front}
 use Rattle.srv6_rules.specs.Packet.{Content}
 use Rattle.update_flight.specs.Transition.{EntersAs, Transition, entered}
 use Rattle.srx_edge.specs.Steps.{Ending}
 use Rattle.command_output.specs.Gathered.{Goes, Pooled}
-use Rattle.command_output.specs.Pieces.{ForErr}
 use Rattle.run_commands.specs.declared.enters.Comes.{Comes}
 use Rattle.run_commands.specs.declared.enters.Stays.{Stays}
-use Rattle.run_commands.specs.declared.enters.Stays.TheVariants as stays
-use Rattle.run_commands.specs.Entry.{Entry, Staying, Entering, StaysIn, comes_of, line_of_stays, stays_of}
+use Rattle.run_commands.specs.Entry.{Entry, Staying, Entering, comes_of, stays_of}
 use Rattle.update_events.specs.declared.moving.Moving as code
 use Rattle.update_events.specs.declared.seat.Seat.{Seat}
 use Rattle.update_events.specs.declared.seat.Seat.TheVariants as seats
@@ -21,7 +19,6 @@ use Rattle.update_events.specs.Going.{GoesOnAs, HasEntered, IsGoing, IsMoving, S
 use Rattle.update_events.specs.Moving.{Doing, GoAlike, Happening, Moving, Sides, as_in_flight, coming_by, entered_count, first_member, happening, turning}
 use Rattle.update_events.proofs.Fronts.{alike_on, entered_on}
 use Rattle.update_events.proofs.Seats.{moving-entered, moving-turned, set-same}
-use Rattle.update_events.proofs.Turning.{end-there}
 
 -- what became of it, by what is told of it
 
@@ -36,11 +33,6 @@ entering-is (Entering comes) c h = let same : comes ≡ c = cc in ap (λ (x : Co
 pub neither : (e : Entry) → stays_of e ≡ None → comes_of e ≡ None → ⊥
 neither (Staying t) one other = cc
 neither (Entering comes) one other = cc
-
--- what stays in one network stays in another with the same nodes and links
-pub stays-there : (a b : Network) → a.nodes ≡ b.nodes → a.links ≡ b.links → (s : Stays) → StaysIn a s → StaysIn b s
-stays-there a b nodes links (stays.NotRead cause) h = tt
-stays-there a b nodes links (stays.Ends end) h = end-there a b nodes links end h
 
 -- how it entered
 
@@ -79,22 +71,12 @@ module _ (sides : Sides) (net : Network) (m : Moving) (at number : ℕ) (is : Is
       ap (λ (xs : List Seat). happening sides (record m { seats = xs }) events) (set-same m.seats at seats.Gone there)
       ∙ ap (λ (k : Moving). happening sides k events) (sym same)
 
-  pub stays-wrote : (s : Stays) (ending : Ending) (o q : Pooled) → Goes ending (ForErr (line_of_stays net number s) ∷ []) o q
-      → Goes ending (pieces_of net (coming_by at m (Staying s)).happens) o q
-  stays-wrote s ending o q wrote = subst (λ (i : ℕ). Goes ending (ForErr (line_of_stays net i s) ∷ []) o q) n wrote
-
   -- it entered
   module _ (comes : Comes) (mid : Moving) (has : HasEntered at comes m mid) (packet : ℕ) (k : packet ≡ entered_count m + 1)
       (room : length m.update.transition.packets.packets + (to_come m.seats + 1) < 2 ^ 32) where
     pub mid-moving : IsMoving net sides mid
     mid-moving = subst (IsMoving net sides) (sym has.1)
         (moving-entered net sides m is at (with_front has.0 (as_in_flight comes)) there room)
-
-    mid-count : length mid.update.transition.packets.packets ≡ entered_count m + 1
-    mid-count = ap (λ (x : Moving). length x.update.transition.packets.packets) has.1 ∙ length-append m.update.transition.packets.packets _
-
-    pub mid-number : IsNumber mid.update.transition.packets.packets packet
-    mid-number = record { first = omega (arith, k); last = omega (arith, k, mid-count) }
 
     abbrev doing-then : Doing
     doing-then = turning number packet mid

@@ -1,5 +1,5 @@
 -- Packets that have ended take no stage, and what is asked for of all packets and edits.
-use Rattle.std.proofs.Common.{◌≡◌, ℕ, zero, suc, ◌+◌, ◌<◌, ◌≤◌, drop, true, is_some, List, [], ◌∷◌, ◌++◌, length, length-append, map, slice_get, Option, Some, None, refl, ap, ◌∙◌, arith}
+use Rattle.std.proofs.Common.{◌≡◌, ℕ, zero, suc, ◌+◌, ◌<◌, drop, true, is_some, List, [], ◌∷◌, ◌++◌, length, length-append, map, slice_get, Option, Some, None, refl, ap, ◌∙◌, arith}
 use Rattle.std.specs.Prelude.{replicate}
 use Rattle.std.specs.List.{flat_map}
 use Rattle.std.proofs.lemmas.List.{length-map}
@@ -91,12 +91,3 @@ ends-list (suc n) k (x ∷ xs) within = ends-list n k xs (omega (arith, within))
 
 pub ends-step : {X : Type 0} → (n : ℕ) (xs : List X) → n < length xs → ends_from n xs ≡ replicate MAX_STAGES (suc n) ++ ends_from (suc n) xs
 ends-step n xs within = ap (flat_map (λ number. replicate MAX_STAGES number)) (ends-list n n xs within)
-
-past-none : {X : Type 0} → (n k : ℕ) (xs : List X) → length xs ≤ n → numbers_behind k (drop n xs) ≡ []
-past-none zero k [] past = refl
-past-none zero k (x ∷ xs) past = absurd (omega (arith, past))
-past-none (suc n) k [] past = refl
-past-none (suc n) k (x ∷ xs) past = past-none n k xs (omega (arith, past))
-
-pub ends-past : {X : Type 0} → (n : ℕ) (xs : List X) → length xs ≤ n → ends_from n xs ≡ []
-ends-past n xs past = ap (flat_map (λ number. replicate MAX_STAGES number)) (past-none n n xs past)

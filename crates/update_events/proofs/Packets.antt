@@ -10,7 +10,7 @@ use Rattle.update_events.specs.declared.moving.Moving as code
 use Rattle.update_events.specs.declared.seat.Seat.{Seat}
 use Rattle.update_events.specs.declared.seat.Seat.TheVariants as seats
 use Rattle.update_events.specs.Events.{pieces_of}
-use Rattle.update_events.specs.Going.{GoesOn, GoesOnAs, IsGoing, IsMoving, StandsOn, entered_at, moving_of, written}
+use Rattle.update_events.specs.Going.{GoesOn, GoesOnAs, IsGoing, IsMoving, StandsOn, moving_of, written}
 use Rattle.update_events.specs.Moving.{Doing, GoAlike, Moving, Sides, after_staying, coming_by, doing, nothing, side_of, stepping}
 use Rattle.update_events.proofs.Coming.{stands-both, still_going}
 use Rattle.update_events.proofs.Seats.{coming-stayed, set-same}
@@ -20,12 +20,6 @@ pub get-same : {X : Type 0} → (xs : List X) (i : ℕ) (y : X) → i < length x
 get-same [] i y within = absurd (omega (arith, within))
 get-same (x ∷ xs) zero y within = refl
 get-same (x ∷ xs) (suc i) y within = get-same xs i y (omega (arith, within))
-
-pub not-entered : (o : Option Seat) (packet : ℕ) → o ≡ Some (seats.Entered packet) → entered_at o ≡ None → ⊥
-not-entered None packet there none = cc
-not-entered (Some (seats.ToCome body)) packet there none = cc
-not-entered (Some (seats.Entered k)) packet there none = cc
-not-entered (Some seats.Gone) packet there none = cc
 
 module _ (sides : Sides) (old : code.Moving) (number : ℕ) (first : 1 ≤ number) where
   abbrev at : ℕ

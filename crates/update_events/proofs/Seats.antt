@@ -9,7 +9,7 @@ use Rattle.run_commands.specs.Entry.{Entry, Staying, Entering}
 use Rattle.update_events.specs.declared.seat.Seat.{Seat}
 use Rattle.update_events.specs.declared.seat.Seat.TheVariants as seats
 use Rattle.update_events.specs.Going.{IsMoving, coming_in, to_come}
-use Rattle.update_events.specs.Moving.{Doing, Moving, Sides, after_entering, after_staying, as_in_flight, coming_by, editing, entered_count, turning}
+use Rattle.update_events.specs.Moving.{Doing, Moving, Sides, after_entering, after_staying, as_in_flight, coming_by, entered_count, turning}
 
 -- ---- lists of which one element is another
 
@@ -76,17 +76,6 @@ number-longer ps qs k long h = record { first = h.first; last = omega (arith, h.
 module _ (net : Network) (sides : Sides) (m : Moving) (h : IsMoving net sides m) where
   abbrev those : List InFlight
   those = m.update.transition.packets.packets
-
-  pub moving-edited : IsMoving net sides (editing m).after
-  moving-edited = record {
-    nodes = h.nodes;
-    links = h.links;
-    within_old = h.within_old;
-    within_new = h.within_new;
-    short = h.short;
-    few = h.few;
-    numbered = h.numbered;
-  }
 
   pub moving-turned : (number k : ℕ) → IsMoving net sides (turning number k m).after
   moving-turned number k =

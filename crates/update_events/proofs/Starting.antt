@@ -11,7 +11,7 @@ use Rattle.command_output.specs.Gathered.{Goes, Pooled}
 use Rattle.command_output.specs.Pieces.{ForErr, Which, ToErr, bytes_in_order}
 use Rattle.command_output.proofs.PublicLaws.{goes_same, marked}
 use Rattle.command_inputs.specs.Frames.{FramesSeen, FindsFrame}
-use Rattle.command_inputs.proofs.PublicLaws.{FramesLeft, all_left, at_hand, frames_done, one_done}
+use Rattle.command_inputs.proofs.PublicLaws.{FramesLeft, all_left, at_hand, one_done}
 use Rattle.run_commands.specs.declared.enters.Stays.{Stays}
 use Rattle.run_commands.specs.Entry.{AllEnterIn, Entry}
 use Rattle.updates.specs.Update.{Plan}
@@ -67,10 +67,6 @@ seats_one entry whole old new all later h finds is =
       count = omega (arith, n, h.count, finds.taken);
       few = omega (arith, n, h.count, finds.taken, finds.few);
     }
-
-pub seats_all : (entry : Body → Entry) (whole now : FramesSeen) (all : List Seat) → SeatsOf entry whole now all → now.frames ≡ []
-    → all ≡ map (seat_of entry) whole.frames
-seats_all entry whole now all h none = h.those ∙ ap (map (seat_of entry)) (frames_done whole now h.left none)
 
 -- none has entered
 pub none-entered : (entry : Body → Entry) (frames : List Frame) (at packet : ℕ)

@@ -9,7 +9,7 @@ ghost use Rattle.pcap_io.specs.Capture.{written_head_bytes};
 ghost use Rattle.pcap_io.specs.declared.numbers.TheConstants.{MAX_FRAMES};
 ghost use Rattle.pcap_io.specs.Lending.{body_lent};
 ghost use Rattle.std.specs.List.{flat_map};
-ghost use Rattle.update_events.specs.Arriving.{early_at, early_of, early_pieces, is_too_big, line_of_early, seat_of, stays_early};
+ghost use Rattle.update_events.specs.Arriving.{early_at, early_pieces, is_too_big, line_of_early, seat_of, stays_early};
 
 use crate::seat::Seat;
 use base::{NoMemory, Seq};

@@ -1,11 +1,10 @@
 -- Which edit is next, and what is so after it.
-use Rattle.std.proofs.Common.{◌≡◌, ◌⊎◌, inl, inr, ℕ, zero, suc, ◌+◌, ◌-◌, ◌<◌, ◌≤◌, List, [], ◌∷◌, ◌++◌, length, map, slice_get, Option, Some, None, option_map, Result, Ok, Err, refl, sym, ap, ◌∙◌, arith, length-append, subst}
+use Rattle.std.proofs.Common.{◌≡◌, ◌⊎◌, inl, inr, ℕ, zero, suc, ◌+◌, ◌-◌, ◌<◌, ◌≤◌, List, [], ◌∷◌, length, map, slice_get, Option, Some, None, option_map, refl, ap, ◌∙◌, arith, length-append, subst}
 use Rattle.std.proofs.lemmas.List.{length-map}
 use Rattle.std.proofs.lemmas.Option.{slice_get_within}
 use Rattle.net_model.specs.declared.net.EntryId.{EntryId}
 use Rattle.update_flight.specs.declared.edit.Edit.{Edit}
 use Rattle.update_flight.specs.declared.edit.Edit.TheVariants.{Added, Switched, Removed, Finished}
-use Rattle.update_flight.specs.declared.edit.Busy.{Busy}
 use Rattle.update_flight.specs.Transition.{edits, or_finished, removed_or_busy, answer_to, done_after}
 
 pub length-edits : (added removed : List EntryId) → length (edits added removed) ≡ length added + length removed + 1
@@ -31,7 +30,8 @@ removed-next (a ∷ added) removed (suc j) k is = removed-next added removed j k
 
 -- behind the switch an edit that is answered is a removal, for which no early packet is in flight
 
-removal-free : (going : Option ℕ) (o : Option EntryId) (done : ℕ) → done < done_after done (answer_to going (or_finished (option_map Removed o)))
+removal-free : (going : Option ℕ) (o : Option EntryId) (done : ℕ)
+    → done < done_after done (answer_to going (or_finished (option_map Removed o)))
     → going ≡ None
 removal-free None o done more = refl
 removal-free (Some n) None done more = absurd (omega (arith, more))

@@ -1,10 +1,10 @@
 -- A packet that enters a transition, before the switch and after it.
-use Rattle.std.proofs.Common.{◌≡◌, ℕ, suc, ◌+◌, ◌^◌, ◌<◌, ◌≤◌, Bool, true, false, if◌then◌else◌, List, [], ◌∷◌, ◌++◌, length, Result, Ok, Err, refl, sym, ap, ◌∙◌, arith, subst}
+use Rattle.std.proofs.Common.{◌≡◌, ℕ, suc, ◌+◌, ◌^◌, ◌<◌, ◌≤◌, Bool, if◌then◌else◌, [], ◌∷◌, ◌++◌, length, Result, Ok, Err, sym, ap, ◌∙◌, arith, subst}
 use Rattle.std.proofs.lemmas.Bool.{le-leb, lt-leb}
 use Rattle.base.specs.declared.no_memory.NoMemory.{NoMemory}
-use Rattle.net_model.specs.Network.{Network, network_of}
-use Rattle.packet_walk.specs.Flight.{InFlight, Packets, Flight, Enters, within}
-use Rattle.update_flight.specs.Transition.{Transition, EntersAs, IsPassed, entered, is_before_switch, packets_of}
+use Rattle.net_model.specs.Network.{Network}
+use Rattle.packet_walk.specs.Flight.{InFlight, Packets, Enters, within}
+use Rattle.update_flight.specs.Transition.{Transition, EntersAs, IsPassed, entered, packets_of}
 use Rattle.update_flight.proofs.Passed.{passed-enter}
 
 -- some network

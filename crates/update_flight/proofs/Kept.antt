@@ -1,5 +1,5 @@
 -- What is so of a transition stays so, whatever comes.
-use Rattle.std.proofs.Common.{◌≡◌, ◌≢◌, ◌⊎◌, inl, inr, ℕ, zero, suc, ◌+◌, ◌<◌, ◌≤◌, eqb, nat_le, Bool, true, false, if◌then◌else◌, List, [], ◌∷◌, ◌++◌, length, slice_get, Option, Some, None, IsSome, refl, sym, ap, ◌∙◌, arith, subst, length-append}
+use Rattle.std.proofs.Common.{◌≡◌, ◌≢◌, ◌⊎◌, inl, inr, ℕ, zero, suc, ◌+◌, ◌<◌, ◌≤◌, eqb, Bool, true, false, if◌then◌else◌, List, [], ◌∷◌, ◌++◌, length, Option, Some, None, IsSome, refl, sym, ap, ◌∙◌, arith, length-append}
 use Rattle.std.proofs.lemmas.Bool.{leb-true, leb-false}
 use Rattle.std.proofs.lemmas.Bool.Decides.{eqb_tells}
 use Rattle.net_model.specs.Network.{Network}
@@ -7,7 +7,7 @@ use Rattle.walk_rules.specs.declared.place.Ended.{Ended}
 use Rattle.packet_walk.specs.Flight.{InFlight, Flight, packet_in, packet_of, turned, turned_by, within}
 use Rattle.packet_walk.proofs.PublicLaws.{length-turned, packet-behind, packet-within, turned-ended, turned-other}
 use Rattle.net_model.specs.declared.net.EntryId.{EntryId}
-use Rattle.update_flight.specs.Transition.{Transition, IsTransition, HaveEnded, edited, entered, first_early, is_before_switch, packets_of, starting, turned_in}
+use Rattle.update_flight.specs.Transition.{Transition, IsTransition, HaveEnded, edited, entered, first_early, is_before_switch, starting, turned_in}
 use Rattle.update_flight.specs.Interleaving.{Move, Enter, Turn, Edit, moved}
 use Rattle.update_flight.proofs.EditLemmas.{done-either, done-least, done-most, done-one, removal-done}
 use Rattle.update_flight.proofs.Firsts.{early-none, going-or-ended}

@@ -7,3 +7,4 @@ pub mod Passed
 pub mod Entering
 pub mod Named
 pub mod Planned
+pub mod PublicLaws

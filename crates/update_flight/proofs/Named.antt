@@ -1,6 +1,6 @@
 -- Which entries the names of a plan's edits are those of.
-use Rattle.std.proofs.Common.{◌≡◌, ◌≢◌, ◌⊎◌, inl, inr, ℕ, zero, suc, ◌+◌, ◌<◌, ◌≤◌, eqb, Bool, true, false, ◌||◌, if◌then◌else◌, List, [], ◌∷◌, ◌++◌, length, take, drop, slice_get, Option, Some, None, refl, sym, ap, ap₂, ◌∙◌, arith, subst}
-use Rattle.std.proofs.lemmas.Bool.{cases_Bool, cases_eq, cases_lt, eq-eqb, ne_eqb, ltb-true, ltb-false, false≢true}
+use Rattle.std.proofs.Common.{◌≡◌, ◌≢◌, inl, inr, ℕ, zero, suc, ◌+◌, ◌<◌, ◌≤◌, Bool, true, false, ◌||◌, if◌then◌else◌, List, [], ◌∷◌, ◌++◌, length, take, drop, slice_get, Option, Some, None, refl, sym, ap, ap₂, ◌∙◌, arith, subst}
+use Rattle.std.proofs.lemmas.Bool.{cases_Bool, cases_eq, cases_lt, eq-eqb, ne_eqb, ltb-true, false≢true}
 use Rattle.std.proofs.lemmas.List.Folds.{list_any-append}
 use Rattle.std.specs.List.{list_any}
 use Rattle.net_model.specs.declared.net.Hit.{Hit}
@@ -8,8 +8,8 @@ use Rattle.net_model.specs.declared.net.Hit.TheVariants as hits
 use Rattle.net_model.specs.Network.{Network}
 use Rattle.net_model.specs.declared.net.EntryId.{EntryId}
 use Rattle.net_model.specs.declared.net.EntryId.TheVariants as ids
-use Rattle.update_plan.specs.Joined.{added_routes, added_sids, is_new_route, is_new_sid}
-use Rattle.update_plan.specs.Lookups.{is_of_old, is_of_new, passes_or_absent}
+use Rattle.update_rules.specs.Joined.{added_routes, added_sids, is_new_route, is_new_sid}
+use Rattle.update_rules.specs.Lookups.{is_of_old, is_of_new, passes_or_absent}
 use Rattle.update_flight.specs.Planned.{added_entries, lost_from, named_from, names, removed_entries}
 
 abbrev pub named_in : Hit → List EntryId → Bool
@@ -77,7 +77,8 @@ none-lost stays name h n (x ∷ xs) apart =
     let e : n + suc m ≡ n + 1 + m = omega arith in
     subst (λ (k : ℕ). names (name k) h ≡ false) e (apart (suc m) y there lost)) in
     elim (cases_Bool (stays x)) [
-      | inl kept ↦ ap (λ b. named_in h (if b then lost_from stays name (n + 1) xs else name n ∷ lost_from stays name (n + 1) xs)) kept ∙ rest
+      | inl kept ↦ ap (λ b. named_in h (if b then lost_from stays name (n + 1) xs else name n ∷ lost_from stays name (n + 1) xs)) kept
+          ∙ rest
       | inr lost ↦
           let e : n + 0 ≡ n = omega arith in
           let here : names (name n) h ≡ false = subst (λ (k : ℕ). names (name k) h ≡ false) e (apart 0 x refl lost) in
@@ -102,14 +103,16 @@ some-lost stays name h n (y ∷ xs) (suc m) x there lost is =
     let rest : named_in h (lost_from stays name (n + 1) xs) ≡ true =
     some-lost stays name h (n + 1) xs m x there lost (subst (λ (k : ℕ). names (name k) h ≡ true) e is) in
     elim (cases_Bool (stays y)) [
-      | inl kept ↦ ap (λ b. named_in h (if b then lost_from stays name (n + 1) xs else name n ∷ lost_from stays name (n + 1) xs)) kept ∙ rest
+      | inl kept ↦ ap (λ b. named_in h (if b then lost_from stays name (n + 1) xs else name n ∷ lost_from stays name (n + 1) xs)) kept
+          ∙ rest
       | inr gone ↦ ap (λ b. named_in h (if b then lost_from stays name (n + 1) xs else name n ∷ lost_from stays name (n + 1) xs)) gone
           ∙ or-right (names (name n) h) (named_in h (lost_from stays name (n + 1) xs)) rest
     ]
 
 -- routes and SIDs
 
-both-none : (h : Hit) (routes sids : List EntryId) → named_in h routes ≡ false → named_in h sids ≡ false → named_in h (routes ++ sids) ≡ false
+both-none : (h : Hit) (routes sids : List EntryId) → named_in h routes ≡ false → named_in h sids ≡ false
+    → named_in h (routes ++ sids) ≡ false
 both-none h routes sids one other = list_any-append (λ entry. names entry h) routes sids ∙ ap₂ (λ b c. b || c) one other
 
 first-some : (h : Hit) (routes sids : List EntryId) → named_in h routes ≡ true → named_in h (routes ++ sids) ≡ true

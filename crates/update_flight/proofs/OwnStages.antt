@@ -1,7 +1,6 @@
 -- A stage that has a route in a packet's own description is the same by tables that keep its matches.
-use Rattle.std.proofs.Common.{◌≡◌, ◌≢◌, ℕ, Bool, true, false, if◌then◌else◌, is_some, List, refl, sym, ap, ◌∙◌}
+use Rattle.std.proofs.Common.{◌≡◌, ◌≢◌, ℕ, Bool, true, false, if◌then◌else◌, is_some, refl, sym, ap, ◌∙◌}
 use Rattle.srv6_rules.specs.declared.sid.Family.{Family}
-use Rattle.srv6_rules.specs.declared.sid.Reason.{Reason}
 use Rattle.srv6_rules.specs.declared.sid.Reason.TheVariants as reasons
 use Rattle.srv6_rules.specs.Packet.{Content, Packet, V6, V4, Unreadable}
 use Rattle.srv6_rules.specs.Packet4.{Packet4, destination4}
@@ -12,9 +11,7 @@ use Rattle.net_model.specs.Best.{lookup_of}
 use Rattle.walk_rules.specs.declared.place.How.{How}
 use Rattle.walk_rules.specs.declared.place.How.TheVariants.{Arrived, Submitted, Through}
 use Rattle.walk_rules.specs.declared.place.Place.{Place}
-use Rattle.walk_rules.specs.declared.place.Outcome.{Outcome}
-use Rattle.walk_rules.specs.declared.place.Outcome.TheVariants as outcomes
-use Rattle.walk_rules.specs.Way.{Way, Away, Over, Own, Into, is_multicast_of, way_by, way_by_hit, way_by_table, way_of}
+use Rattle.walk_rules.specs.Way.{Way, Away, Over, Own, Into, is_multicast_of, way_by, way_by_hit, way_of}
 use Rattle.walk_rules.specs.Treatment.{Gave, error_of, free_step_of, judged, step_of, treated, treated4}
 use Rattle.walk_rules.specs.Walk.{Stage, choice_at, stage_of}
 use Rattle.packet_walk.specs.Flight.{InFlight, advanced, left_by, stage_in, staged}
@@ -155,7 +152,8 @@ module _ (own now : Network) (keeps : KeepsOwn own now) where
     way-by-all node (Arrived table) family a =
         ap (λ (h : Hit). if is_multicast_of family a then Away reasons.Multicast else way_by_hit own true h) (finds-all node table family a)
     way-by-all node (Submitted table) family a =
-        ap (λ (h : Hit). if is_multicast_of family a then Away reasons.Multicast else way_by_hit own false h) (finds-all node table family a)
+        ap (λ (h : Hit). if is_multicast_of family a then Away reasons.Multicast else way_by_hit own false h)
+        (finds-all node table family a)
     way-by-all node (Through sid lower) family a = refl
 
     way-all : (place : Place) (a : ℕ) → way_of same place a ≡ way_of own place a

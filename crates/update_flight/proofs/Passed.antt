@@ -1,18 +1,16 @@
 -- What the code keeps of a transition: its first packets were passed, since they have ended.
-use Rattle.std.proofs.Common.{◌≡◌, ◌⊎◌, inl, inr, ℕ, zero, suc, ◌+◌, ◌^◌, ◌<◌, ◌≤◌, List, [], ◌∷◌, ◌++◌, length, map, Bool, true, false, if◌then◌else◌, Option, Some, None, IfSome, IsSome, is_some, Result, Ok, Err, refl, sym, ap, ◌∙◌, arith, subst, length-append}
-use Rattle.std.proofs.lemmas.Bool.{cases_lt}
+use Rattle.std.proofs.Common.{◌≡◌, ◌⊎◌, inl, inr, ℕ, zero, suc, ◌+◌, ◌^◌, ◌<◌, ◌≤◌, List, [], ◌∷◌, ◌++◌, length, Bool, true, false, if◌then◌else◌, Option, Some, None, IfSome, Result, Ok, Err, sym, ap, ◌∙◌, arith, subst, length-append}
 use Rattle.base.specs.declared.no_memory.NoMemory.{NoMemory}
 use Rattle.icmp6_errors.specs.Answer.{error_bytes}
 use Rattle.net_model.specs.Network.{Network}
 use Rattle.walk_rules.specs.Walk.{Stage}
-use Rattle.walk_rules.specs.declared.place.Ended.{Ended}
 use Rattle.packet_walk.specs.declared.event.Event.{Event}
 use Rattle.packet_walk.specs.Flight.{InFlight, Packets, Flight, IsNumber, Turns, event_of, packet_in, stage_in, staged, turned, with_packet, within}
 use Rattle.packet_walk.proofs.PublicLaws.{given-packet, packet-within, turned-going}
 use Rattle.net_model.specs.declared.net.EntryId.{EntryId}
 use Rattle.update_flight.specs.declared.edit.Edit.{Edit}
 use Rattle.update_flight.specs.declared.edit.Busy.{Busy}
-use Rattle.update_flight.specs.Transition.{Transition, HaveEnded, IsPassed, IsTransition, answer_of, answer_to, done_after, edit_count, edited, edits, entered, first_early, is_before_switch, next_edit, packets_of, removed_or_busy, starting, steps, turned_in}
+use Rattle.update_flight.specs.Transition.{Transition, HaveEnded, IsPassed, answer_of, done_after, edited, entered, first_early, is_before_switch, packets_of, starting, steps, turned_in}
 use Rattle.update_flight.specs.Tables.{AreAlike, HasRoute, KeepsOwn}
 use Rattle.update_flight.proofs.EditLemmas.{length-edits}
 use Rattle.update_flight.proofs.OwnStages.{all-stage, all-staged, kept-alike, own-stage, own-staged}

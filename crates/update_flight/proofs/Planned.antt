@@ -1,10 +1,9 @@
 -- Tables that show what the edits of an accepted plan leave pass from the old description to the new one.
-use Rattle.std.proofs.Common.{◌≡◌, ◌≢◌, inl, inr, ℕ, zero, suc, ◌+◌, ◌-◌, ◌<◌, ◌≤◌, Bool, true, false, cond, not, ◌||◌, List, [], ◌∷◌, ◌++◌, length, take, drop, slice_get, Option, Some, None, Ok, refl, sym, ap, ap₂, ◌∙◌, arith, subst, length-append}
+use Rattle.std.proofs.Common.{◌≡◌, ◌≢◌, inl, inr, ℕ, suc, ◌+◌, ◌-◌, ◌<◌, ◌≤◌, Bool, true, false, cond, not, ◌||◌, List, [], ◌∷◌, length, take, drop, slice_get, Option, Some, None, Ok, refl, sym, ap, ap₂, ◌∙◌, arith, subst, length-append}
 use Rattle.std.proofs.lemmas.Bool.{cases_Bool, cases_lt, le-ltb, lt-ltb}
 use Rattle.std.proofs.lemmas.List.{drop_all, take_all}
 use Rattle.std.proofs.lemmas.List.Folds.{list_any-append}
 use Rattle.std.proofs.lemmas.Option.{slice_get_within}
-use Rattle.std.specs.Prelude.{nat_lt}
 use Rattle.std.specs.List.{Contains, filter}
 use Rattle.v6_addr.specs.Address.{PrefixValue}
 use Rattle.srv6_rules.specs.declared.sid.Family.{Family}
@@ -18,13 +17,12 @@ use Rattle.net_model.specs.Best.{Entry, entries_of, hit_of, longest, lookup_of}
 use Rattle.net_model.specs.Entries.{IsEntryAs}
 use Rattle.net_model.proofs.PublicLaws.{contains_first, contains_later, entry_means}
 use Rattle.net_model.specs.declared.net.EntryId.{EntryId}
-use Rattle.update_plan.specs.Joined.{added_routes, added_sids, joined_of, numbered, numbered_beside}
-use Rattle.update_plan.specs.Lookups.{SameHit, is_of_new, is_of_old, shown_lookup}
-use Rattle.update_plan.specs.Planning.{planning}
-use Rattle.update_plan.proofs.LookupLaws.{new_lookups, new_match_stays, old_match_stays}
-use Rattle.update_plan.proofs.OldLookups.{old_lookups}
+use Rattle.update_rules.specs.Joined.{added_routes, added_sids, joined_of, numbered, numbered_beside}
+use Rattle.update_rules.specs.Lookups.{SameHit, is_of_new, is_of_old, shown_lookup}
+use Rattle.update_rules.specs.Planning.{planning}
+use Rattle.update_rules.proofs.PublicLaws.{new_lookups, new_match_stays, old_match_stays, old_lookups}
 use Rattle.update_flight.specs.Interleaving.{PassOver}
-use Rattle.update_flight.specs.Planned.{ShowsEdits, added_entries, hidden_after, is_shown_after, names, removed_entries}
+use Rattle.update_flight.specs.Planned.{ShowsEdits, added_entries, is_shown_after, names, removed_entries}
 use Rattle.update_flight.specs.Tables.{KeepsOwn}
 use Rattle.update_flight.specs.Transition.{edits}
 use Rattle.update_flight.proofs.Named.{added-none, added-route, added-sid, named_in, none-dropped, none-taken, removed-none, removed-some}
@@ -82,10 +80,11 @@ module _ (added removed : List EntryId) (done : ℕ) (h : Hit) where
 
 -- before the first edit
 hidden-old : (added removed : List EntryId) (h : Hit) → named_in h added ≡ true → is_shown_after added removed 0 h ≡ false
-hidden-old added removed h some = shown-by added removed 0 h true false (dropped-none added some) (none-removed added removed 0 h (omega arith)) where
-  dropped-none : (entries : List EntryId) → named_in h entries ≡ true → named_in h (drop 0 entries) ≡ true
-  dropped-none [] is = is
-  dropped-none (entry ∷ entries) is = is
+hidden-old added removed h some =
+    shown-by added removed 0 h true false (dropped-none added some) (none-removed added removed 0 h (omega arith)) where
+      dropped-none : (entries : List EntryId) → named_in h entries ≡ true → named_in h (drop 0 entries) ≡ true
+      dropped-none [] is = is
+      dropped-none (entry ∷ entries) is = is
 
 module _ (old new : Network) where
   abbrev added : List EntryId
@@ -102,7 +101,8 @@ module _ (old new : Network) where
 
   -- no entry of the joined network that isn't an old one is shown before the first edit
 
-  hidden-sid : (n : ℕ) (s : SidEntry) → slice_get joined.sids n ≡ Some s → length old.sids ≤ n → is_shown_after added removed 0 (hits.Sid n) ≡ false
+  hidden-sid : (n : ℕ) (s : SidEntry) → slice_get joined.sids n ≡ Some s → length old.sids ≤ n
+      → is_shown_after added removed 0 (hits.Sid n) ≡ false
   hidden-sid n s there above =
       let within : n < length joined.sids = slice_get_within joined.sids n s there in
       let e : length joined.sids ≡ length old.sids + length (numbered new.titles (length old.titles) (added_sids old new)) =

@@ -1,5 +1,5 @@
 -- Each packet takes the walk of its own description, whatever edits there are between its turns.
-use Rattle.std.proofs.Common.{◌≡◌, ◌≢◌, ◌⊎◌, inl, inr, ℕ, zero, suc, ◌+◌, ◌<◌, ◌≤◌, eqb, nat_eq, nat_le, Bool, true, false, if◌then◌else◌, List, [], ◌∷◌, ◌++◌, length, take, All, Option, Some, None, IsSome, refl, sym, ap, ◌∙◌, arith, subst}
+use Rattle.std.proofs.Common.{◌≡◌, ◌≢◌, inl, inr, ℕ, zero, suc, ◌+◌, ◌<◌, ◌≤◌, nat_eq, nat_le, Bool, true, false, if◌then◌else◌, List, [], ◌∷◌, ◌++◌, length, take, All, Option, Some, None, refl, sym, ap, ◌∙◌, arith, subst}
 use Rattle.std.proofs.lemmas.Bool.{eqb-true, eqb-false, leb-true, leb-false, le-leb, lt-leb, cases_lt}
 use Rattle.std.proofs.lemmas.List.Elements.{All-head, All-tail, All-same}
 use Rattle.std.proofs.lemmas.Option.{slice_get_within}
@@ -7,12 +7,12 @@ use Rattle.net_model.specs.Network.{Network}
 use Rattle.walk_rules.specs.declared.place.Ended.{Ended}
 use Rattle.walk_rules.specs.declared.limits.TheConstants.{MAX_STAGES}
 use Rattle.walk_rules.specs.Walk.{Stage}
-use Rattle.packet_walk.specs.Flight.{InFlight, Flight, IsCounted, packet_in, packet_of, stage_in, staged, turned, within}
+use Rattle.packet_walk.specs.Flight.{InFlight, Flight, IsCounted, packet_in, stage_in, staged, within}
 use Rattle.packet_walk.specs.Rest.{rest_of, given_by, given_where}
 use Rattle.packet_walk.proofs.PublicLaws.{packet-behind, rest-ended, rest-going, staged-counted, turned-ended, turned-other, turned-staged}
 use Rattle.update_flight.specs.Tables.{HasRoute, KeepsOwn}
 use Rattle.update_flight.specs.Transition.{Transition, IsTransition, edit_count, edited, entered, is_before_switch, turned_in}
-use Rattle.update_flight.specs.Interleaving.{Move, Enter, Turn, Edit, PassOver, given_in, given_to, moved, own_of, turns_of}
+use Rattle.update_flight.specs.Interleaving.{Move, Enter, Turn, Edit, PassOver, given_to, own_of, turns_of}
 use Rattle.update_flight.proofs.OwnStages.{own-stage, own-staged}
 use Rattle.update_flight.proofs.Firsts.{going-or-ended}
 use Rattle.update_flight.proofs.Kept.{kept-edit, kept-enter, kept-turn}
@@ -23,7 +23,8 @@ within-by packets p (suc before) there = slice_get_within packets before p there
 
 -- the tables of the moment keep the matches of each packet in flight
 
-module _ (tables : ℕ → Network) (t : Transition) (pass : PassOver tables t.added t.removed) (is : IsTransition t) (number : ℕ) (p : InFlight)
+module _ (tables : ℕ → Network) (t : Transition) (pass : PassOver tables t.added t.removed) (is : IsTransition t) (number : ℕ)
+    (p : InFlight)
     (there : packet_in t.packets.packets number ≡ Some p) (going : p.ended ≡ None) where
   number-within : number ≤ length t.packets.packets
   number-within = within-by t.packets.packets p number there

@@ -8,9 +8,9 @@ use Rattle.net_model.specs.Network.{Network}
 use Rattle.net_model.specs.Best.{lookup_of}
 use Rattle.net_model.specs.declared.net.EntryId.{EntryId}
 use Rattle.net_model.specs.declared.net.EntryId.TheVariants as ids
-pub use Rattle.update_plan.specs.Changes.{added_entries, lost_from, named_from, removed_entries}
-use Rattle.update_plan.specs.Joined.{joined_of}
-use Rattle.update_plan.specs.Lookups.{shown_lookup}
+pub use Rattle.update_rules.specs.Changes.{added_entries, lost_from, named_from, removed_entries}
+use Rattle.update_rules.specs.Joined.{joined_of}
+use Rattle.update_rules.specs.Lookups.{shown_lookup}
 
 -- a name is that of a hit; no node's own address is added or removed
 abbrev pub names : EntryId → Hit → Bool

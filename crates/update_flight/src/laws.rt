@@ -1,6 +1,6 @@
 //! Laws about the definitions, each the contract of a function that does nothing.
 
-ghost use Rattle.std.specs.Prelude.{◌≡◌, ℕ, suc, ◌+◌, ◌-◌, ◌≤◌, ◌∷◌, [], All, IfSome, List, None, Ok, Some, if◌then◌else◌, length, take};
+ghost use Rattle.std.specs.Prelude.{◌≡◌, ℕ, suc, ◌-◌, ◌≤◌, [], All, IfSome, List, None, Ok, Some, if◌then◌else◌, length, take};
 ghost use Rattle.net_model.specs.Best.{lookup_of};
 ghost use Rattle.net_model.specs.Network.{Network};
 ghost use Rattle.net_model.specs.Rules.{IsNetwork};
@@ -10,9 +10,9 @@ ghost use Rattle.walk_rules.specs.Walk.{stage_of};
 ghost use Rattle.walk_rules.specs.declared.place.Place.{Place};
 ghost use Rattle.packet_walk.specs.Flight.{InFlight, IsCounted, packet_in};
 ghost use Rattle.packet_walk.specs.Rest.{rest_of};
-ghost use Rattle.update_plan.specs.Joined.{joined_of};
-ghost use Rattle.update_plan.specs.Lookups.{SameHit};
-ghost use Rattle.update_plan.specs.Planning.{planning};
+ghost use Rattle.update_rules.specs.Joined.{joined_of};
+ghost use Rattle.update_rules.specs.Lookups.{SameHit};
+ghost use Rattle.update_rules.specs.Planning.{planning};
 ghost use Rattle.net_model.specs.declared.net.EntryId.{EntryId};
 ghost use Rattle.update_flight.specs.Interleaving.{Move, PassOver, given_to, moved, own_of, turns_of};
 ghost use Rattle.update_flight.specs.Planned.{ShowsEdits, added_entries, removed_entries};

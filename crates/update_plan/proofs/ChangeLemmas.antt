@@ -1,19 +1,17 @@
 -- The entries that a description lacks, by their names.
-use Rattle.std.proofs.Common.{◌≡◌, ℕ, ◌+◌, Bool, true, false, not, cond, if◌then◌else◌, List, [], ◌∷◌, ◌++◌, map, refl, sym, ap, ap₂, ◌∙◌}
+use Rattle.std.proofs.Common.{◌≡◌, ℕ, ◌+◌, Bool, true, false, not, cond, if◌then◌else◌, List, [], ◌∷◌, ◌++◌, map, refl, ap, ap₂, ◌∙◌}
 use Rattle.std.proofs.lemmas.List.{append-nil}
 use Rattle.std.specs.Prelude.{IfOk, Result, Ok, Err}
 use Rattle.std.specs.Global.{Vec}
 use Rattle.std.specs.List.{filter}
-use Rattle.srv6_rules.specs.declared.sid.SidEntry.{SidEntry}
 use Rattle.net_model.specs.declared.parts.Node.{Node}
-use Rattle.net_model.specs.declared.parts.Route.{Route}
 use Rattle.net_model.specs.declared.net.EntryId.{EntryId}
 use Rattle.net_model.specs.declared.net.EntryId.TheVariants as ids
 use Rattle.net_model.specs.Network.{Network}
-use Rattle.update_plan.specs.Changes.{lost_from, removed_entries}
+use Rattle.update_rules.specs.Changes.{lost_from, removed_entries}
 use Rattle.update_plan.specs.declared.entry.PlanEntry.{PlanEntry}
 use Rattle.update_plan.specs.Entries.{is_added, entries_from, route_entry, sid_entry, address_entry, entries_of}
-use Rattle.update_plan.specs.Joined.{is_new_route, is_new_sid}
+use Rattle.update_rules.specs.Joined.{is_new_route, is_new_sid}
 
 abbrev names_in : List PlanEntry → List EntryId
 names_in es = map (λ (e : PlanEntry). e.id) (filter is_added es)

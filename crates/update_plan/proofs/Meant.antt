@@ -1,14 +1,10 @@
 -- What the entries mean that are gathered, and lists that grow at their end.
-use Rattle.std.proofs.Common.{◌≡◌, ℕ, ◌+◌, Bool, true, false, ◌&&◌, ◌||◌, not, cond, List, [], ◌∷◌, ◌++◌, map, find, Option, Some, None, refl, sym, ap, ap₂, ◌∙◌, append_assoc, inl, inr}
-use Rattle.std.proofs.lemmas.Bool.{cases_Bool}
+use Rattle.std.proofs.Common.{◌≡◌, ℕ, ◌+◌, Bool, true, false, ◌&&◌, ◌||◌, not, cond, List, [], ◌∷◌, ◌++◌, map, find, Some, refl, ap, ap₂, ◌∙◌, append_assoc}
 use Rattle.std.specs.List.{filter}
-use Rattle.srv6_rules.specs.declared.sid.SidEntry.{SidEntry}
-use Rattle.net_model.specs.declared.parts.Node.{Node}
-use Rattle.net_model.specs.declared.parts.Route.{Route}
 use Rattle.net_model.specs.Network.{Network}
 use Rattle.update_plan.specs.declared.entry.PlanEntry.{PlanEntry}
-use Rattle.update_plan.specs.Joined.{is_new_route, is_new_sid}
-use Rattle.update_plan.specs.Planning.{Item, items_from, route_item, sid_item, address_item, old_items, in_one_table, meet, conflict}
+use Rattle.update_rules.specs.Joined.{is_new_route, is_new_sid}
+use Rattle.update_rules.specs.Planning.{Item, items_from, route_item, sid_item, address_item, old_items, in_one_table, meet, conflict}
 use Rattle.net_model.specs.Judging.{same_text}
 use Rattle.update_plan.specs.Entries.{item_of, is_added, entries_from, route_entry, sid_entry, address_entry, entries_of}
 
@@ -29,7 +25,8 @@ meant_from titles entry item e n [] = refl
 meant_from titles entry item e n (x ∷ xs) = ap₂ (λ i is. i ∷ is) (e n x) (meant_from titles entry item e (n + 1) xs)
 
 -- the entries of a description are its items
-pub meant : (own other : Network) → map (item_of own.titles) (entries_of (is_new_route other) (is_new_sid own other) own) ≡ old_items own other
+pub meant : (own other : Network)
+    → map (item_of own.titles) (entries_of (is_new_route other) (is_new_sid own other) own) ≡ old_items own other
 meant own other =
     let routes = entries_from (route_entry (is_new_route other)) 0 own.routes in
     let sids = entries_from (sid_entry (is_new_sid own other)) 0 own.sids in

@@ -1,24 +1,23 @@
 -- The parts of a plan, put together.
-use Rattle.std.proofs.Common.{◌≡◌, ◌≢◌, ℕ, ◌+◌, ◌-◌, ◌≤◌, ◌<◌, ◌^◌, Bool, true, ◌==◌, not, List, [], ◌∷◌, ◌++◌, map, length, Option, Some, None, Result, Ok, Err, refl, sym, ap, ap₂, ◌∙◌, subst, arith}
+use Rattle.std.proofs.Common.{◌≡◌, ◌≢◌, ℕ, ◌+◌, ◌-◌, ◌≤◌, ◌<◌, ◌^◌, Bool, true, ◌==◌, not, List, [], ◌∷◌, ◌++◌, map, length, Option, Some, None, Result, Ok, Err, refl, sym, ap, ap₂, ◌∙◌, arith}
 use Rattle.std.proofs.lemmas.Bool.{and_parts, eqb-true}
 use Rattle.std.specs.Result.{IsErrAnd}
-use Rattle.std.specs.List.{filter, filter_map, cons_option, list_any}
+use Rattle.std.specs.List.{filter, filter_map, cons_option}
 use Rattle.srv6_rules.specs.declared.sid.SidEntry.{SidEntry}
 use Rattle.net_model.specs.declared.parts.Route.{Route}
 use Rattle.net_model.specs.Network.{Network}
-use Rattle.net_model.specs.Rules.{are_distinct, same_route, title_of, IsNetwork}
+use Rattle.net_model.specs.Rules.{title_of, IsNetwork}
 use Rattle.net_model.specs.Judging.{title_text, are_numbers, InRange}
 use Rattle.net_model.proofs.PublicLaws.{keeps_from_network}
 use Rattle.update_plan.specs.declared.entry.PlanEntry.{PlanEntry}
-use Rattle.update_plan.specs.declared.fault.PlanFault.{PlanFault}
-use Rattle.update_plan.specs.declared.fault.PlanFault.TheVariants as faults
+use Rattle.update_rules.specs.declared.fault.PlanFault.{PlanFault}
+use Rattle.update_rules.specs.declared.fault.PlanFault.TheVariants as faults
 use Rattle.text_faults.specs.declared.place.TableKind.TheVariants as tables
-use Rattle.update_plan.specs.Equal.{equal_block, equal_node, equal_link, equal_policy}
-use Rattle.update_plan.specs.Joined.{is_old_route, is_new_route, is_old_sid, is_new_sid, numbered, joined_of}
-use Rattle.update_plan.specs.Planning.{differing, and_then, conflicting, old_items, new_items, limited, planning}
+use Rattle.update_rules.specs.Equal.{equal_block, equal_node, equal_link, equal_policy}
+use Rattle.update_rules.specs.Joined.{is_old_route, is_new_route, is_old_sid, is_new_sid, numbered, joined_of}
+use Rattle.update_rules.specs.Planning.{differing, and_then, conflicting, old_items, new_items, limited, planning}
 use Rattle.update_plan.specs.Entries.{item_of, entries_of, AreFew, differences, Answers}
-use Rattle.update_plan.proofs.Keeping.{distinct_routes, joined_rules, joined_range}
-use Rattle.update_plan.proofs.Symmetry.{old_is_new_route, old_is_new_sid, items_back}
+use Rattle.update_rules.proofs.PublicLaws.{old_is_new_route, old_is_new_sid, items_back}
 use Rattle.update_plan.proofs.Meant.{meant}
 
 -- ---- what the rules give
@@ -46,7 +45,8 @@ no_more : {X Y : Type 0} (f : X → Option Y) (xs : List X) → length (filter_m
 no_more f [] = omega arith
 no_more f (x ∷ xs) =
     let rest = no_more f xs in
-    elim (f x) as (λ o. length (cons_option o (filter_map f xs)) ≤ length (x ∷ xs)) [ None ↦ omega (arith, rest) | Some y ↦ omega (arith, rest) ]
+    elim (f x) as (λ o. length (cons_option o (filter_map f xs)) ≤ length (x ∷ xs))
+    [ None ↦ omega (arith, rest) | Some y ↦ omega (arith, rest) ]
 
 pub few_titles : (old new : Network) → IsNetwork old → IsNetwork new → InRange old → length old.titles + length new.sids < 2 ^ 32 - 1
 few_titles old new o n range =
@@ -77,7 +77,8 @@ pub entries_conflict : (old new : Network) (olds news : List PlanEntry) → olds
     → news ≡ entries_of (is_new_route old) (is_new_sid new old) new
     → conflicting (map (item_of new.titles) news) (map (item_of old.titles) olds) ≡ conflicting (new_items old new) (old_items old new)
 entries_conflict old new olds news e f =
-    ap₂ conflicting (ap (map (item_of new.titles)) f ∙ (meant new old ∙ items_back old new)) (ap (map (item_of old.titles)) e ∙ meant old new)
+    ap₂ conflicting (ap (map (item_of new.titles)) f ∙ (meant new old ∙ items_back old new))
+    (ap (map (item_of old.titles)) e ∙ meant old new)
 
 -- ---- the joined network
 
@@ -90,8 +91,10 @@ pub joined_from : (old new : Network) (rs : List Route) (ts : List (List ℕ)) (
     → ss ≡ old.sids ++ numbered new.titles (length old.titles) (filter (λ t. not (is_new_sid new old t)) new.sids)
     → record old { routes = rs; titles = ts; sids = ss; hidden = [] } ≡ joined_of old new
 joined_from old new rs ts ss e f g =
-    let routes = filter_same (λ r. not (is_new_route old r)) (λ r. not (is_old_route old r)) (λ r. ap not (old_is_new_route old r)) new.routes in
-    let sids = filter_same (λ t. not (is_new_sid new old t)) (λ t. not (is_old_sid old new t)) (λ t. ap not (old_is_new_sid old new t)) new.sids in
+    let routes = filter_same (λ r. not (is_new_route old r)) (λ r. not (is_old_route old r))
+    (λ r. ap not (old_is_new_route old r)) new.routes in
+    let sids = filter_same (λ t. not (is_new_sid new old t)) (λ t. not (is_old_sid old new t))
+    (λ t. ap not (old_is_new_sid old new t)) new.sids in
     let all_routes = e ∙ ap (λ l. old.routes ++ l) routes in
     let all_titles = f ∙ ap (λ l. old.titles ++ filter_map (title_text new.titles) l) sids in
     let all_sids = g ∙ ap (λ l. old.sids ++ numbered new.titles (length old.titles) l) sids in
@@ -121,7 +124,8 @@ planned old new =
     (and_then (conflicting (new_items old new) (old_items old new)) (limited (joined_of old new)))
 
 pub differences_fault : (old new : Network) (fault : PlanFault) → differences old new ≡ Err fault → planning old new ≡ Err fault
-differences_fault old new fault e = planned old new ∙ ap (λ r. and_then r (and_then (conflicting (new_items old new) (old_items old new)) (limited (joined_of old new)))) e
+differences_fault old new fault e =
+    planned old new ∙ ap (λ r. and_then r (and_then (conflicting (new_items old new) (old_items old new)) (limited (joined_of old new)))) e
 
 pub conflicts_fault : (old new : Network) (fault : PlanFault) → differences old new ≡ Ok tt
     → conflicting (new_items old new) (old_items old new) ≡ Err fault → planning old new ≡ Err fault

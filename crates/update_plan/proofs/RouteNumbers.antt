@@ -1,6 +1,6 @@
 -- The numbers of routes by their keys: a route of distinct ones has an equal one exactly where the one with its key is equal.
-use Rattle.std.proofs.Common.{◌≡◌, ℕ, zero, suc, Bool, true, false, ◌==◌, ◌&&◌, ◌||◌, not, cond, List, [], ◌∷◌, ◌++◌, length, Option, Some, None, refl, sym, ap, ap₂, ◌∙◌, subst, arith}
-use Rattle.std.proofs.lemmas.Bool.{and_parts, and_left, or_parts, or_from, or_left, or_right, eqb-true, not-true, both_ways, false_from_ne_true}
+use Rattle.std.proofs.Common.{◌≡◌, ℕ, zero, suc, Bool, true, false, ◌==◌, ◌&&◌, ◌||◌, cond, List, [], ◌∷◌, ◌++◌, length, Option, Some, None, refl, sym, ap, ap₂, ◌∙◌, subst}
+use Rattle.std.proofs.lemmas.Bool.{and_parts, or_from, eqb-true, not-true, both_ways, false_from_ne_true}
 use Rattle.std.proofs.lemmas.Option.{same_Some}
 use Rattle.std.specs.Prelude.{option_and_then}
 use Rattle.std.specs.List.{list_any, slice_get}
@@ -15,12 +15,9 @@ use Rattle.net_model.specs.declared.parts.Route.{Route}
 use Rattle.net_model.specs.Rules.{are_distinct, same_bytes, same_family, same_prefix, same_route}
 use Rattle.net_model.proofs.RouteSetLemmas.{number_is_eq, family_is_eq, both_eq}
 use Rattle.update_plan.specs.declared.known_routes.RouteKey.{RouteKey}
-use Rattle.update_plan.specs.Equal.{equal_route}
+use Rattle.update_rules.specs.Equal.{equal_route}
 use Rattle.update_plan.specs.RouteKeys.{route_key_cmp, route_key, TellsOf, AreNumbered, equal_at}
-use Rattle.update_plan.proofs.Equals.{same_prefix_are}
-use Rattle.update_plan.proofs.Lists.{none_append}
-use Rattle.update_plan.proofs.Numbers.{any_same}
-use Rattle.update_plan.proofs.Symmetry.{route_sym}
+use Rattle.update_rules.proofs.PublicLaws.{families_are, same_prefix_are, any_at, get_front, get_seam, none_append, none_less, any_same, route_sym}
 
 keys_tell : (q r : Route) → is_eq (route_key_cmp (route_key q) (route_key r)) ≡ same_route q r
 keys_tell q r =
@@ -30,31 +27,10 @@ keys_tell q r =
     (both_eq (nat_cmp q.prefix.value r.prefix.value) (nat_cmp q.prefix.len r.prefix.len) _ _ (number_is_eq q.prefix.value r.prefix.value)
     (number_is_eq q.prefix.len r.prefix.len))))
 
--- ---- lists
-
-pub get_front : {X : Type 0} (xs ys : List X) (n : ℕ) (x : X) → slice_get xs n ≡ Some x → slice_get (xs ++ ys) n ≡ Some x
-get_front [] ys n x h = cc
-get_front (y ∷ xs) ys zero x h = h
-get_front (y ∷ xs) ys (suc n) x h = get_front xs ys n x h
-
-pub get_seam : {X : Type 0} (xs : List X) (y : X) (ys : List X) → slice_get (xs ++ y ∷ ys) (length xs) ≡ Some y
-get_seam [] y ys = refl
-get_seam (x ∷ xs) y ys = get_seam xs y ys
-
-pub any_at : {X : Type 0} (p : X → Bool) (xs : List X) (n : ℕ) (x : X) → slice_get xs n ≡ Some x → p x ≡ true → list_any p xs ≡ true
-any_at p [] n x at h = cc
-any_at p (y ∷ xs) zero x at h = or_left _ _ (subst (λ z. p z ≡ true) (sym (same_Some y x at)) h)
-any_at p (y ∷ xs) (suc n) x at h = or_right _ _ (any_at p xs n x at h)
-
-pub none_less : {X : Type 0} (p q : X → Bool) → ((x : X) → q x ≡ true → p x ≡ true) → (xs : List X) → list_any p xs ≡ false → list_any q xs ≡ false
-none_less p q f [] h = refl
-none_less p q f (x ∷ xs) h =
-    let parts = or_parts _ _ h in
-    or_from _ _ (false_from_ne_true (q x) (λ e. both_ways _ parts.0 (f x e))) (none_less p q f xs parts.1)
-
 -- ---- numbers
 
-tells_more : (before : List Route) (r q : Route) (o : Option ℕ) → TellsOf before q o → same_route q r ≡ false → TellsOf (before ++ r ∷ []) q o
+tells_more : (before : List Route) (r q : Route) (o : Option ℕ) → TellsOf before q o → same_route q r ≡ false
+    → TellsOf (before ++ r ∷ []) q o
 tells_more before r q None h e = none_append (same_route q) before (r ∷ []) h (or_from _ _ e refl)
 tells_more before r q (Some n) h e = (h.0, get_front before (r ∷ []) n h.0 h.1, h.2)
 
@@ -82,12 +58,6 @@ none_numbered numbers none q =
 equal_same : (q r : Route) → equal_route q r ≡ true → same_route q r ≡ true
 equal_same q r h = (and_parts (same_route q r) (same_bytes q.via r.via) h).0
 
-pub families_are : (f g : Family) → same_family f g ≡ true → f ≡ g
-families_are families.V6 families.V6 h = refl
-families_are families.V6 families.V4 h = cc
-families_are families.V4 families.V6 h = cc
-families_are families.V4 families.V4 h = refl
-
 abbrev same_at : Route → ℕ → ℕ → Family → PrefixValue → Bool
 same_at y node table family p = (node == y.node) && ((table == y.table) && (same_family family y.family && same_prefix p y.prefix))
 
@@ -106,7 +76,8 @@ or_nothing : (a b : Bool) → b ≡ false → (a || b) ≡ a
 or_nothing true b h = refl
 or_nothing false b h = h
 
-none_behind : (q x : Route) (rs : List Route) → same_route q x ≡ true → list_any (same_route x) rs ≡ false → list_any (equal_route q) rs ≡ false
+none_behind : (q x : Route) (rs : List Route) → same_route q x ≡ true → list_any (same_route x) rs ≡ false
+    → list_any (equal_route q) rs ≡ false
 none_behind q x rs same none =
     none_less (same_route q) (equal_route q) (equal_same q) rs (any_same (same_route q) (same_route x) (λ y. agree q x y same) rs ∙ none)
 

@@ -1,5 +1,5 @@
 -- The entries of a description as they are compared: a title goes by its number in the description's own list.
-use Rattle.std.specs.Prelude.{◌≡◌, ◌≢◌, ℕ, ◌+◌, ◌-◌, ◌<◌, ◌^◌, Bool, true, not, List, [], ◌∷◌, ◌++◌, length, slice_get, Option, Some, None, option_and_then, Result, Ok, Err}
+use Rattle.std.specs.Prelude.{◌≡◌, ◌≢◌, ℕ, ◌+◌, ◌-◌, ◌<◌, ◌^◌, Bool, true, not, List, [], ◌∷◌, ◌++◌, length, slice_get, Option, None, option_and_then, Result, Ok, Err}
 use Rattle.srv6_rules.specs.declared.sid.Family.TheVariants as families
 use Rattle.srv6_rules.specs.declared.sid.SidEntry.{SidEntry}
 use Rattle.text_faults.specs.declared.place.TableKind.TheVariants as tables
@@ -9,10 +9,10 @@ use Rattle.net_model.specs.Network.{Network}
 use Rattle.flat_networks.specs.Flat.{address_prefix}
 use Rattle.net_model.specs.declared.net.EntryId.TheVariants as ids
 use Rattle.update_plan.specs.declared.entry.PlanEntry.{PlanEntry}
-use Rattle.update_plan.specs.declared.fault.PlanFault.{PlanFault}
-use Rattle.update_plan.specs.declared.fault.PlanFault.TheVariants as faults
-use Rattle.update_plan.specs.Equal.{equal_block, equal_node, equal_link, equal_policy}
-use Rattle.update_plan.specs.Planning.{Item, differing, and_then}
+use Rattle.update_rules.specs.declared.fault.PlanFault.{PlanFault}
+use Rattle.update_rules.specs.declared.fault.PlanFault.TheVariants as faults
+use Rattle.update_rules.specs.Equal.{equal_block, equal_node, equal_link, equal_policy}
+use Rattle.update_rules.specs.Planning.{Item, differing, and_then}
 
 -- the text of the title with a number
 abbrev pub text_of : List (List ℕ) → Option ℕ → Option (List ℕ)

@@ -8,7 +8,7 @@ use Rattle.std.specs.BTreeMap as map
 use Rattle.srv6_rules.specs.declared.sid.Family.TheVariants as families
 use Rattle.net_model.specs.declared.parts.Route.{Route}
 use Rattle.net_model.specs.Rules.{same_family, same_route}
-use Rattle.update_plan.specs.Equal.{equal_route}
+use Rattle.update_rules.specs.Equal.{equal_route}
 use Rattle.update_plan.specs.declared.known_routes.RouteKey.{RouteKey}
 
 -- by node, table, family, address and length

@@ -4,7 +4,7 @@ ghost use Rattle.std.specs.Prelude.{◌≡◌, map, IfOk};
 ghost use Rattle.std.specs.List.{filter};
 ghost use Rattle.net_model.specs.Network.{network_of};
 ghost use Rattle.net_model.specs.Rules.{IsNetwork};
-ghost use Rattle.update_plan.specs.Changes.{removed_entries};
+ghost use Rattle.update_rules.specs.Changes.{removed_entries};
 ghost use Rattle.update_plan.specs.Entries.{is_added};
 
 use crate::entry::PlanEntry;

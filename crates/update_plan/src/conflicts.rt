@@ -2,13 +2,13 @@
 
 ghost use Rattle.std.specs.Prelude.{◌≡◌, find, map, Ok, Err};
 ghost use Rattle.std.specs.List.{filter};
-ghost use Rattle.update_plan.specs.Planning.{in_one_table, meet, conflict, conflict_or, conflicting};
+ghost use Rattle.update_rules.specs.Planning.{in_one_table, meet, conflict, conflict_or, conflicting};
 ghost use Rattle.update_plan.specs.Entries.{item_of, is_added};
 
 use crate::entry::PlanEntry;
 use crate::equal::same_title;
-use crate::fault::PlanFault;
 use net_model::{Name, same_family};
+use update_rules::PlanFault;
 use v6_addr::Prefix;
 
 /// The titles of both descriptions.

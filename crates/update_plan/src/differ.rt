@@ -2,13 +2,13 @@
 
 ghost use Rattle.std.specs.Prelude.{◌≡◌, ◌-◌, ◌<◌, ◌^◌, length, Ok, Err};
 ghost use Rattle.net_model.specs.Network.{network_of};
-ghost use Rattle.update_plan.specs.Planning.{first_difference, differing};
+ghost use Rattle.update_rules.specs.Planning.{first_difference, differing};
 ghost use Rattle.update_plan.specs.Entries.{AreFew, differences};
 
 use crate::equal::{Blocks, Equality, Links, Nodes, Policies};
-use crate::fault::PlanFault;
 use net_model::{Block, Link, NamedPolicy, NetParts, Node};
 use text_faults::TableKind;
+use update_rules::PlanFault;
 
 /// The first place, counted from 1, at which two lists differ; a list that ends differs there.
 fn first_difference<X, E: Equality<X>>(xs: &[X], ys: &[X]) -> Option<u32>

@@ -1,12 +1,11 @@
 //! Whether items of two descriptions are equal, each a test that answers one word of the definitions.
 
-ghost use Rattle.std.specs.Prelude.{◌≡◌, ℕ, Bool, List, option_map};
-ghost use Rattle.std.specs.List.{list_any};
+ghost use Rattle.std.specs.Prelude.{◌≡◌, Bool, option_map};
 ghost use Rattle.net_model.specs.Network.{network_of};
 ghost use Rattle.net_model.specs.Rules.{same_bytes, same_number, same_route};
 ghost use Rattle.net_model.specs.Judging.{same_answer, same_text};
-ghost use Rattle.update_plan.specs.Equal.{equal_lists, equal_options, equal_kinds, equal_block, equal_node, equal_link, same_address, equal_outer, equal_policy, equal_route, behaviour_place, equal_behaviour, equal_csid, equal_forms, equal_sid};
-ghost use Rattle.update_plan.specs.Joined.{is_new_sid};
+ghost use Rattle.update_rules.specs.Equal.{equal_lists, equal_options, equal_kinds, equal_block, equal_node, equal_link, same_address, equal_outer, equal_policy, equal_route, behaviour_place, equal_behaviour, equal_csid, equal_forms, equal_sid};
+ghost use Rattle.update_rules.specs.Joined.{is_new_sid};
 ghost use Rattle.update_plan.specs.Entries.{text_of};
 
 use net_model::{

@@ -4,8 +4,8 @@ ghost use Rattle.std.specs.Prelude.{◌≡◌, ◌-◌, ◌<◌, ◌^◌, ◌++�
 ghost use Rattle.std.specs.List.{list_any, filter};
 ghost use Rattle.net_model.specs.Network.{network_of};
 ghost use Rattle.net_model.specs.Rules.{are_distinct, same_route};
-ghost use Rattle.update_plan.specs.Equal.{equal_route};
-ghost use Rattle.update_plan.specs.Joined.{is_new_route, is_new_sid};
+ghost use Rattle.update_rules.specs.Equal.{equal_route};
+ghost use Rattle.update_rules.specs.Joined.{is_new_route, is_new_sid};
 ghost use Rattle.update_plan.specs.RouteKeys.{AreNumbered};
 ghost use Rattle.update_plan.specs.Entries.{is_added, entries_from, route_entry, sid_entry, address_entry, entries_of, AreFew};
 

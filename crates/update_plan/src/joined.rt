@@ -6,8 +6,8 @@ ghost use Rattle.srv6_rules.specs.declared.sid.SidEntry.{SidEntry};
 ghost use Rattle.net_model.specs.Network.{network_of};
 ghost use Rattle.net_model.specs.Rules.{are_distinct, same_route};
 ghost use Rattle.net_model.specs.Judging.{title_text};
-ghost use Rattle.update_plan.specs.Equal.{equal_route};
-ghost use Rattle.update_plan.specs.Joined.{is_new_sid, numbered_beside, numbered, joined_of};
+ghost use Rattle.update_rules.specs.Equal.{equal_route};
+ghost use Rattle.update_rules.specs.Joined.{is_new_sid, numbered_beside, numbered, joined_of};
 ghost use Rattle.update_plan.specs.RouteKeys.{AreNumbered};
 ghost use Rattle.update_plan.specs.Entries.{AreFew};
 

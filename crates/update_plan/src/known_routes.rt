@@ -6,7 +6,7 @@ ghost use Rattle.std.specs.List.{list_any};
 ghost use Rattle.std.specs.BTreeMap as map;
 ghost use Rattle.net_model.specs.declared.parts.Route.{Route};
 ghost use Rattle.net_model.specs.Rules.{are_distinct, same_route};
-ghost use Rattle.update_plan.specs.Equal.{equal_route};
+ghost use Rattle.update_rules.specs.Equal.{equal_route};
 ghost use Rattle.update_plan.specs.RouteKeys.{route_key_cmp, route_key, AreNumbered, equal_at};
 
 use crate::equal::equal_route;

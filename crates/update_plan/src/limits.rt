@@ -1,15 +1,15 @@
 //! The limits that added entries can pass.
 
-ghost use Rattle.std.specs.Prelude.{◌≡◌, Bool};
+ghost use Rattle.std.specs.Prelude.{◌≡◌};
 ghost use Rattle.std.specs.List.{list_all};
 ghost use Rattle.net_model.specs.Network.{network_of};
 ghost use Rattle.net_model.specs.Rules.{has_room};
-ghost use Rattle.update_plan.specs.Planning.{limit_unless, has_few_sids, limited};
+ghost use Rattle.update_rules.specs.Planning.{limit_unless, has_few_sids, limited};
 
-use crate::fault::PlanFault;
 use net_model::{MAX_ROUTES, MAX_SIDS, MAX_SIDS_OF_NODE, NetParts};
 use srv6_rules::SidEntry;
 use text_faults::TableKind;
+use update_rules::PlanFault;
 
 /// Whether not too many SIDs stand at the node of a SID.
 fn has_room(sids: &[SidEntry], s: &SidEntry) -> bool

@@ -5,19 +5,19 @@ ghost use Rattle.std.specs.List.{filter};
 ghost use Rattle.net_model.specs.Network.{network_of};
 ghost use Rattle.net_model.specs.Rules.{IsNetwork};
 ghost use Rattle.net_model.specs.Judging.{InRange};
-ghost use Rattle.update_plan.specs.Joined.{joined_of};
-ghost use Rattle.update_plan.specs.Planning.{conflicting, old_items, new_items, planning};
+ghost use Rattle.update_rules.specs.Joined.{joined_of};
+ghost use Rattle.update_rules.specs.Planning.{conflicting, old_items, new_items, planning};
 ghost use Rattle.update_plan.specs.Entries.{item_of, is_added, Answers};
 
 use crate::conflicts::{BothTitles, refuse_conflict};
 use crate::differ::refuse_differences;
 use crate::entry::PlanEntry;
-use crate::fault::PlanFault;
 use crate::gather::{added_of, entries_of};
 use crate::joined::join;
 use crate::limits::refuse_limits;
 use net_model::NetParts;
 use std::alloc::Global;
+use update_rules::PlanFault;
 
 /// Refuses the first of some old entries that is in conflict with one of the new entries, of which
 /// those that are added stand by themselves too.

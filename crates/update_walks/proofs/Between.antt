@@ -1,6 +1,5 @@
 -- The tables before all edits look up as the old description, and those after all of them as the new one.
-use Rattle.std.proofs.Common.{◌≡◌, ℕ, List, [], length, map, Ok, refl, sym, subst}
-use Rattle.srv6_rules.specs.declared.sid.Family.{Family}
+use Rattle.std.proofs.Common.{◌≡◌, ℕ, [], length, map, Ok, refl, sym, subst}
 use Rattle.net_model.specs.declared.net.Hit.{Hit}
 use Rattle.net_model.specs.declared.net.Hit.TheVariants as hits
 use Rattle.net_model.specs.Best.{lookup_of}
@@ -8,16 +7,15 @@ use Rattle.net_model.specs.Network.{Network, hit_of_entry}
 use Rattle.net_model.specs.Rules.{IsNetwork}
 use Rattle.walk_rules.specs.Way.{IsThere}
 use Rattle.walk_rules.proofs.PublicLaws.{lookup-there}
-use Rattle.update_plan.specs.Changes.{added_entries, removed_entries}
-use Rattle.update_plan.specs.Joined.{joined_of}
-use Rattle.update_plan.specs.Lookups.{SameHit}
-use Rattle.update_plan.specs.Planning.{planning}
-use Rattle.update_plan.proofs.LookupLaws.{old_routes, old_sids}
-use Rattle.update_plan.proofs.Parts.{no_fault}
+use Rattle.update_rules.specs.Changes.{added_entries, removed_entries}
+use Rattle.update_rules.specs.Joined.{joined_of}
+use Rattle.update_rules.specs.Lookups.{SameHit}
+use Rattle.update_rules.specs.Planning.{planning}
+use Rattle.update_rules.proofs.PublicLaws.{old_routes, old_sids, no_fault}
 use Rattle.update_flight.specs.Planned.{hidden_after}
 use Rattle.update_flight.specs.Transition.{edits}
 use Rattle.updates.specs.Update.{tables_between}
-use Rattle.updates.proofs.Between.{between-new, between-old}
+use Rattle.updates.proofs.PublicLaws.{between-new, between-old}
 use Rattle.update_walks.specs.Alike.{LooksAs}
 use Rattle.update_walks.proofs.Policies.{planned-policies}
 use Rattle.update_walks.proofs.Same.{hit-veiled}

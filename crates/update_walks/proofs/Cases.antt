@@ -1,5 +1,5 @@
 -- What is so of each pair of same outcomes.
-use Rattle.std.proofs.Common.{◌≡◌, ℕ, Bool, subst}
+use Rattle.std.proofs.Common.{ℕ, Bool, subst}
 use Rattle.srv6_rules.specs.declared.sid.Family.{Family}
 use Rattle.srv6_rules.specs.declared.sid.Reason.{Reason}
 use Rattle.net_model.specs.Network.{Network}
@@ -24,7 +24,8 @@ module _ (a b : Network) (P : Outcome → Outcome → Type 0) (each : EachSame a
   same-each (outcomes.Again m how) outcomes.Local h = absurd h
   same-each (outcomes.Again m how) (outcomes.Drop cause tells) h = absurd h
   same-each (outcomes.Hand m how family) (outcomes.Again n on) h = absurd h
-  same-each (outcomes.Hand m how family) (outcomes.Hand n on other) h = subst (λ (f : Family). P (outcomes.Hand m how family) (outcomes.Hand n on f)) h.2 (each.hand m n how on family h.0 h.1)
+  same-each (outcomes.Hand m how family) (outcomes.Hand n on other) h =
+      subst (λ (f : Family). P (outcomes.Hand m how family) (outcomes.Hand n on f)) h.2 (each.hand m n how on family h.0 h.1)
   same-each (outcomes.Hand m how family) (outcomes.Send road) h = absurd h
   same-each (outcomes.Hand m how family) outcomes.Local h = absurd h
   same-each (outcomes.Hand m how family) (outcomes.Drop cause tells) h = absurd h
@@ -42,5 +43,6 @@ module _ (a b : Network) (P : Outcome → Outcome → Type 0) (each : EachSame a
   same-each (outcomes.Drop reason told) (outcomes.Hand n on other) h = absurd h
   same-each (outcomes.Drop reason told) (outcomes.Send road) h = absurd h
   same-each (outcomes.Drop reason told) outcomes.Local h = absurd h
-  same-each (outcomes.Drop reason told) (outcomes.Drop cause tells) h = subst (λ (r : Reason). P (outcomes.Drop reason told) (outcomes.Drop r tells)) h.0
+  same-each (outcomes.Drop reason told) (outcomes.Drop cause tells) h =
+      subst (λ (r : Reason). P (outcomes.Drop reason told) (outcomes.Drop r tells)) h.0
       (subst (λ (t : Bool). P (outcomes.Drop reason told) (outcomes.Drop reason t)) h.1 (each.drop_ reason told))

@@ -4,3 +4,4 @@ pub mod Walks
 pub mod Same
 pub mod Policies
 pub mod Between
+pub mod PublicLaws

@@ -1,19 +1,18 @@
 -- Policies of two descriptions between which there is a plan are the same, but for their names.
-use Rattle.std.proofs.Common.{◌≡◌, ℕ, zero, suc, ◌+◌, Bool, true, false, if◌then◌else◌, List, [], ◌∷◌, Option, Some, None, slice_get, Result, Ok, Err, refl, ap, ap₂, ◌∙◌}
+use Rattle.std.proofs.Common.{◌≡◌, ℕ, zero, suc, ◌+◌, Bool, true, false, if◌then◌else◌, List, [], ◌∷◌, Option, Some, None, slice_get, Result, Ok, Err, refl, ap, ap₂}
 use Rattle.std.specs.Prelude.{◌==◌, ◌&&◌}
 use Rattle.std.specs.Option.{option_map}
 use Rattle.std.proofs.lemmas.Bool.{and_parts, eqb-true}
 use Rattle.v6_addr.specs.declared.address.Addr.{Addr}
 use Rattle.text_faults.specs.declared.place.TableKind.{TableKind}
 use Rattle.text_faults.specs.declared.place.TableKind.TheVariants as tables
-use Rattle.srv6_rules.specs.declared.policy.Policy.{Policy}
 use Rattle.net_model.specs.declared.parts.NamedPolicy.{NamedPolicy}
 use Rattle.net_model.specs.Network.{Network}
 use Rattle.net_model.specs.Judging.{same_answer}
-use Rattle.update_plan.specs.declared.fault.PlanFault.{PlanFault}
-use Rattle.update_plan.specs.Equal.{equal_block, equal_link, equal_lists, equal_node, equal_outer, equal_policy, same_address}
-use Rattle.update_plan.specs.Joined.{joined_of}
-use Rattle.update_plan.specs.Planning.{and_then, conflicting, differing, differs_at, first_difference, limited, new_items, old_items, planning}
+use Rattle.update_rules.specs.declared.fault.PlanFault.{PlanFault}
+use Rattle.update_rules.specs.Equal.{equal_block, equal_link, equal_lists, equal_node, equal_outer, equal_policy, same_address}
+use Rattle.update_rules.specs.Joined.{joined_of}
+use Rattle.update_rules.specs.Planning.{and_then, conflicting, differing, differs_at, first_difference, limited, new_items, old_items, planning}
 use Rattle.update_walks.specs.Alike.{policy_at}
 
 abbrev address_with : ℕ → Addr

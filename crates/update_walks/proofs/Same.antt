@@ -1,7 +1,6 @@
 -- What same stages have in common.
-use Rattle.std.proofs.Common.{◌≡◌, ◌≢◌, ℕ, Bool, List, [], ◌∷◌, ◌++◌, All, Option, Some, slice_get, refl, sym, ap, ◌∙◌, subst}
+use Rattle.std.proofs.Common.{◌≡◌, ◌≢◌, ℕ, Bool, List, [], ◌∷◌, ◌++◌, All, slice_get, refl, ap}
 use Rattle.std.proofs.lemmas.List.Elements.{All-cons, All-head, All-nil, All-tail}
-use Rattle.srv6_rules.specs.declared.sid.Reason.{Reason}
 use Rattle.srv6_rules.specs.declared.sid.Reason.TheVariants as reasons
 use Rattle.net_model.specs.declared.net.Hit.{Hit}
 use Rattle.net_model.specs.declared.net.Hit.TheVariants as hits
@@ -12,13 +11,12 @@ use Rattle.walk_rules.specs.declared.place.How.TheVariants.{Arrived, Submitted, 
 use Rattle.walk_rules.specs.declared.place.Outcome.{Outcome}
 use Rattle.walk_rules.specs.declared.place.Outcome.TheVariants as outcomes
 use Rattle.walk_rules.specs.declared.place.Place.{Place}
-use Rattle.walk_rules.specs.declared.place.Ended.{Ended}
 use Rattle.walk_rules.specs.declared.place.Ended.TheVariants as ends
 use Rattle.walk_rules.specs.Walk.{Stage, end_by, end_of, far_end, left_or_stages}
-use Rattle.update_plan.specs.Lookups.{SameHit}
+use Rattle.update_rules.specs.Lookups.{SameHit}
 use Rattle.update_flight.specs.Tables.{HasRoute}
-use Rattle.update_walks.specs.Alike.{LooksAs, SameGave, SameHow, SameOutcome, SamePlace, SameSidAt, SameStage, SameStages}
-use Rattle.update_walks.proofs.Cases.{EachSame, same-each}
+use Rattle.update_walks.specs.Alike.{LooksAs, SameHow, SameOutcome, SameSidAt, SameStage, SameStages}
+use Rattle.update_walks.proofs.Cases.{same-each}
 
 module _ (a b : Network) where
   -- ---- a stage has a route where the other has
@@ -26,7 +24,8 @@ module _ (a b : Network) where
   outcome-route : (x y : Outcome) → SameOutcome a b x y → ((told : Bool) → y ≢ outcomes.Drop reasons.NoRoute told)
       → (told : Bool) → x ≢ outcomes.Drop reasons.NoRoute told
   outcome-route x y same =
-      same-each a b (λ x y. ((told : Bool) → y ≢ outcomes.Drop reasons.NoRoute told) → (told : Bool) → x ≢ outcomes.Drop reasons.NoRoute told)
+      same-each a b (λ x y. ((told : Bool) → y ≢ outcomes.Drop reasons.NoRoute told) → (told : Bool)
+      → x ≢ outcomes.Drop reasons.NoRoute told)
       (record {
         again = λ m n how on sid goes route told e. cc;
         hand = λ m n how on family sid goes route told e. cc;

@@ -1,6 +1,6 @@
 -- A stage in one of two networks that look up to equal entries is the stage in the other.
-use Rattle.std.proofs.Common.{◌≡◌, ℕ, Bool, true, false, List, [], ◌∷◌, Option, None, Some, slice_get, refl, sym, ap, ap₂, ◌∙◌, subst}
-use Rattle.std.specs.Prelude.{◌-◌, not, ◌&&◌, nat_le, if◌then◌else◌, is_some}
+use Rattle.std.proofs.Common.{◌≡◌, ℕ, Bool, true, false, List, Option, None, Some, slice_get, refl, sym, ap, ◌∙◌, subst}
+use Rattle.std.specs.Prelude.{◌-◌, ◌&&◌, nat_le, if◌then◌else◌, is_some}
 use Rattle.std.specs.Option.{option_map}
 use Rattle.srv6_rules.specs.declared.policy.Policy.{Policy}
 use Rattle.srv6_rules.specs.declared.sid.Behaviour.{Behaviour}
@@ -23,14 +23,12 @@ use Rattle.net_model.specs.Network.{Network}
 use Rattle.net_model.specs.Best.{lookup_of}
 use Rattle.walk_rules.specs.declared.place.How.{How}
 use Rattle.walk_rules.specs.declared.place.How.TheVariants.{Arrived, Submitted, Through}
-use Rattle.walk_rules.specs.declared.place.Outcome.{Outcome}
 use Rattle.walk_rules.specs.declared.place.Outcome.TheVariants as outcomes
-use Rattle.walk_rules.specs.declared.place.Place.{Place}
 use Rattle.walk_rules.specs.Way.{Way, Away, Over, Own, Into, is_multicast_of, route_links, sid_links, way_by, way_by_hit, way_by_table, way_of}
 use Rattle.walk_rules.specs.Treatment.{Gave, address_of, allow_of, bound_at_sid, dropped, error_from, error_of, free_step_of, goes, judged, judged_by, mtu_at, mtu_of, onward_at_sid, over_link, own_len, pushed_at_sid, sent, sent4, step_of, treated, treated4, treated_at_address, treated_at_sid, treated_in, way_on}
-use Rattle.update_plan.specs.Lookups.{SameHit, SameSid}
-use Rattle.update_walks.specs.Alike.{LooksAs, SameGave, SameHow, SameOutcome, SamePlace, SameSidAt, policy_at}
-use Rattle.update_walks.proofs.Cases.{EachSame, same-each}
+use Rattle.update_rules.specs.Lookups.{SameHit, SameSid}
+use Rattle.update_walks.specs.Alike.{LooksAs, SameGave, SameHow, SameSidAt}
+use Rattle.update_walks.proofs.Cases.{same-each}
 
 -- ---- SIDs that are equal do the same with a packet
 
@@ -171,12 +169,14 @@ module _ (a b : Network) (looks : LooksAs a b) where
   address-same node p (Refused reason at) = drop-same node reason at (V6 p)
 
   module _ (m n : ℕ) (sid : SameSidAt a b m n) where
-    way-on : (over_links goes_on : Bool) (table : Option ℕ) → SameHow a b (way_on m over_links goes_on table) (way_on n over_links goes_on table)
+    way-on : (over_links goes_on : Bool) (table : Option ℕ)
+        → SameHow a b (way_on m over_links goes_on table) (way_on n over_links goes_on table)
     way-on true goes_on table = (sid, refl)
     way-on false true table = refl
     way-on false false table = refl
 
-    again-same : (h : Behaviour) (q : Packet) → SameGave a b (goes (outcomes.Again m (way_on m (behaviour_takes_links h) true (behaviour_table h))) (V6 q))
+    again-same : (h : Behaviour) (q : Packet)
+        → SameGave a b (goes (outcomes.Again m (way_on m (behaviour_takes_links h) true (behaviour_table h))) (V6 q))
         (goes (outcomes.Again n (way_on n (behaviour_takes_links h) true (behaviour_table h))) (V6 q))
     again-same h q = record { outcome = (sid, way-on (behaviour_takes_links h) true (behaviour_table h)); after = refl; error = refl }
 
@@ -212,7 +212,8 @@ module _ (a b : Network) (looks : LooksAs a b) where
     sid-treated node h p (Delivered q) = record { outcome = tt; after = refl; error = refl }
     sid-treated node h p (Refused reason at) = drop-same node reason at (V6 p)
 
-    into-same : (node : ℕ) (p : Packet) → SameGave a b (treated_in a node m (slice_get a.sids m) p) (treated_in b node n (slice_get b.sids n) p)
+    into-same : (node : ℕ) (p : Packet)
+        → SameGave a b (treated_in a node m (slice_get a.sids m) p) (treated_in b node n (slice_get b.sids n) p)
     into-same node p =
         let s = sid.0 in
         let t = sid.1 in
@@ -268,7 +269,8 @@ module _ (a b : Network) (looks : LooksAs a b) where
   treated4-same node (Into m) (Into n) p choice same = drop-same node reasons.NoRoute 0 (V4 p)
 
   way-same : (node : ℕ) (h k : How) (family : Family) (d : ℕ) → SameHow a b h k
-      → SameWay (way_of a (record { node = node; how = h; family = family }) d) (way_of b (record { node = node; how = k; family = family }) d)
+      → SameWay (way_of a (record { node = node; how = h; family = family }) d)
+      (way_of b (record { node = node; how = k; family = family }) d)
   unfolding way_of
   way-same node h k family d same = way-how node h k family d same
 
@@ -282,7 +284,8 @@ module _ (a b : Network) (looks : LooksAs a b) where
       (if nat_le (own_len content) most then y else dropped b node reasons.MtuExceeded most content)) mtu
       (one-or-other (nat_le (own_len content) (mtu_at a link)) _ _ _ _ same (drop-same node reasons.MtuExceeded (mtu_at a link) content))
 
-  judged-same : (node : ℕ) (content : Content) (x y : Gave) → SameGave a b x y → SameGave a b (judged a node content x) (judged b node content y)
+  judged-same : (node : ℕ) (content : Content) (x y : Gave) → SameGave a b x y
+      → SameGave a b (judged a node content x) (judged b node content y)
   judged-same node content x y same =
       same-each a b (λ o p. SameGave a b (judged_by a node content x o) (judged_by b node content y p))
       (record {

@@ -1,19 +1,17 @@
 -- Walks in two networks that look up to equal entries take the same stages.
-use Rattle.std.proofs.Common.{◌≡◌, ℕ, zero, suc, ◌+◌, List, [], ◌∷◌, Option, None, Some, slice_get, refl, sym, ap, ap₂, ◌∙◌, subst}
+use Rattle.std.proofs.Common.{◌≡◌, ℕ, zero, suc, ◌+◌, List, [], ◌∷◌, Option, None, Some, slice_get, refl, sym, subst}
 use Rattle.srv6_rules.specs.declared.sid.Family.{Family}
 use Rattle.srv6_rules.specs.Packet.{Content}
 use Rattle.net_model.specs.declared.parts.Link.{Link}
 use Rattle.net_model.specs.Network.{Network}
-use Rattle.walk_rules.specs.declared.place.How.{How}
-use Rattle.walk_rules.specs.declared.place.How.TheVariants.{Arrived}
 use Rattle.walk_rules.specs.declared.place.Outcome.{Outcome}
 use Rattle.walk_rules.specs.declared.place.Outcome.TheVariants as outcomes
 use Rattle.walk_rules.specs.declared.place.Place.{Place}
 use Rattle.walk_rules.specs.Treatment.{Gave, step_of}
 use Rattle.walk_rules.specs.Walk.{Stage, arrival, decisions, far_end, next_place, stage_of, walk_of, walk_on}
 use Rattle.walk_rules.proofs.PublicLaws.{walk_of-none, walk_of-suc, walk_of-zero}
-use Rattle.update_walks.specs.Alike.{LooksAs, SameGave, SameHow, SameOutcome, SamePlace, SameStage, SameStages}
-use Rattle.update_walks.proofs.Cases.{EachSame, same-each}
+use Rattle.update_walks.specs.Alike.{LooksAs, SameGave, SameOutcome, SamePlace, SameStages}
+use Rattle.update_walks.proofs.Cases.{same-each}
 use Rattle.update_walks.proofs.Steps.{step-same}
 
 module _ (a b : Network) (looks : LooksAs a b) where
@@ -34,7 +32,8 @@ module _ (a b : Network) (looks : LooksAs a b) where
       (record {
         again = λ m n how on sid goes. record { node = place.node; how = goes; family = place.family };
         hand = λ m n how on family sid goes. record { node = place.node; how = goes; family = refl };
-        send = λ link. subst (λ (ls : List Link). GoOn (next_place a p (outcomes.Send link)) (arrival (far_end (slice_get ls link)) q)) looks.links
+        send = λ link. subst (λ (ls : List Link).
+            GoOn (next_place a p (outcomes.Send link)) (arrival (far_end (slice_get ls link)) q)) looks.links
             (arrive (far_end (slice_get a.links link)) p q place.family);
         local_ = tt;
         drop_ = λ reason told. tt;
@@ -53,10 +52,13 @@ module _ (a b : Network) (looks : LooksAs a b) where
       })
       x y same
 
-  place-step : (p q : Place) (content : Content) (choice : ℕ) → SamePlace a b p q → SameGave a b (step_of a p content choice) (step_of b q content choice)
+  place-step : (p q : Place) (content : Content) (choice : ℕ) → SamePlace a b p q
+      → SameGave a b (step_of a p content choice) (step_of b q content choice)
   place-step p q content choice place =
-      subst (λ (n : ℕ). SameGave a b (step_of a p content choice) (step_of b (record { node = n; how = q.how; family = q.family }) content choice)) place.node
-      (subst (λ (f : Family). SameGave a b (step_of a p content choice) (step_of b (record { node = p.node; how = q.how; family = f }) content choice)) place.family
+      subst (λ (n : ℕ). SameGave a b (step_of a p content choice)
+      (step_of b (record { node = n; how = q.how; family = q.family }) content choice)) place.node
+      (subst (λ (f : Family). SameGave a b (step_of a p content choice)
+      (step_of b (record { node = p.node; how = q.how; family = f }) content choice)) place.family
       (step-same a b looks p.node p.how q.how p.family content choice place.how))
 
   pub walks-same : (fuel : ℕ) (p q : Option Place) (content : Content) (pick : ℕ → ℕ) (taken : ℕ) → GoOn p q
@@ -65,7 +67,8 @@ module _ (a b : Network) (looks : LooksAs a b) where
       subst (λ (ss : List Stage). SameStages a b ss (walk_of 0 b q content pick taken)) (sym (walk_of-zero a p content pick taken))
       (subst (λ (ts : List Stage). SameStages a b [] ts) (sym (walk_of-zero b q content pick taken)) tt)
   walks-same (suc fuel) None None content pick taken same =
-      subst (λ (ss : List Stage). SameStages a b ss (walk_of (suc fuel) b None content pick taken)) (sym (walk_of-none (suc fuel) a content pick taken))
+      subst (λ (ss : List Stage). SameStages a b ss (walk_of (suc fuel) b None content pick taken))
+      (sym (walk_of-none (suc fuel) a content pick taken))
       (subst (λ (ts : List Stage). SameStages a b [] ts) (sym (walk_of-none (suc fuel) b content pick taken)) tt)
   walks-same (suc fuel) None (Some q) content pick taken same = absurd same
   walks-same (suc fuel) (Some p) None content pick taken same = absurd same
@@ -83,8 +86,11 @@ module _ (a b : Network) (looks : LooksAs a b) where
       (walk_of fuel b (next_place b q y.outcome) y.after pick (taken + n))) (taken-same x.outcome y.outcome gave.outcome)
       (subst (λ (c : Content). SameStages a b (walk_of fuel a (next_place a p x.outcome) x.after pick (taken + decisions x.outcome))
       (walk_of fuel b (next_place b q y.outcome) c pick (taken + decisions x.outcome))) gave.after rest) in
-      subst (λ (ss : List Stage). SameStages a b ss (walk_of (suc fuel) b (Some q) content pick taken)) (sym (walk_of-suc fuel a p content pick taken))
-      (subst (λ (ts : List Stage). SameStages a b (stage_of a p content (pick taken) ∷ walk_on fuel a (stage_of a p content (pick taken)) pick taken) ts) (sym (walk_of-suc fuel b q content pick taken))
+      subst (λ (ss : List Stage). SameStages a b ss (walk_of (suc fuel) b (Some q) content pick taken))
+      (sym (walk_of-suc fuel a p content pick taken))
+      (subst (λ (ts : List Stage).
+      SameStages a b (stage_of a p content (pick taken) ∷ walk_on fuel a (stage_of a p content (pick taken)) pick taken) ts)
+      (sym (walk_of-suc fuel b q content pick taken))
       (record { place = same; before = refl; gave = gave }, later))
 
   pub places-same : (fuel : ℕ) (p q : Place) (content : Content) (pick : ℕ → ℕ) (taken : ℕ) → SamePlace a b p q

@@ -14,7 +14,7 @@ use Rattle.walk_rules.specs.declared.place.Outcome.TheVariants as outcomes
 use Rattle.walk_rules.specs.declared.place.Place.{Place}
 use Rattle.walk_rules.specs.Treatment.{Gave}
 use Rattle.walk_rules.specs.Walk.{Stage}
-use Rattle.update_plan.specs.Lookups.{SameHit}
+use Rattle.update_rules.specs.Lookups.{SameHit}
 
 -- the policy of a number, without its name, which no packet sees
 abbrev pub policy_at : Network → ℕ → Option Policy

@@ -7,20 +7,20 @@ use Rattle.net_model.specs.declared.net.EntryId.{EntryId}
 use Rattle.net_model.specs.declared.net.EntryId.TheVariants as ids
 use Rattle.net_model.specs.declared.net.Hit.{Hit}
 use Rattle.net_model.specs.declared.net.Hit.TheVariants as hits
-use Rattle.net_model.specs.Best.{Entry, all_entries_of, hit_of, longest, lookup_of}
+use Rattle.net_model.specs.Best.{all_entries_of, hit_of, longest, lookup_of}
 use Rattle.net_model.specs.Network.{CanHide, Network, hit_of_entry, is_shown, same_hit}
 use Rattle.net_model.specs.Rules.{IsNetwork}
-use Rattle.update_plan.specs.Joined.{joined_of}
-use Rattle.update_plan.specs.Changes.{added_entries, removed_entries}
-use Rattle.update_plan.specs.Lookups.{SameHit, shown_lookup}
-use Rattle.update_plan.specs.Planning.{planning}
-use Rattle.update_plan.proofs.OldLookups.{hidden_lookups}
+use Rattle.update_rules.specs.Joined.{joined_of}
+use Rattle.update_rules.specs.Changes.{added_entries, removed_entries}
+use Rattle.update_rules.specs.Lookups.{SameHit, shown_lookup}
+use Rattle.update_rules.specs.Planning.{planning}
+use Rattle.update_rules.proofs.PublicLaws.{hidden_lookups}
 use Rattle.update_flight.specs.Interleaving.{PassOver}
 use Rattle.update_flight.specs.Planned.{ShowsEdits, hidden_after, is_shown_after, names}
 use Rattle.update_flight.specs.Tables.{AreAlike}
 use Rattle.update_flight.specs.Transition.{edits}
-use Rattle.update_flight.proofs.Planned.{ends-new, passes-over, starts-old}
-use Rattle.updates.specs.Update.{AreHideable, ShowsWithout, tables_after, tables_between, without}
+use Rattle.update_flight.proofs.PublicLaws.{ends-new, passes-over, starts-old}
+use Rattle.updates.specs.Update.{AreHideable, tables_between}
 use Rattle.updates.proofs.Shown.{same-back, shown_without}
 use Rattle.updates.proofs.Hideable.{added-hideable, removed-hideable}
 
@@ -61,11 +61,13 @@ any-append : (f : EntryId → Bool) (es fs : List EntryId) → list_any f (es ++
 any-append f es fs = list_any-append f es fs
 
 any-hits : (h : Hit) (es fs : List EntryId)
-    → list_any (same_hit h) (map hit_of_entry (es ++ fs)) ≡ (list_any (same_hit h) (map hit_of_entry es) || list_any (same_hit h) (map hit_of_entry fs))
+    → list_any (same_hit h) (map hit_of_entry (es ++ fs))
+    ≡ (list_any (same_hit h) (map hit_of_entry es) || list_any (same_hit h) (map hit_of_entry fs))
 any-hits h [] fs = refl
 any-hits h (e ∷ es) fs =
     ap (λ b. same_hit h (hit_of_entry e) || b) (any-hits h es fs)
-    ∙ or-assoc (same_hit h (hit_of_entry e)) (list_any (same_hit h) (map hit_of_entry es)) (list_any (same_hit h) (map hit_of_entry fs)) where
+    ∙ or-assoc (same_hit h (hit_of_entry e)) (list_any (same_hit h) (map hit_of_entry es))
+    (list_any (same_hit h) (map hit_of_entry fs)) where
       or-assoc : (a b c : Bool) → (a || (b || c)) ≡ ((a || b) || c)
       or-assoc true b c = refl
       or-assoc false b c = refl

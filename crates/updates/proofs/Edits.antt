@@ -1,17 +1,15 @@
 -- What an edit leaves of an update.
-use Rattle.std.proofs.Common.{◌≡◌, inl, inr, ℕ, zero, suc, ◌+◌, ◌-◌, ◌<◌, ◌≤◌, Bool, true, false, ◌&&◌, not, List, [], ◌∷◌, ◌++◌, map, length, take, drop, Option, Some, None, slice_get, option_map, Result, Ok, Err, refl, sym, ap, ap₂, ◌∙◌, subst, arith}
+use Rattle.std.proofs.Common.{◌≡◌, ℕ, zero, suc, ◌+◌, ◌-◌, ◌<◌, ◌≤◌, Bool, true, false, ◌&&◌, not, List, [], ◌∷◌, ◌++◌, map, length, take, drop, Option, Some, None, slice_get, Ok, refl, sym, ap, ap₂, ◌∙◌, subst, arith}
 use Rattle.std.proofs.lemmas.List.{drop_all}
 use Rattle.net_model.specs.declared.net.EntryId.{EntryId}
-use Rattle.net_model.specs.declared.net.Hit.{Hit}
-use Rattle.net_model.specs.Network.{CanHide, IsEdited, Network, hit_of_entry, is_shown}
+use Rattle.net_model.specs.Network.{IsEdited, Network, hit_of_entry, is_shown}
 use Rattle.packet_walk.specs.Flight.{ArePlaced}
 use Rattle.update_flight.specs.declared.edit.Edit.{Edit}
 use Rattle.update_flight.specs.declared.edit.Edit.TheVariants.{Added, Switched, Removed, Finished}
-use Rattle.update_flight.specs.declared.edit.Busy.{Busy}
 use Rattle.update_flight.specs.Interleaving.{PassOver}
 use Rattle.update_flight.specs.Planned.{hidden_after}
-use Rattle.update_flight.specs.Transition.{Transition, answer_of, answer_to, done_after, edited, edits, first_early, next_edit, or_finished, removed_or_busy, steps}
-use Rattle.updates.specs.Update.{AreHideable, CanChange, IsAddition, IsChanged, IsUpdate, ShowsWithout, tables_after, whole, without}
+use Rattle.update_flight.specs.Transition.{Transition, answer_of, answer_to, done_after, edited, edits, first_early, next_edit, or_finished, steps}
+use Rattle.updates.specs.Update.{AreHideable, CanChange, IsChanged, IsUpdate, ShowsWithout, tables_after, whole, without}
 use Rattle.updates.proofs.Shown.{first-dropped, hide-next, hideable-at, none-before, same-self, show-next, shown_without, shown-first}
 
 -- ---- which edit is next
@@ -74,13 +72,15 @@ append-none [] = refl
 append-none (e ∷ es) = ap (λ l. e ∷ l) (append-none es)
 
 -- before the first removal
-pub hidden-adding : (added removed : List EntryId) (done : ℕ) → done ≤ suc (length added) → hidden_after added removed done ≡ drop done added
+pub hidden-adding : (added removed : List EntryId) (done : ℕ) → done ≤ suc (length added)
+    → hidden_after added removed done ≡ drop done added
 hidden-adding added removed done few =
     let e : done - suc (length added) ≡ 0 = omega (arith, few) in
     ap (λ n. drop done added ++ take n removed) e ∙ (ap (λ l. drop done added ++ l) (none-taken removed) ∙ append-none (drop done added))
 
 -- from the last addition on
-pub hidden-removing : (added removed : List EntryId) (j done : ℕ) → done ≡ suc (length added) + j → hidden_after added removed done ≡ take j removed
+pub hidden-removing : (added removed : List EntryId) (j done : ℕ) → done ≡ suc (length added) + j
+    → hidden_after added removed done ≡ take j removed
 hidden-removing added removed j done is =
     let e : done - suc (length added) ≡ j = omega (arith, is) in
     ap₂ (λ (l : List EntryId) n. l ++ take n removed) (drop_all done added (omega (arith, is))) e
@@ -98,7 +98,8 @@ module _ (net : Network) (t : Transition) (h : IsUpdate net t) where
       let few : t.done < length t.added = within-by t.added t.done e there in (
         hideable-at net t.added t.done e h.added_there there,
         h.shows (hit_of_entry e)
-            ∙ (ap (λ es. shown_without es (hit_of_entry e)) (hidden-adding t.added t.removed t.done (omega (arith, few)) ∙ first-dropped t.added t.done e there)
+            ∙ (ap (λ es. shown_without es (hit_of_entry e))
+            (hidden-adding t.added t.removed t.done (omega (arith, few)) ∙ first-dropped t.added t.done e there)
             ∙ (shown-first e (drop (suc t.done) t.added) (hit_of_entry e)
             ∙ ap (λ b. not b && shown_without (drop (suc t.done) t.added) (hit_of_entry e)) (same-self (hit_of_entry e)))),
       )
@@ -171,9 +172,6 @@ module _ (net : Network) (t : Transition) (h : IsUpdate net t) where
         }
 
     -- the joined network stays, and its tables change as the edit says
-
-    pub joined-stays : (edit : Edit) → IsChanged edit net now → whole now ≡ whole net
-    joined-stays edit changed = ap whole (same-parts edit changed)
 
     tables-edited : (e : EntryId) (shown : Bool) (before after : List EntryId) → ShowsWithout net before → ShowsWithout now after
         → IsEdited net now (hit_of_entry e) shown → IsEdited (without (whole net) before) (without (whole now) after) (hit_of_entry e) shown

@@ -1,6 +1,6 @@
 -- What a plan adds and removes can be hidden: each is a route or a SID of the network of both descriptions, and stands once.
-use Rattle.std.proofs.Common.{◌≡◌, inl, inr, ℕ, zero, suc, ◌+◌, ◌-◌, ◌^◌, ◌<◌, ◌≤◌, Bool, true, false, ◌==◌, ◌&&◌, not, cond, if◌then◌else◌, List, [], ◌∷◌, ◌++◌, map, length, drop, Option, Some, None, slice_get, refl, sym, ap, ap₂, ◌∙◌, subst, arith, length-append}
-use Rattle.std.proofs.lemmas.Bool.{cases_Bool, lt-ltb, ne_eqb}
+use Rattle.std.proofs.Common.{◌≡◌, ℕ, suc, ◌+◌, ◌-◌, ◌^◌, ◌<◌, ◌≤◌, Bool, true, false, ◌&&◌, not, if◌then◌else◌, List, [], ◌∷◌, ◌++◌, length, drop, Option, Some, None, refl, ap, ap₂, ◌∙◌, subst, arith, length-append}
+use Rattle.std.proofs.lemmas.Bool.{lt-ltb, ne_eqb}
 use Rattle.net_model.specs.declared.net.EntryId.{EntryId}
 use Rattle.net_model.specs.declared.net.EntryId.TheVariants as ids
 use Rattle.net_model.specs.declared.net.Hit.{Hit}
@@ -10,8 +10,8 @@ use Rattle.net_model.proofs.HiddenLemmas.{there_is}
 use Rattle.net_model.proofs.PublicLaws.{keeps_from_network}
 use Rattle.net_model.specs.Judging.{title_text}
 use Rattle.srv6_rules.specs.declared.sid.SidEntry.{SidEntry}
-use Rattle.update_plan.specs.Joined.{added_routes, added_sids, is_new_route, is_new_sid, joined_of, numbered, numbered_beside}
-use Rattle.update_plan.specs.Changes.{added_entries, lost_from, named_from, removed_entries}
+use Rattle.update_rules.specs.Joined.{added_routes, added_sids, is_new_route, is_new_sid, joined_of, numbered, numbered_beside}
+use Rattle.update_rules.specs.Changes.{added_entries, lost_from, named_from, removed_entries}
 use Rattle.updates.specs.Update.{AreHideable}
 use Rattle.updates.proofs.Shown.{shown-append, shown-first, shown_without}
 
@@ -36,7 +36,8 @@ module _ {X : Type 0} (stays : X → Bool) (name : ℕ → EntryId) where
   none-lost h n [] apart = refl
   none-lost h n (x ∷ xs) apart =
       let rest = none-lost h (n + 1) xs (λ m above. apart m (omega (arith, above))) in
-      elim (stays x) as (λ b. shown_without (if b then lost_from stays name (n + 1) xs else name n ∷ lost_from stays name (n + 1) xs) h ≡ true) [
+      elim (stays x) as (λ b. shown_without (if b then lost_from stays name (n + 1) xs else name n ∷ lost_from stays name (n + 1) xs) h
+      ≡ true) [
         | true ↦ rest
         | false ↦ shown-first (name n) (lost_from stays name (n + 1) xs) h
             ∙ ap₂ (λ b c. not b && c) (apart n (omega arith)) rest
@@ -106,7 +107,8 @@ module _ {X Y : Type 0} (net : Network) (route_stays : X → Bool) (sid_stays : 
       → AreHideable net (lost_from route_stays ids.Route n routes ++ lost_from sid_stays ids.Sid m sids)
   both-lost few_routes few_sids =
       hideable-append net (lost_from route_stays ids.Route n routes) (lost_from sid_stays ids.Sid m sids)
-      (hideable-lost route_stays ids.Route net (λ k l less. ne_eqb k l (λ same. omega (arith, less, same))) n (length net.routes) routes few_routes
+      (hideable-lost route_stays ids.Route net (λ k l less. ne_eqb k l (λ same. omega (arith, less, same))) n
+      (length net.routes) routes few_routes
       (λ k within. (there_is net.routes k (length net.routes) refl).0 (lt-ltb k (length net.routes) within)))
       (hideable-lost sid_stays ids.Sid net (λ k l less. ne_eqb k l (λ same. omega (arith, less, same))) m (length net.sids) sids few_sids
       (λ k within. (there_is net.sids k (length net.sids) refl).0 (lt-ltb k (length net.sids) within)))

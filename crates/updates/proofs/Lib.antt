@@ -6,3 +6,4 @@ pub mod Turns
 pub mod PlanFacts
 pub mod WholeWalks
 pub mod Placed
+pub mod PublicLaws

@@ -1,9 +1,9 @@
 -- What is hidden of a network is nothing to its rules, nor to its places.
-use Rattle.std.proofs.Common.{◌≡◌, ℕ, zero, suc, List, Option, Some, None, IfSome, length, refl}
+use Rattle.std.proofs.Common.{◌≡◌, ℕ, zero, suc, List, Option, Some, None, IfSome, refl}
 use Rattle.srv6_rules.specs.Packet.{IsContent}
 use Rattle.srv6_rules.specs.declared.sid.SidEntry.{SidEntry}
 use Rattle.net_model.specs.declared.net.Hit.{Hit}
-use Rattle.net_model.specs.Keeps.{Keeps, KeepsLink, KeepsRoute, KeepsSid, SuitsBehaviour}
+use Rattle.net_model.specs.Keeps.{Keeps, KeepsSid, SuitsBehaviour}
 use Rattle.net_model.specs.Network.{Network}
 use Rattle.packet_walk.specs.Flight.{InFlight, IsCounted, IsInFlight, packet_in}
 use Rattle.update_flight.specs.Transition.{Transition}

@@ -1,15 +1,15 @@
 -- What is so of a plan, from what its parts are.
-use Rattle.std.proofs.Common.{◌≡◌, ℕ, ◌+◌, ◌^◌, ◌<◌, List, [], ◌∷◌, ◌++◌, length, drop, Ok, refl, sym, ap, ap₂, ◌∙◌, subst}
+use Rattle.std.proofs.Common.{◌≡◌, ℕ, ◌+◌, ◌^◌, ◌<◌, List, [], ◌++◌, length, drop, Ok, sym, ap, ◌∙◌, subst}
 use Rattle.net_model.specs.declared.net.EntryId.{EntryId}
 use Rattle.net_model.specs.declared.net.EntryId.TheVariants as ids
 use Rattle.net_model.specs.declared.net.Hit.{Hit}
 use Rattle.net_model.specs.Network.{Network}
 use Rattle.net_model.specs.Rules.{IsNetwork}
-use Rattle.update_plan.specs.Changes.{added_entries, named_from, removed_entries}
-use Rattle.update_plan.specs.Joined.{joined_of}
-use Rattle.update_plan.specs.Planning.{planning}
+use Rattle.update_rules.specs.Changes.{added_entries, named_from, removed_entries}
+use Rattle.update_rules.specs.Joined.{joined_of}
+use Rattle.update_rules.specs.Planning.{planning}
 use Rattle.update_flight.specs.Interleaving.{PassOver}
-use Rattle.updates.specs.Update.{AreHideable, IsPlan, Plan, ShowsWithout, plan_of, tables_after, whole}
+use Rattle.updates.specs.Update.{AreHideable, IsPlan, ShowsWithout, plan_of, tables_after, whole}
 use Rattle.updates.proofs.Between.{between-pass}
 use Rattle.updates.proofs.Hideable.{added-hideable, behind-added, few-entries, removed-hideable}
 
@@ -54,6 +54,7 @@ module _ (old new net : Network) (added removed : List EntryId) (joined : net �
           (few-entries old new (subst IsNetwork joined rules)));
       pass = subst (λ (n : Network). PassOver (tables_after n added removed) added removed) (sym joined-is)
           (subst (λ (l : List EntryId). PassOver (tables_after (joined_of old new) l removed) l removed) (sym a)
-          (subst (λ (l : List EntryId). PassOver (tables_after (joined_of old new) (added_entries old new) l) (added_entries old new) l) (sym r)
+          (subst (λ (l : List EntryId). PassOver (tables_after (joined_of old new) (added_entries old new) l) (added_entries old new) l)
+          (sym r)
           (between-pass old new old_rules accepted)));
     }

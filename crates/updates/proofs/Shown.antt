@@ -1,5 +1,5 @@
 -- What is shown where some entries are hidden.
-use Rattle.std.proofs.Common.{◌≡◌, inl, inr, ℕ, zero, suc, ◌<◌, Bool, true, false, ◌==◌, ◌&&◌, ◌||◌, not, List, [], ◌∷◌, ◌++◌, map, length, take, drop, Option, Some, None, slice_get, refl, sym, ap, ap₂, ◌∙◌, arith, subst}
+use Rattle.std.proofs.Common.{◌≡◌, inl, inr, ℕ, zero, suc, ◌<◌, Bool, true, false, ◌==◌, ◌&&◌, ◌||◌, not, List, [], ◌∷◌, ◌++◌, map, length, take, drop, Some, slice_get, refl, sym, ap, ap₂, ◌∙◌, arith, subst}
 use Rattle.std.proofs.lemmas.Bool.{cases_Bool, eqb-true, eq-eqb, both_ways, false≢true}
 use Rattle.std.specs.Prelude.{slice_index_or}
 use Rattle.std.specs.List.{list_any}
@@ -67,7 +67,8 @@ same-self hits.Nothing = refl
 abbrev pub shown_without : List EntryId → Hit → Bool
 shown_without entries h = is_shown (map hit_of_entry entries) h
 
-pub shown-first : (e : EntryId) (es : List EntryId) (h : Hit) → shown_without (e ∷ es) h ≡ (not (same_hit h (hit_of_entry e)) && shown_without es h)
+pub shown-first : (e : EntryId) (es : List EntryId) (h : Hit)
+    → shown_without (e ∷ es) h ≡ (not (same_hit h (hit_of_entry e)) && shown_without es h)
 shown-first e es h = elim (same_hit h (hit_of_entry e)) as (λ b. not (b || list_any (same_hit h) (map hit_of_entry es))
     ≡ (not b && shown_without es h)) [ true ↦ refl | false ↦ refl ]
 
@@ -116,7 +117,8 @@ last-taken (x ∷ es) (suc k) e there = ap (λ (l : List EntryId). x ∷ l) (las
 pub none-behind : (net : Network) (es : List EntryId) (k : ℕ) (e : EntryId) → AreHideable net es → slice_get es k ≡ Some e
     → shown_without (drop (suc k) es) (hit_of_entry e) ≡ true
 none-behind net [] k e all there = cc
-none-behind net (x ∷ es) zero e all there = let same : x ≡ e = cc in ap (λ (y : EntryId). shown_without es (hit_of_entry y)) (sym same) ∙ all.1
+none-behind net (x ∷ es) zero e all there =
+    let same : x ≡ e = cc in ap (λ (y : EntryId). shown_without es (hit_of_entry y)) (sym same) ∙ all.1
 none-behind net (x ∷ es) (suc k) e all there = none-behind net es k e all.2 there
 
 pub none-before : (net : Network) (es : List EntryId) (k : ℕ) (e : EntryId) → AreHideable net es → slice_get es k ≡ Some e

@@ -1,5 +1,5 @@
 -- Turns of packets by the tables of a moment.
-use Rattle.std.proofs.Common.{◌≡◌, ℕ, zero, suc, Bool, true, false, if◌then◌else◌, List, [], ◌∷◌, ◌++◌, Option, Some, None, IfSome, Result, Ok, Err, refl, sym, ap, ◌∙◌, subst}
+use Rattle.std.proofs.Common.{◌≡◌, ℕ, zero, suc, Bool, true, false, if◌then◌else◌, List, [], ◌∷◌, ◌++◌, Option, Some, None, IfSome, Result, Ok, Err, refl, sym, subst}
 use Rattle.base.specs.declared.no_memory.NoMemory.{NoMemory}
 use Rattle.net_model.specs.Network.{Network}
 use Rattle.walk_rules.specs.Relation.{IsPlace}
@@ -8,9 +8,7 @@ use Rattle.packet_walk.specs.Flight.{ArePlaced, InFlight, Packets, Turns, packet
 use Rattle.update_flight.specs.Interleaving.{PassOver, own_of}
 use Rattle.update_flight.specs.Tables.{AreAlike, HasRoute}
 use Rattle.update_flight.specs.Transition.{EntersAs, IsTransition, Transition, is_before_switch}
-use Rattle.update_flight.proofs.OwnStages.{own-stage, own-staged}
-use Rattle.update_flight.proofs.Passed.{alike-turn, turn-same}
-use Rattle.update_flight.proofs.Whole.{own-kept}
+use Rattle.update_flight.proofs.PublicLaws.{own-stage, own-staged, alike-turn, turn-same, own-kept}
 use Rattle.updates.specs.Update.{IsUpdate, tables_after, whole}
 use Rattle.updates.proofs.Between.{alike-shown}
 

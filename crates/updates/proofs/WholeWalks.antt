@@ -1,17 +1,16 @@
 -- Each packet of an update takes the walk of one description.
-use Rattle.std.proofs.Common.{◌≡◌, ℕ, zero, suc, ◌+◌, ◌<◌, Bool, true, false, if◌then◌else◌, List, [], ◌∷◌, ◌++◌, length, take, All, Option, Some, slice_get, Ok, refl, sym, ap, ap₂, ◌∙◌, subst}
+use Rattle.std.proofs.Common.{◌≡◌, ℕ, suc, ◌+◌, Bool, true, false, if◌then◌else◌, List, [], ◌∷◌, ◌++◌, length, take, All, Some, slice_get, Ok, refl, sym, ap, ap₂, ◌∙◌, subst}
 use Rattle.net_model.specs.declared.net.EntryId.{EntryId}
 use Rattle.net_model.specs.Network.{Network}
 use Rattle.net_model.specs.Rules.{IsNetwork}
-use Rattle.packet_walk.specs.Flight.{InFlight, IsCounted, packet_in}
+use Rattle.packet_walk.specs.Flight.{InFlight, IsCounted}
 use Rattle.packet_walk.specs.Rest.{rest_of}
-use Rattle.update_plan.specs.Changes.{added_entries, removed_entries}
-use Rattle.update_plan.specs.Planning.{planning}
+use Rattle.update_rules.specs.Changes.{added_entries, removed_entries}
+use Rattle.update_rules.specs.Planning.{planning}
 use Rattle.update_flight.specs.Interleaving.{Move, Enter, Turn, Edit, PassOver, given_to, moved_all, own_of, turns_of}
 use Rattle.update_flight.specs.Tables.{HasRoute}
-use Rattle.update_flight.specs.Transition.{IsTransition, Transition, edit_count, edited, edits, entered, is_before_switch, starting, turned_in}
-use Rattle.update_flight.proofs.Kept.{kept-enter, kept-move, kept-start}
-use Rattle.update_flight.proofs.Whole.{own-entry, whole}
+use Rattle.update_flight.specs.Transition.{IsTransition, Transition, edited, edits, entered, is_before_switch, turned_in}
+use Rattle.update_flight.proofs.PublicLaws.{kept-enter, kept-move, kept-start, own-entry, whole}
 use Rattle.updates.specs.Update.{plan_of, starting_by, tables_between}
 use Rattle.updates.proofs.Between.{between-pass}
 
@@ -63,7 +62,8 @@ module _ (old new : Network) (moves more : List Move) (before after : InFlight) 
   own-is is =
       own-entry tables moved before after is
       ∙ ap₂ (λ (l m : List EntryId). if is_before_switch moved then tables 0 else tables (length (edits l m)))
-      (added-kept tables moves (starting_by (plan_of old new)).transition) (removed-kept tables moves (starting_by (plan_of old new)).transition)
+      (added-kept tables moves (starting_by (plan_of old new)).transition)
+      (removed-kept tables moves (starting_by (plan_of old new)).transition)
 
   pub one-walk : IsNetwork old → planning old new ≡ Ok tt → IsCounted before → IsCounted after → All HasRoute (rest_of own packet)
       → given_to tables number (entered moved before after) more ≡ take (turns_of number more) (rest_of own packet)
@@ -72,7 +72,8 @@ module _ (old new : Network) (moves more : List Move) (before after : InFlight) 
       let is : IsTransition moved = all-kept tables moves (starting_by (plan_of old new)).transition start in
       let same = own-is is in
       let pass : PassOver tables moved.added moved.removed =
-      subst (λ (l : List EntryId). PassOver tables l moved.removed) (sym (added-kept tables moves (starting_by (plan_of old new)).transition))
+      subst (λ (l : List EntryId). PassOver tables l moved.removed)
+      (sym (added-kept tables moves (starting_by (plan_of old new)).transition))
       (subst (λ (l : List EntryId). PassOver tables (added_entries old new) l)
       (sym (removed-kept tables moves (starting_by (plan_of old new)).transition)) (between-pass old new rules accepted)) in
       whole tables number more (entered moved before after) packet pass (kept-enter moved before after is)

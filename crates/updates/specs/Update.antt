@@ -1,18 +1,18 @@
 -- Updates (own rules): how the tables of a network pass from an old description to a new one while packets are on their way. The
 -- network has the entries of both descriptions. Of these are hidden, at each moment, those that are still to be added and those that
 -- were removed.
-use Rattle.std.specs.Prelude.{◌≡◌, ℕ, suc, ◌+◌, ◌<◌, ◌^◌, Bool, true, false, List, [], ◌∷◌, map, if◌then◌else◌, length, Result, Ok, Err}
+use Rattle.std.specs.Prelude.{◌≡◌, ℕ, ◌+◌, ◌<◌, ◌^◌, true, false, List, [], ◌∷◌, map, length, Result, Ok, Err}
 use Rattle.net_model.specs.declared.net.EntryId.{EntryId}
 use Rattle.net_model.specs.declared.net.Hit.{Hit}
 use Rattle.net_model.specs.Network.{CanHide, IsEdited, Network, hit_of_entry, is_shown}
-use Rattle.packet_walk.specs.Flight.{ArePlaced, InFlight}
-use Rattle.update_plan.specs.Joined.{joined_of}
-use Rattle.update_plan.specs.Changes.{added_entries, removed_entries}
+use Rattle.packet_walk.specs.Flight.{ArePlaced}
+use Rattle.update_rules.specs.Joined.{joined_of}
+use Rattle.update_rules.specs.Changes.{added_entries, removed_entries}
 use Rattle.update_flight.specs.declared.edit.Edit.{Edit}
 use Rattle.update_flight.specs.declared.edit.Edit.TheVariants.{Added, Switched, Removed, Finished}
-use Rattle.update_flight.specs.Interleaving.{Move, PassOver, moved_all}
+use Rattle.update_flight.specs.Interleaving.{PassOver}
 use Rattle.update_flight.specs.Planned.{hidden_after}
-use Rattle.update_flight.specs.Transition.{Transition, answer_of, edit_count, edited, is_before_switch, next_edit, starting}
+use Rattle.update_flight.specs.Transition.{Transition, answer_of, edited, next_edit, starting}
 use Rattle.updates.specs.declared.fault.EditFault.{EditFault}
 use Rattle.updates.specs.declared.fault.EditFault.TheVariants as faults
 

@@ -5,10 +5,10 @@ ghost use Rattle.net_model.specs.Network.{network_of};
 ghost use Rattle.net_model.specs.Rules.{IsNetwork};
 ghost use Rattle.net_model.specs.Judging.{InRange};
 ghost use Rattle.net_model.specs.declared.net.EntryId.TheVariants as names;
-ghost use Rattle.update_plan.specs.Changes.{named_from};
+ghost use Rattle.update_rules.specs.Changes.{named_from};
 ghost use Rattle.update_plan.specs.Entries.{Answers};
-ghost use Rattle.update_plan.specs.Planning.{planning};
-ghost use Rattle.update_plan.specs.declared.fault.PlanFault.TheVariants.{NoMemory};
+ghost use Rattle.update_rules.specs.Planning.{planning};
+ghost use Rattle.update_rules.specs.declared.fault.PlanFault.TheVariants.{NoMemory};
 ghost use Rattle.updates.specs.Update.{AreHideable, IsPlan, ShowsWithout, plan_of, whole};
 
 use net_copies::copy_parts;
@@ -16,7 +16,8 @@ use net_model::{EntryId, Net, NetParts, Route};
 use srv6_rules::SidEntry;
 use std::alloc::{AllocError, Global};
 use std::marker::Model;
-use update_plan::{PlanFault, plan_parts, removed_entries};
+use update_plan::{plan_parts, removed_entries};
+use update_rules::PlanFault;
 
 /// How a network passes from an old description to a new one: the network that has the entries of
 /// both, of which those that are added are hidden, and the entries that are added and those that are
@@ -33,7 +34,11 @@ impl Model for Plan {
 
     ghost Value = { PlanValue };
 
-    ghost view = { λ p. record { joined = whole p.net; added = p.added.items; removed = p.removed.items } };
+    ghost view = { λ p. record {
+      joined = whole p.net;
+      added = p.added.items;
+      removed = p.removed.items;
+    } };
 
     ghost invariant = { λ p. IsPlan p.net p.added.items p.removed.items };
 }
@@ -56,7 +61,11 @@ impl Plan {
     /// The network, what is added and what is removed.
     pub(crate) fn into_parts(self) -> (Net, Vec<EntryId>, Vec<EntryId>)
         ensures plan { IsPlan result.0 result.1.items result.2.items }
-        ensures value { self ≡ record { joined = whole result.0; added = result.1.items; removed = result.2.items } }
+        ensures value { self ≡ record {
+          joined = whole result.0;
+          added = result.1.items;
+          removed = result.2.items;
+        } }
     {
         (self.net, self.added, self.removed)
     }

@@ -191,7 +191,8 @@ impl<'a> Update<'a> {
     /// rule).
     pub fn edit(&mut self) -> Result<Edit, EditFault>
         ensures edit { EditsAs self.old result self.new }
-        ensures changed { IfOk result (λ edit. IsChanged edit (tables_now self.old) (tables_now self.new)) }
+        ensures changed { IfOk result (λ edit.
+            IsChanged edit (tables_now self.old) (tables_now self.new)) }
     {
         match self.transition.answer() {
             Err(busy) => Err(EditFault::Busy {

@@ -29,7 +29,8 @@ put_moves-requires-clause-going g c =
     let all : c.in_ok-seats.seats.items ≡ map (seat_of old) frames = rw c.requires.same at c.in_ok-seats.ensures.seats in
     let is = starts-at sides c.args.plan frames c.start-moving.result c.in_ok-seats.seats.items c.start-moving.ensures.moving all in
     driven_going sides c.args.plan frames c.args.change.now.events.now net c.start-moving.result c.count_edits-count.result
-    c.start-moving.ensures.net is (c.start-moving.ensures.choices ∙ (c.as_slice.ensures.value ∙ c.in_ok-choices.ensures)) c.requires.nodes c.requires.links
+    c.start-moving.ensures.net is
+    (c.start-moving.ensures.choices ∙ (c.as_slice.ensures.value ∙ c.in_ok-choices.ensures)) c.requires.nodes c.requires.links
     c.requires.within_old c.requires.within_new (subst (λ (xs : List Seat). length xs ≤ MAX_FRAMES) all c.in_ok-seats.ensures.few)
 
 pub returns-in_err-pool-clause-wrote : goal.returns-in_err-pool-clause-wrote

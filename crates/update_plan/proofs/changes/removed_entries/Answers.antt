@@ -1,5 +1,5 @@
 use Rattle.net_model.specs.Network.{network_of}
-use Rattle.update_plan.proofs.Keeping.{distinct_routes}
+use Rattle.update_rules.proofs.PublicLaws.{distinct_routes}
 use Rattle.update_plan.proofs.PlanLemmas.{few_from}
 use Rattle.update_plan.proofs.ChangeLemmas.{removed_gathered}
 use Rattle.update_plan.proofs.changes.removed_entries.Goals as goal

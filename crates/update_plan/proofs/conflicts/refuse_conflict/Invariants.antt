@@ -1,5 +1,5 @@
 use Rattle.std.proofs.Common.{◌≡◌, map, length}
-use Rattle.update_plan.specs.Planning.{conflicting}
+use Rattle.update_rules.specs.Planning.{conflicting}
 use Rattle.update_plan.specs.Entries.{item_of}
 use Rattle.update_plan.proofs.conflicts.refuse_conflict.Given as goal
 

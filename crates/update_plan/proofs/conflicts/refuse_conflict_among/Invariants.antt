@@ -1,5 +1,5 @@
 use Rattle.std.proofs.Common.{◌≡◌, find, map, length}
-use Rattle.update_plan.specs.Planning.{conflict}
+use Rattle.update_rules.specs.Planning.{conflict}
 use Rattle.update_plan.specs.Entries.{item_of}
 use Rattle.update_plan.proofs.conflicts.refuse_conflict_among.Given as goal
 

@@ -1,7 +1,7 @@
 use Rattle.std.proofs.Common.{List, Ok, ap, ◌∙◌}
 use Rattle.std.specs.Prelude.{Option, find, map}
 use Rattle.update_plan.specs.declared.entry.PlanEntry.{PlanEntry}
-use Rattle.update_plan.specs.Planning.{Item, conflict, conflict_or}
+use Rattle.update_rules.specs.Planning.{Item, conflict, conflict_or}
 use Rattle.update_plan.specs.Entries.{item_of}
 use Rattle.update_plan.proofs.Meant.{among_added}
 use Rattle.update_plan.proofs.conflicts.refuse_conflict_of.Goals as goal

@@ -1,5 +1,5 @@
 use Rattle.std.proofs.Common.{◌≡◌, ◌+◌, length}
-use Rattle.update_plan.specs.Planning.{first_difference}
+use Rattle.update_rules.specs.Planning.{first_difference}
 use Rattle.update_plan.proofs.differ.first_difference.Given as goal
 
 -- what the rests answer is the answer

@@ -1,5 +1,5 @@
 use Rattle.std.proofs.Common.{◌≡◌, length}
-use Rattle.update_plan.specs.Equal.{equal_lists}
+use Rattle.update_rules.specs.Equal.{equal_lists}
 use Rattle.update_plan.proofs.equal.are_equal_lists.Given as goal
 
 -- what the rests answer is the answer

@@ -1,6 +1,6 @@
 use Rattle.std.proofs.Common.{◌≡◌, ◌+◌, ◌++◌, length}
 use Rattle.std.specs.List.{list_any}
-use Rattle.update_plan.specs.Equal.{equal_route}
+use Rattle.update_rules.specs.Equal.{equal_route}
 use Rattle.update_plan.specs.Entries.{entries_from, route_entry}
 use Rattle.update_plan.proofs.gather.push_routes.Given as goal
 

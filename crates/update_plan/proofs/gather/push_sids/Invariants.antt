@@ -1,6 +1,6 @@
 use Rattle.std.proofs.Common.{◌≡◌, ◌+◌, ◌++◌, length}
 use Rattle.net_model.specs.Network.{network_of}
-use Rattle.update_plan.specs.Joined.{is_new_sid}
+use Rattle.update_rules.specs.Joined.{is_new_sid}
 use Rattle.update_plan.specs.Entries.{entries_from, sid_entry}
 use Rattle.update_plan.proofs.gather.push_sids.Given as goal
 

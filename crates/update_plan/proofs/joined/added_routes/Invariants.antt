@@ -1,6 +1,6 @@
 use Rattle.std.proofs.Common.{◌≡◌, ◌++◌, not, length}
 use Rattle.std.specs.List.{list_any, filter}
-use Rattle.update_plan.specs.Equal.{equal_route}
+use Rattle.update_rules.specs.Equal.{equal_route}
 use Rattle.update_plan.proofs.joined.added_routes.Given as goal
 
 -- those so far and those of the rest are all

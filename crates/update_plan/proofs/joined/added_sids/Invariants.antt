@@ -2,7 +2,7 @@ use Rattle.std.proofs.Common.{◌≡◌, ◌+◌, ◌≤◌, ◌++◌, not, leng
 use Rattle.std.specs.List.{filter, filter_map}
 use Rattle.net_model.specs.Network.{network_of}
 use Rattle.net_model.specs.Judging.{title_text}
-use Rattle.update_plan.specs.Joined.{is_new_sid, numbered}
+use Rattle.update_rules.specs.Joined.{is_new_sid, numbered}
 use Rattle.update_plan.proofs.joined.added_sids.Given as goal
 
 -- those so far and those of the rest are all

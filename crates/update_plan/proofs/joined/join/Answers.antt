@@ -3,7 +3,7 @@ use Rattle.std.specs.List.{list_any, filter}
 use Rattle.srv6_rules.specs.declared.sid.SidEntry.{SidEntry}
 use Rattle.net_model.specs.declared.parts.Route.{Route}
 use Rattle.net_model.specs.Network.{network_of}
-use Rattle.update_plan.specs.Equal.{equal_route}
+use Rattle.update_rules.specs.Equal.{equal_route}
 use Rattle.update_plan.proofs.PlanLemmas.{joined_from}
 use Rattle.update_plan.proofs.joined.join.Goals as goal
 

@@ -1,6 +1,4 @@
-use Rattle.std.proofs.Common.{ap, ◌∙◌}
-use Rattle.std.specs.Prelude.{option_and_then, slice_get}
-use Rattle.update_plan.specs.RouteKeys.{equal_at}
+use Rattle.std.proofs.Common.{◌∙◌}
 use Rattle.update_plan.proofs.RouteNumbers.{told}
 use Rattle.update_plan.proofs.known_routes.has_equal.Goals as goal
 

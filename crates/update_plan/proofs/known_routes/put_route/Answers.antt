@@ -7,4 +7,5 @@ use Rattle.update_plan.proofs.known_routes.put_route.Goals as goal
 pub returns : goal.returns
 returns c = λ before at has.
     more_numbered c.args.numbers.now c.insert.new.self before c.args.r.now c.args.n at has
-    (subst (λ k. map.Updates route_key_cmp c.args.numbers.now c.insert.new.self k (Some c.args.n)) c.route_key.ensures c.in_ok-insert.ensures.updates)
+    (subst (λ k. map.Updates route_key_cmp c.args.numbers.now c.insert.new.self k (Some c.args.n)) c.route_key.ensures
+    c.in_ok-insert.ensures.updates)

@@ -2,8 +2,8 @@ use Rattle.std.proofs.Common.{sym, subst}
 use Rattle.net_model.specs.Network.{network_of}
 use Rattle.net_model.specs.Rules.{IsNetwork}
 use Rattle.net_model.specs.Judging.{InRange}
-use Rattle.update_plan.specs.Planning.{planning}
-use Rattle.update_plan.proofs.Keeping.{distinct_routes, joined_rules, joined_range}
+use Rattle.update_rules.specs.Planning.{planning}
+use Rattle.update_rules.proofs.PublicLaws.{distinct_routes, joined_rules, joined_range}
 use Rattle.update_plan.proofs.PlanLemmas.{few_from, few_titles, answers_err, answers_none, differences_fault, conflicts_fault, limits_answer}
 use Rattle.update_plan.proofs.plan.plan_parts.Goals as goal
 

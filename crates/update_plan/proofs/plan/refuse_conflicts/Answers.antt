@@ -1,6 +1,6 @@
 use Rattle.std.proofs.Common.{◌∙◌}
 use Rattle.net_model.specs.Network.{network_of}
-use Rattle.update_plan.proofs.Keeping.{distinct_routes}
+use Rattle.update_rules.proofs.PublicLaws.{distinct_routes}
 use Rattle.update_plan.proofs.PlanLemmas.{few_from, answers_from, entries_conflict}
 use Rattle.update_plan.proofs.plan.refuse_conflicts.Goals as goal
 

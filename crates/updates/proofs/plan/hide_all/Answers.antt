@@ -1,10 +1,9 @@
-use Rattle.std.proofs.Common.{◌≡◌, ◌+◌, ℕ, Some, slice_get, suc, take, length, refl, sym, ap, ◌∙◌, subst, arith}
+use Rattle.std.proofs.Common.{sym, ◌∙◌, subst}
 use Rattle.std.specs.Prelude.{slice_index_or}
 use Rattle.net_model.specs.declared.net.EntryId.{EntryId}
 use Rattle.net_model.specs.declared.net.EntryId.TheVariants as names
 use Rattle.net_model.specs.Network.{CanHide, Network, hit_of_entry}
-use Rattle.updates.specs.Update.{ShowsWithout}
-use Rattle.updates.proofs.Shown.{get-index, hide-next, hideable-at, none-before}
+use Rattle.updates.proofs.Shown.{get-index, hideable-at, none-before}
 use Rattle.updates.proofs.plan.hide_all.Goals as goal
 
 pub hide-requires-clause-there : goal.hide-requires-clause-there

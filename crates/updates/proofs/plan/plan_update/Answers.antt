@@ -1,10 +1,10 @@
-use Rattle.std.proofs.Common.{◌≡◌, List, Ok, refl, sym, ap, ap₂, ◌∙◌, subst}
+use Rattle.std.proofs.Common.{◌≡◌, List, Ok, refl, sym, ap₂, ◌∙◌, subst}
 use Rattle.net_model.specs.declared.net.EntryId.{EntryId}
-use Rattle.net_model.specs.Network.{Network, network_of}
+use Rattle.net_model.specs.Network.{network_of}
 use Rattle.net_model.specs.Rules.{IsNetwork}
-use Rattle.update_plan.specs.Changes.{added_entries, removed_entries}
-use Rattle.update_plan.specs.Joined.{joined_of}
-use Rattle.update_plan.specs.Planning.{planning}
+use Rattle.update_rules.specs.Changes.{added_entries, removed_entries}
+use Rattle.update_rules.specs.Joined.{joined_of}
+use Rattle.update_rules.specs.Planning.{planning}
 use Rattle.updates.specs.Update.{AreHideable, ShowsWithout}
 use Rattle.updates.proofs.PlanFacts.{added-by, added-there, plan-is, plan-kept, whole-parts}
 use Rattle.updates.proofs.plan.plan_update.Goals as goal
@@ -14,7 +14,8 @@ hide_all-requires-clause-there c =
     let old = c.args.old.now in
     let new = c.args.new.now in
     let one : network_of c.parts.result.now ≡ old = whole-parts old (network_of c.parts.result.now) c.parts.ensures refl c.requires.old in
-    let other : network_of c.parts-2.result.now ≡ new = whole-parts new (network_of c.parts-2.result.now) c.parts-2.ensures refl c.requires.new in
+    let other : network_of c.parts-2.result.now ≡ new =
+    whole-parts new (network_of c.parts-2.result.now) c.parts-2.ensures refl c.requires.new in
     let parts : network_of c.in_ok-parts.parts ≡ joined_of old new =
     c.in_ok-parts.ensures.joined ∙ ap₂ joined_of (c.in_ok-copy.ensures ∙ one) other in
     let added : c.in_ok-added.added.items ≡ added_entries old new =
@@ -28,9 +29,12 @@ invariant_of-result c =
     let old = c.args.old.now in
     let new = c.args.new.now in
     let one : network_of c.parts.result.now ≡ old = whole-parts old (network_of c.parts.result.now) c.parts.ensures refl c.requires.old in
-    let other : network_of c.parts-2.result.now ≡ new = whole-parts new (network_of c.parts-2.result.now) c.parts-2.ensures refl c.requires.new in
-    let third : network_of c.parts-3.result.now ≡ old = whole-parts old (network_of c.parts-3.result.now) c.parts-3.ensures refl c.requires.old in
-    let fourth : network_of c.parts-4.result.now ≡ new = whole-parts new (network_of c.parts-4.result.now) c.parts-4.ensures refl c.requires.new in
+    let other : network_of c.parts-2.result.now ≡ new =
+    whole-parts new (network_of c.parts-2.result.now) c.parts-2.ensures refl c.requires.new in
+    let third : network_of c.parts-3.result.now ≡ old =
+    whole-parts old (network_of c.parts-3.result.now) c.parts-3.ensures refl c.requires.old in
+    let fourth : network_of c.parts-4.result.now ≡ new =
+    whole-parts new (network_of c.parts-4.result.now) c.parts-4.ensures refl c.requires.new in
     let copy : network_of c.in_ok-copy.copy ≡ old = c.in_ok-copy.ensures ∙ one in
     let parts : network_of c.in_ok-parts.parts ≡ joined_of old new = c.in_ok-parts.ensures.joined ∙ ap₂ joined_of copy other in
     let added : c.in_ok-added.added.items ≡ added_entries old new =
@@ -49,9 +53,12 @@ returns-clause-plan c =
     let old = c.args.old.now in
     let new = c.args.new.now in
     let one : network_of c.parts.result.now ≡ old = whole-parts old (network_of c.parts.result.now) c.parts.ensures refl c.requires.old in
-    let other : network_of c.parts-2.result.now ≡ new = whole-parts new (network_of c.parts-2.result.now) c.parts-2.ensures refl c.requires.new in
-    let third : network_of c.parts-3.result.now ≡ old = whole-parts old (network_of c.parts-3.result.now) c.parts-3.ensures refl c.requires.old in
-    let fourth : network_of c.parts-4.result.now ≡ new = whole-parts new (network_of c.parts-4.result.now) c.parts-4.ensures refl c.requires.new in
+    let other : network_of c.parts-2.result.now ≡ new =
+    whole-parts new (network_of c.parts-2.result.now) c.parts-2.ensures refl c.requires.new in
+    let third : network_of c.parts-3.result.now ≡ old =
+    whole-parts old (network_of c.parts-3.result.now) c.parts-3.ensures refl c.requires.old in
+    let fourth : network_of c.parts-4.result.now ≡ new =
+    whole-parts new (network_of c.parts-4.result.now) c.parts-4.ensures refl c.requires.new in
     let parts : network_of c.in_ok-parts.parts ≡ joined_of old new =
     c.in_ok-parts.ensures.joined ∙ ap₂ joined_of (c.in_ok-copy.ensures ∙ one) other in
     let added : c.in_ok-added.added.items ≡ added_entries old new =

@@ -1,6 +1,6 @@
 use Rattle.std.proofs.Common.{◌≡◌, ◌+◌, ◌++◌, length}
 use Rattle.net_model.specs.declared.net.EntryId.TheVariants as names
-use Rattle.update_plan.specs.Changes.{named_from}
+use Rattle.update_rules.specs.Changes.{named_from}
 use Rattle.updates.proofs.plan.push_routes.Given as goal
 
 -- the names so far and those of the rest are all

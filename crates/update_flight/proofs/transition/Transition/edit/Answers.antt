@@ -1,5 +1,4 @@
-use Rattle.std.proofs.Common.{◌≡◌, ◌+◌, ℕ, Result, Ok, subst, sym, ap, ◌∙◌}
-use Rattle.update_flight.specs.declared.edit.Edit.{Edit}
+use Rattle.std.proofs.Common.{◌≡◌, ◌+◌, ℕ, Ok, subst, sym, ap, ◌∙◌}
 use Rattle.update_flight.specs.Transition.{Transition, IsPassed, answer_of, transition_value}
 use Rattle.update_flight.proofs.Passed.{edit-passed}
 use Rattle.update_flight.proofs.transition.Transition.edit.Goals as goal

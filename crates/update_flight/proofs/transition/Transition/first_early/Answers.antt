@@ -1,4 +1,4 @@
-use Rattle.std.proofs.Common.{◌≡◌, ◌+◌, ℕ, Option, Some, None, subst, ap, ◌∙◌, refl, arith}
+use Rattle.std.proofs.Common.{◌+◌, ap, ◌∙◌, refl, arith}
 use Rattle.update_flight.specs.Transition.{Transition, first_early, transition_value}
 use Rattle.update_flight.proofs.Passed.{next-fits, passed-first, passed-none}
 use Rattle.update_flight.proofs.transition.Transition.first_early.Goals as goal

@@ -1,5 +1,5 @@
 use Rattle.std.proofs.Common.{subst, sym, IfSome}
-use Rattle.packet_walk.specs.Flight.{Packets, IsNumber, Turns, packet_in, stage_in, within}
+use Rattle.packet_walk.specs.Flight.{IsNumber, Turns, packet_in, stage_in, within}
 use Rattle.update_flight.specs.Tables.{HasRoute}
 use Rattle.update_flight.specs.Transition.{Transition, transition_value}
 use Rattle.update_flight.proofs.Passed.{own-turn, passed-after}

@@ -1,5 +1,5 @@
-use Rattle.std.proofs.Common.{◌≡◌, Ok, subst, sym, ap, ◌∙◌}
-use Rattle.update_flight.specs.Transition.{Transition, answer_of, edited}
+use Rattle.std.proofs.Common.{subst, sym, ap, ◌∙◌}
+use Rattle.update_flight.specs.Transition.{Transition, edited}
 use Rattle.updates.specs.Update.{IsChanged, IsUpdate, Update, tables_now, whole}
 use Rattle.updates.proofs.Edits.{can-edit, changed-tables, update-after}
 use Rattle.updates.proofs.update.Update.edit.Goals as goal
@@ -11,7 +11,8 @@ pub invariant_of-self-in-Ok-change : goal.invariant_of-self-in-Ok-change
 invariant_of-self-in-Ok-change c =
     let inside = c.self.inside in
     subst (λ (t : Transition). IsUpdate c.change.new.net t) (sym (c.edit.ensures.edited ∙ ap edited c.in-Ok.ensures.same))
-    (update-after inside.net inside.transition c.self.invariant c.change.new.net c.in-Ok.edit c.in-Ok.ensures.answer c.in-Ok-change.ensures.ok)
+    (update-after inside.net inside.transition c.self.invariant c.change.new.net c.in-Ok.edit c.in-Ok.ensures.answer
+    c.in-Ok-change.ensures.ok)
 
 pub returns-in-Ok-change-clause-changed : goal.returns-in-Ok-change-clause-changed
 returns-in-Ok-change-clause-changed c =

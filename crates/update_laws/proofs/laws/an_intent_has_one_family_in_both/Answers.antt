@@ -1,5 +1,0 @@
-use Rattle.update_laws.proofs.Families.{one-family}
-use Rattle.update_laws.proofs.laws.an_intent_has_one_family_in_both.Goals as goal
-
-pub returns : goal.returns
-returns c old new text both h = one-family old new text both h

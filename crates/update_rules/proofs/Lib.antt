@@ -1,0 +1,15 @@
+pub mod Lists
+pub mod Equals
+pub mod Numbers
+pub mod Parts
+pub mod Apart
+pub mod Across
+pub mod Grounds
+pub mod Keeping
+pub mod Symmetry
+pub mod SameItems
+pub mod Longest
+pub mod Partners
+pub mod OldLookups
+pub mod LookupLaws
+pub mod PublicLaws

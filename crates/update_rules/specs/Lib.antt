@@ -1,0 +1,5 @@
+pub mod Equal
+pub mod Joined
+pub mod Changes
+pub mod Planning
+pub mod Lookups
