@@ -18,8 +18,8 @@ use Rattle.command_inputs.proofs.Judging.{judged-text, asks-one}
 
 -- a text within the limit that was read as a certificate, or has a bad line
 
-cert-small : (net : Network) (v : LegsValue) (text : List ℕ) (read : Result Cert ℕ) → length text ≤ MAX_TEXT_BYTES → read_of net v text ≡ read
-    → cert_in net v text ≡ cert_by read
+cert-small : (net : Network) (v : LegsValue) (text : List ℕ) (read : Result Cert ℕ) → length text ≤ MAX_TEXT_BYTES
+    → read_of net v text ≡ read → cert_in net v text ≡ cert_by read
 cert-small net v text read fits is =
     let small : nat_lt MAX_TEXT_BYTES (length text) ≡ false = le-ltb MAX_TEXT_BYTES (length text) fits in
     rw small (ap cert_by is)
@@ -31,8 +31,8 @@ pub cert_judged : (net : Network) (v : LegsValue) (cert : Cert) (text name : Lis
 cert_judged net v cert text name old new fits reads seen h =
     (judged-text (cert_in net v) (Ok cert) text name old.told reads (cert-small net v text (Ok cert) fits h), seen)
 
-pub cert_refused : (net : Network) (v : LegsValue) (fault : CertFault) (text name : List ℕ) (old new : FilesSeen) → length text ≤ MAX_TEXT_BYTES
-    → IfSome old.told (λ files. file_named files name ≡ Some text) → new ≡ asked_for name old
+pub cert_refused : (net : Network) (v : LegsValue) (fault : CertFault) (text name : List ℕ) (old new : FilesSeen)
+    → length text ≤ MAX_TEXT_BYTES → IfSome old.told (λ files. file_named files name ≡ Some text) → new ≡ asked_for name old
     → GivesCertificate (Err fault) (read_of net v text)
     → JudgesFile (cert_in net v) name (Err (halt_of_cert fault)) old new
 cert_refused net v (certs.BadCert line) text name old new fits reads seen h =

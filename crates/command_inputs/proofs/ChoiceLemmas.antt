@@ -46,7 +46,7 @@ given_choices : (choices : Option (Vec ℕ)) (text : List ℕ) → items_of choi
 given_choices None text h = tt
 given_choices (Some all) text h = choices_in-some text all.items h
 
-pub read_choices : {E : Type 0} (read : Result (Option (Vec ℕ)) E) (text : List ℕ) → IfOk read (λ choices. items_of choices ≡ choices_in text)
-    → IfOk read (λ choices. IfSome choices (λ all. 0 < length all.items))
+pub read_choices : {E : Type 0} (read : Result (Option (Vec ℕ)) E) (text : List ℕ)
+    → IfOk read (λ choices. items_of choices ≡ choices_in text) → IfOk read (λ choices. IfSome choices (λ all. 0 < length all.items))
 read_choices (Ok choices) text h = given_choices choices text h
 read_choices (Err fault) text h = tt

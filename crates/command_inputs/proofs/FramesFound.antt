@@ -1,8 +1,7 @@
 -- What the frames of a capture's reader are, one after the other.
-use Rattle.std.proofs.Common.{◌≡◌, ℕ, suc, ◌+◌, ◌-◌, ◌<◌, true, false, ◌==◌, rules, List, [], ◌∷◌, length, Option, Some, None, Ok, refl, sym, ap, ◌∙◌, arith, add-zero, zero-add, subst}
+use Rattle.std.proofs.Common.{◌≡◌, ℕ, suc, ◌+◌, ◌-◌, ◌<◌, false, ◌==◌, rules, List, [], ◌∷◌, length, Option, Some, None, Ok, refl, sym, ap, ◌∙◌, arith, add-zero, subst}
 use Rattle.pcap_io.specs.declared.fault.CaptureFault.TheVariants.{FrameLimit}
 use Rattle.pcap_io.specs.declared.frame.Frame.{Frame}
-use Rattle.pcap_io.specs.declared.head.CaptureHead.{CaptureHead}
 use Rattle.pcap_io.specs.declared.numbers.TheConstants.{MAX_FRAMES}
 use Rattle.pcap_io.specs.Capture.{Reader, IsDone, IsAtLimit, Takes, next_frame}
 use Rattle.pcap_io.specs.Frames.{Reading, with_front, frames_of}
@@ -13,8 +12,8 @@ use Rattle.pcap_io.specs.Feeding.{EndsWith, GoesOn, PiecesSeen}
 use Rattle.pcap_io.proofs.PublicLaws.{frames_of-zero, frames_of-whole, frames_of-none}
 use Rattle.command_output.specs.declared.refusal.Refusal.{Refusal}
 use Rattle.command_output.specs.declared.refusal.Refusal.TheVariants as refusals
-use Rattle.command_inputs.specs.Frames.{FramesSeen, FindsFrame, bare_by, bare_frame, seen_at, all_frames}
-use Rattle.command_inputs.specs.Packets.{classic_frames, fault_behind, fault_of_end, left_of}
+use Rattle.command_inputs.specs.Frames.{FindsFrame, seen_at}
+use Rattle.command_inputs.specs.Packets.{fault_behind, refusal_of_capture_end, left_of}
 
 -- what is after the last frame
 
@@ -33,18 +32,6 @@ pub fault-limit : (count : ℕ) (rest : List ℕ) → 0 < length rest → count 
 fault-limit count rest some full =
     let more : (length rest == 0) ≡ false = search rules in
     rw (more, full) refl
-
--- the only frame of a bare packet
-pub bare_found : (packet : List ℕ) → FindsFrame (bare_by false packet) (bare_by true packet)
-bare_found packet = record {
-  frame = bare_frame packet;
-  at = refl;
-  front = refl;
-  end = refl;
-  number = refl;
-  taken = refl;
-  few = omega arith;
-}
 
 -- the refusal at the end, by what a reader has left
 abbrev end_of : ℕ → Reading → Option Refusal
@@ -97,17 +84,6 @@ limit_found old at limit =
     (ap (λ (most : ℕ). frames_of old.head most (old.taken + 1) old.rest) none ∙ frames_of-zero old.head (old.taken + 1) old.rest)
     (fault-limit old.taken old.rest limit.1 limit.0)
 
--- before the first frame a reader has all
-pub all_at_start : (head : CaptureHead) (bytes : List ℕ)
-    → seen_at None (record { head = head; taken = 0; rest = bytes }) ≡ all_frames (classic_frames (frames_of head MAX_FRAMES 1 bytes))
-all_at_start head bytes =
-    ap (λ (n : ℕ). let seen : FramesSeen = record {
-      at = None;
-      frames = (frames_of head MAX_FRAMES 1 bytes).frames;
-      end = fault_behind n (frames_of head MAX_FRAMES 1 bytes).rest;
-      taken = 0;
-    } in seen) (zero-add (length (frames_of head MAX_FRAMES 1 bytes).frames))
-
 -- ---- a capture that is fed in pieces
 
 pub pieces_found : (old new : PiecesSeen) → GoesOn old (Ok nexts.Frame) new → FindsFrame (seen_at old.at old.left) (seen_at new.at new.left)
@@ -116,7 +92,7 @@ pieces_found old new h =
     (frame_found old.left new.left (next_frame old.left) old.at (h.0, refl, h.2))
 
 pub pieces_ended : (old : PiecesSeen) (end : CaptureEnd) → EndsWith old.left end
-    → ((seen_at old.at old.left).frames ≡ []) × (fault_of_end end ≡ (seen_at old.at old.left).end)
+    → ((seen_at old.at old.left).frames ≡ []) × (refusal_of_capture_end end ≡ (seen_at old.at old.left).end)
 pieces_ended old ends.Whole h =
     end_found old.left old.left old.at None (h.0, refl) (fault_none old.left.taken old.left.rest h.1)
 pieces_ended old (ends.CutIn number) h =

@@ -27,7 +27,7 @@ use Rattle.command_output.specs.declared.limits.TheConstants.{MAX_INPUT_BYTES}
 use Rattle.command_inputs.specs.declared.packets.Packets.{Packets}
 use Rattle.command_inputs.specs.declared.packets.Packets.TheVariants.{Bare, Capture, Ng}
 use Rattle.command_inputs.specs.Frames.{AreFrom}
-use Rattle.command_inputs.specs.Packets.{capture_by, is_bare, ng_by, ng_unless, packets_in, reading_of, refusal_of_end}
+use Rattle.command_inputs.specs.Packets.{capture_by, is_bare, ng_by, ng_unless, packets_in, reading_of, refusal_of_ng_end}
 
 -- ---- frames are numbered from 1 on
 
@@ -145,7 +145,7 @@ in-unless (Some refusal) input packets h e = absurd (let no : ⊥ = cc in no)
 in-unless None input packets h e = let same : Ng input ≡ packets = cc in subst InBytes same h
 
 in-ng : (end : Option NgEnd) (input : List ℕ) (packets : Packets) → AreBytes input → ng_by end input ≡ Ok packets → InBytes packets
-in-ng (Some end) input packets h e = in-unless (refusal_of_end end) input packets h e
+in-ng (Some end) input packets h e = in-unless (refusal_of_ng_end end) input packets h e
 in-ng None input packets h e = let same : Ng input ≡ packets = cc in subst InBytes same h
 
 in-capture : (head : Result CaptureHead CaptureFault) (input : List ℕ) (packets : Packets) → AreBytes input

@@ -1,4 +1,4 @@
--- The choices and the schedule that the words give (own rules).
+-- The choices, the schedule and the events that the words give (own rules).
 use Rattle.std.specs.Prelude.{ℕ, Bool, ◌==◌, not, nat_lt, if◌then◌else◌, List, [], ◌∷◌, length, Option, Some, None}
 use Rattle.std.specs.Global.{Vec}
 use Rattle.std.specs.List.{list_all, slice_split}

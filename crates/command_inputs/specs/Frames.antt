@@ -9,7 +9,7 @@ use Rattle.pcapng_io.specs.Pieces.{NgComing}
 use Rattle.command_output.specs.declared.refusal.Refusal.{Refusal}
 use Rattle.command_inputs.specs.declared.frames.Found.{Found}
 use Rattle.command_inputs.specs.declared.frames.Found.TheVariants as founds
-use Rattle.command_inputs.specs.Packets.{InputFrames, fault_behind, fault_of, left_of, refusal_of_end}
+use Rattle.command_inputs.specs.Packets.{InputFrames, fault_behind, fault_of, left_of, refusal_of_ng_end}
 
 -- the frame at hand, if one is; the frames that will come, and the refusal of what is after the last of them, if anything is; and
 -- how many came
@@ -53,7 +53,7 @@ abbrev pub ng_seen_at : Option Frame → NgComing → FramesSeen
 ng_seen_at at coming = record {
   at = at;
   frames = coming.reading.frames;
-  end = refusal_of_end coming.reading.end;
+  end = refusal_of_ng_end coming.reading.end;
   taken = coming.taken;
 }
 

@@ -3,7 +3,6 @@ use Rattle.std.specs.Prelude.{ℕ, ◌+◌, ◌-◌, ◌/◌, ◌≤◌, Bool, �
 use Rattle.pcap_io.specs.declared.fault.CaptureFault.{CaptureFault}
 use Rattle.pcap_io.specs.declared.fault.CaptureFault.TheVariants.{FrameLimit}
 use Rattle.pcap_io.specs.declared.fault.CaptureFault.TheVariants as captures
-use Rattle.pcap_io.specs.declared.frame.Body.{Body}
 use Rattle.pcap_io.specs.declared.frame.Body.TheVariants as bodies
 use Rattle.pcap_io.specs.declared.frame.Frame.{Frame}
 use Rattle.pcap_io.specs.declared.head.CaptureHead.{CaptureHead}
@@ -21,8 +20,6 @@ use Rattle.pcapng_io.specs.Reading.{NgReading, end_at_start, ng_capture_of}
 use Rattle.command_output.specs.declared.limits.TheConstants.{MAX_INPUT_BYTES}
 use Rattle.command_inputs.specs.declared.packets.Packets.{Packets}
 use Rattle.command_inputs.specs.declared.packets.Packets.TheVariants.{Bare, Capture, Ng}
-use Rattle.command_output.specs.declared.unread.Unread.{Unread}
-use Rattle.command_output.specs.declared.unread.Unread.TheVariants as unreads
 use Rattle.command_output.specs.declared.refusal.Refusal.{Refusal}
 use Rattle.command_output.specs.declared.refusal.Refusal.TheVariants as refusals
 
@@ -31,17 +28,23 @@ use Rattle.command_output.specs.declared.refusal.Refusal.TheVariants as refusals
 abbrev pub is_bare : List ℕ → Bool
 is_bare input = not (length input == 0) && ((slice_index input 0 / 16) == 6)
 
+-- the refusal of how a capture ends: none where it ends with its last whole frame
+abbrev pub refusal_of_capture_end : CaptureEnd → Option Refusal
+refusal_of_capture_end capture_ends.Whole = None
+refusal_of_capture_end (capture_ends.CutIn frame) = Some (refusals.CutFrame frame)
+refusal_of_capture_end capture_ends.AtLimit = Some (refusals.Capture FrameLimit)
+
 -- the refusal of how a pcapng file ends: none where it ends with its last block, and want of memory is no end
-abbrev pub refusal_of_end : NgEnd → Option Refusal
-refusal_of_end ends.Whole = None
-refusal_of_end (ends.CutIn block) = Some (refusals.NgCut block)
-refusal_of_end (ends.Faulty (ng.NgMagic block)) = Some (refusals.NgMagic block)
-refusal_of_end (ends.Faulty (ng.NgBlock block)) = Some (refusals.NgBlock block)
-refusal_of_end (ends.Faulty (ng.NgVersion block)) = Some (refusals.NgVersion block)
-refusal_of_end (ends.Faulty (ng.NgOldBlock block)) = Some (refusals.NgOldBlock block)
-refusal_of_end (ends.Faulty (ng.NgInterface block)) = Some (refusals.NgInterface block)
-refusal_of_end (ends.Faulty ng.FrameLimit) = Some (refusals.Capture FrameLimit)
-refusal_of_end (ends.Faulty ng.NoMemory) = None
+abbrev pub refusal_of_ng_end : NgEnd → Option Refusal
+refusal_of_ng_end ends.Whole = None
+refusal_of_ng_end (ends.CutIn block) = Some (refusals.NgCut block)
+refusal_of_ng_end (ends.Faulty (ng.NgMagic block)) = Some (refusals.NgMagic block)
+refusal_of_ng_end (ends.Faulty (ng.NgBlock block)) = Some (refusals.NgBlock block)
+refusal_of_ng_end (ends.Faulty (ng.NgVersion block)) = Some (refusals.NgVersion block)
+refusal_of_ng_end (ends.Faulty (ng.NgOldBlock block)) = Some (refusals.NgOldBlock block)
+refusal_of_ng_end (ends.Faulty (ng.NgInterface block)) = Some (refusals.NgInterface block)
+refusal_of_ng_end (ends.Faulty ng.FrameLimit) = Some (refusals.Capture FrameLimit)
+refusal_of_ng_end (ends.Faulty ng.NoMemory) = None
 
 -- a pcapng file whose first block is cut or faulty is refused; where a later one is, the packets before it are read
 abbrev pub ng_unless : Option Refusal → List ℕ → Result Packets Refusal
@@ -49,7 +52,7 @@ ng_unless (Some refusal) input = Err refusal
 ng_unless None input = Ok (Ng input)
 
 abbrev pub ng_by : Option NgEnd → List ℕ → Result Packets Refusal
-ng_by (Some end) input = ng_unless (refusal_of_end end) input
+ng_by (Some end) input = ng_unless (refusal_of_ng_end end) input
 ng_by None input = Ok (Ng input)
 
 abbrev pub ng_in : List ℕ → Result Packets Refusal
@@ -76,25 +79,12 @@ HasHead (Bare packet) = ⊤
 HasHead (Capture head input) = HEAD_LEN ≤ length input
 HasHead (Ng input) = length input ≤ MAX_INPUT
 
--- why a frame's packet isn't read, if it isn't
-abbrev pub unread_in : Body → Option Unread
-unread_in (bodies.V6 packet) = None
-unread_in (bodies.V4 packet) = None
-unread_in bodies.ShortFrame = Some unreads.ShortFrame
-unread_in bodies.NotIp = Some unreads.NotIp
-
 -- the refusal of what is after so many frames: more than there may be, or a frame that is cut
 abbrev pub fault_behind : ℕ → List ℕ → Option Refusal
 fault_behind count rest =
     if length rest == 0 then None
     else if count == MAX_FRAMES then Some (refusals.Capture FrameLimit)
     else Some (refusals.CutFrame (count + 1))
-
--- the refusal of how a capture ends: none where it ends with its last whole frame
-abbrev pub fault_of_end : CaptureEnd → Option Refusal
-fault_of_end capture_ends.Whole = None
-fault_of_end (capture_ends.CutIn frame) = Some (refusals.CutFrame frame)
-fault_of_end capture_ends.AtLimit = Some (refusals.Capture FrameLimit)
 
 -- the frames of an input, numbered from 1, and the refusal of what is after the last one, if anything is
 pub record InputFrames : Type 0 where
@@ -105,7 +95,7 @@ abbrev pub classic_frames : Reading → InputFrames
 classic_frames read = record { frames = read.frames; end = fault_behind (length read.frames) read.rest }
 
 abbrev pub ng_frames : NgReading → InputFrames
-ng_frames read = record { frames = read.frames; end = refusal_of_end read.end }
+ng_frames read = record { frames = read.frames; end = refusal_of_ng_end read.end }
 
 -- a bare packet is the only one
 abbrev pub reading_of : Packets → InputFrames

@@ -1,4 +1,4 @@
-//! The choices and the schedule that the words give: numbers joined by commas.
+//! The choices, the schedule and the events that the words give: numbers joined by commas.
 
 ghost use Rattle.std.specs.Prelude.{◌≡◌, ◌==◌, ◌<◌, IfOk, IfSome, length, map};
 ghost use Rattle.std.specs.List.{list_all, slice_split};

@@ -30,8 +30,8 @@ pub trait Frames {
     /// many came.
     ghost seen: { Self → FramesSeen };
 
-    /// Goes to the next frame, which is at hand then; the end comes exactly where none is left. After
-    /// `NoMemory` nothing is said of the frames.
+    /// Goes to the next frame, which is at hand then; the end comes exactly where none is left.
+    /// After `NoMemory` nothing is said of the frames.
     fn next(&mut self) -> Result<Found, NoMemory>
         ensures { Finds (seen self.old) result (seen self.new) };
 
@@ -48,8 +48,8 @@ pub trait Puts {
     /// The pieces that are written of a frame.
     ghost pieces: { Self → FrameValue → List Piece };
 
-    /// Writes what is to be written of a frame; of the frames behind it the same is to be written as
-    /// before.
+    /// Writes what is to be written of a frame; of the frames behind it the same is to be written
+    /// as before.
     fn put<O: Sink, E: Sink>(
         &mut self,
         alloc: Global,

@@ -105,15 +105,16 @@ pub struct BothIntents {
 #[tactic(auto, using(crate::proofs::Judging::boths))]
 fn intents_of(alloc: Global, old: &Net, new: &Net, text: &[u8]) -> Result<BothIntents, Halt>
     ensures judged { JudgesText (intents_in old.now new.now) text.now result }
-    ensures keeps { IfOk result (λ both. IsIntent old.now both.before × IsIntent new.now both.after) }
+    ensures keeps { IfOk result (λ both.
+        IsIntent old.now both.before × IsIntent new.now both.after) }
 {
     let before = intent_of_text(alloc, old, text)?;
     let after = intent_of_text(alloc, new, text)?;
     Ok(BothIntents { before, after })
 }
 
-/// The intent that the file of this name gives in an old network, and then in a new one; the file is
-/// read once. (own rule)
+/// The intent that the file of this name gives in an old network, and then in a new one; the file
+/// is read once. (own rule)
 #[tactic(auto, using(crate::proofs::Judging::files))]
 pub fn intents_of_file<F: Files>(
     alloc: Global,
@@ -124,7 +125,8 @@ pub fn intents_of_file<F: Files>(
 ) -> Result<BothIntents, Halt>
     ensures judged { JudgesFile (intents_in old.now new.now) name.now result
         (F.seen files.old) (F.seen files.new) }
-    ensures keeps { IfOk result (λ both. IsIntent old.now both.before × IsIntent new.now both.after) }
+    ensures keeps { IfOk result (λ both.
+        IsIntent old.now both.before × IsIntent new.now both.after) }
 {
     let text = files.read(alloc, name, MAX_TEXT_BYTES)?;
     intents_of(alloc, old, new, text.as_slice())

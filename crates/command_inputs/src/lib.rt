@@ -1,9 +1,9 @@
-//! What commands read: files and words that are judged, choices and schedules, and the packets of
-//! the input.
+//! What commands read: files and words that are judged, choices, schedules and events, and the
+//! packets of the input.
 //!
 //! `specs/Judgements.antt` says what each file and word gives, or its refusal, `specs/Choices.antt`
-//! which numbers the words of choices and of a schedule give, and `specs/Packets.antt` which packets
-//! an input has.
+//! which numbers the words of choices, of a schedule and of events give, and `specs/Packets.antt`
+//! which packets an input has.
 #![tactic(auto)]
 
 mod choices;
@@ -23,5 +23,5 @@ pub use judge::{
     network_of_text, node_of_name, trace_of_file,
 };
 pub use limits::{MAX_CHOICES, MAX_SCHEDULE};
-pub use packets::{Packets, packets_of_input, unread_of_frame};
+pub use packets::{Packets, packets_of_input};
 pub use sources::{BareFrames, CaptureFrames, NgFrames, PacketFrames};

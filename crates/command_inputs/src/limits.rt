@@ -3,5 +3,6 @@
 /// The most choices that the words give. (own rule)
 pub const MAX_CHOICES: usize = 4_096;
 
-/// The most entries of a schedule that the words give. (own rule)
+/// The most entries of a schedule, and the most events of an update, that the words give. (own
+/// rule)
 pub const MAX_SCHEDULE: usize = 65_536;

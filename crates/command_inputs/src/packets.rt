@@ -2,12 +2,12 @@
 
 ghost use Rattle.std.specs.Prelude.{◌≡◌, ◌≤◌, IfOk, length};
 ghost use Rattle.command_output.specs.Answers.{JudgesInput};
-ghost use Rattle.command_inputs.specs.Packets.{HasHead, is_bare, ng_in, packets_in, refusal_of_end, unread_in};
+ghost use Rattle.command_inputs.specs.Packets.{HasHead, is_bare, ng_in, packets_in, refusal_of_capture_end, refusal_of_ng_end};
 
 use crate::input_bytes::InputBytes;
 use base::Seq;
-use command_output::{Halt, MAX_INPUT_BYTES, Refusal, Unread};
-use pcap_io::{CaptureFault, CaptureHead, LentBody, LentFrame, read_head};
+use command_output::{Halt, MAX_INPUT_BYTES, Refusal};
+use pcap_io::{CaptureEnd, CaptureFault, CaptureHead, read_head};
 use pcapng_io::{NgEnd, NgFault, end_at_start};
 use srx_edge::{Source, draw};
 use std::alloc::Global;
@@ -33,9 +33,20 @@ fn begins_as_ipv6(input: &[u8]) -> bool
     }
 }
 
+/// The refusal of how a capture ends; `None` where it ends with its last whole frame. (own rule)
+pub(crate) fn refusal_of_capture_end(end: CaptureEnd) -> Option<Refusal>
+    ensures { result ≡ refusal_of_capture_end end }
+{
+    match end {
+        CaptureEnd::Whole => None,
+        CaptureEnd::CutIn(frame) => Some(Refusal::CutFrame { frame }),
+        CaptureEnd::AtLimit => Some(Refusal::Capture(CaptureFault::FrameLimit)),
+    }
+}
+
 /// The refusal of how a pcapng file ends; `None` where it ends with its last block. (own rule)
-pub(crate) fn refusal_of_end(end: NgEnd) -> Option<Refusal>
-    ensures { result ≡ refusal_of_end end }
+pub(crate) fn refusal_of_ng_end(end: NgEnd) -> Option<Refusal>
+    ensures { result ≡ refusal_of_ng_end end }
 {
     match end {
         NgEnd::Whole => None,
@@ -57,7 +68,7 @@ fn ng_in(bytes: Vec<u8>) -> Result<Packets, Refusal>
     ensures head { IfOk result HasHead }
 {
     let refusal = match end_at_start(bytes.as_slice()) {
-        Some(end) => refusal_of_end(end),
+        Some(end) => refusal_of_ng_end(end),
         None => None,
     };
     match refusal {
@@ -91,15 +102,4 @@ pub fn packets_of_input<S: Source>(alloc: Global, input: &mut S) -> Result<Packe
 {
     let bytes = draw(alloc, input, MAX_INPUT_BYTES)?;
     Ok(packets_of_bytes(bytes)?)
-}
-
-/// Why a frame's packet is not read, if it isn't. (own rule)
-pub fn unread_of_frame(frame: &LentFrame<'_>) -> Option<Unread>
-    ensures { result ≡ unread_in frame.now.body }
-{
-    match frame.body() {
-        LentBody::V6(_) | LentBody::V4(_) => None,
-        LentBody::ShortFrame => Some(Unread::ShortFrame),
-        LentBody::NotIp => Some(Unread::NotIp),
-    }
 }

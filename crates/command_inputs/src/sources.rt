@@ -6,18 +6,14 @@ ghost use Rattle.pcapng_io.specs.declared.numbers.TheConstants.{MAX_INPUT};
 ghost use Rattle.pcapng_io.specs.Reading.{ng_capture_of};
 ghost use Rattle.pcapng_io.specs.Pieces.{all_of};
 ghost use Rattle.command_inputs.specs.Frames.{all_frames, bare_by, ng_seen_at, seen_at};
-ghost use Rattle.command_inputs.specs.Packets.{HasHead, fault_of_end, reading_of};
+ghost use Rattle.command_inputs.specs.Packets.{HasHead, reading_of};
 ghost use Rattle.command_inputs.specs.Sources.{bare_seen, capture_seen, ng_seen, packets_seen};
 
 use crate::frames::{Found, Frames};
 use crate::input_bytes::InputBytes;
-use crate::packets::{Packets, refusal_of_end};
+use crate::packets::{Packets, refusal_of_capture_end, refusal_of_ng_end};
 use base::NoMemory;
-use command_output::Refusal;
-use pcap_io::{
-    Body, CaptureEnd, CaptureFault, CaptureHead, CapturePieces, Frame, FrameNext, HEAD_LEN,
-    LentBody, LentFrame,
-};
+use pcap_io::{Body, CaptureHead, CapturePieces, Frame, FrameNext, HEAD_LEN, LentBody, LentFrame};
 use pcapng_io::{NgNext, NgPieces};
 
 /// The only frame of a bare packet, which is packet 1. (own rule)
@@ -79,24 +75,13 @@ impl<'a> CaptureFrames<'a> {
     }
 }
 
-/// The refusal of how a capture ends; `None` where it ends with its last whole frame. (own rule)
-fn fault_of_end(end: CaptureEnd) -> Option<Refusal>
-    ensures { result ≡ fault_of_end end }
-{
-    match end {
-        CaptureEnd::Whole => None,
-        CaptureEnd::CutIn(frame) => Some(Refusal::CutFrame { frame }),
-        CaptureEnd::AtLimit => Some(Refusal::Capture(CaptureFault::FrameLimit)),
-    }
-}
-
 impl Frames for CaptureFrames<'_> {
     ghost seen = { capture_seen };
 
     fn next(&mut self) -> Result<Found, NoMemory> {
         match self.pieces.next()? {
             FrameNext::Frame => Ok(Found::Frame),
-            FrameNext::End(end) => Ok(Found::End(fault_of_end(end))),
+            FrameNext::End(end) => Ok(Found::End(refusal_of_capture_end(end))),
         }
     }
 
@@ -146,7 +131,7 @@ impl Frames for NgFrames<'_> {
                 self.at_hand = Some(frame);
                 Ok(Found::Frame)
             }
-            NgNext::End(end) => Ok(Found::End(refusal_of_end(end))),
+            NgNext::End(end) => Ok(Found::End(refusal_of_ng_end(end))),
         }
     }
 

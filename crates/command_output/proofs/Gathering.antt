@@ -20,13 +20,16 @@ use Rattle.command_output.proofs.PieceSteps.{went-behind, went-longer}
 pub gone-parts : (group : List Piece) (sinks : Sinks) → gone (gathered group) sinks ≡ gone group sinks
 gone-parts [] sinks = refl
 gone-parts (ForOut bytes ∷ group) sinks =
-    ap (λ (seen : SinkSeen). record { out = seen; err = sent (bytes_for_err group) sinks.err }) (sym (sent-sent (bytes_for_out group) bytes sinks.out))
+    ap (λ (seen : SinkSeen). record { out = seen; err = sent (bytes_for_err group) sinks.err })
+    (sym (sent-sent (bytes_for_out group) bytes sinks.out))
     ∙ gone-parts group (record sinks { out = sent bytes sinks.out })
 gone-parts (ForErr bytes ∷ group) sinks =
-    ap (λ (seen : SinkSeen). record { out = sent (bytes_for_out group) sinks.out; err = seen }) (sym (sent-sent (bytes_for_err group) bytes sinks.err))
+    ap (λ (seen : SinkSeen). record { out = sent (bytes_for_out group) sinks.out; err = seen })
+    (sym (sent-sent (bytes_for_err group) bytes sinks.err))
     ∙ gone-parts group (record sinks { err = sent bytes sinks.err })
 
-gone_bytes-append : (first more : List (Which × ℕ)) (sinks : Sinks) → gone_bytes (first ++ more) sinks ≡ gone_bytes more (gone_bytes first sinks)
+gone_bytes-append : (first more : List (Which × ℕ)) (sinks : Sinks)
+    → gone_bytes (first ++ more) sinks ≡ gone_bytes more (gone_bytes first sinks)
 gone_bytes-append [] more sinks = refl
 gone_bytes-append (b ∷ first) more sinks = gone_bytes-append first more _
 

@@ -1,9 +1,9 @@
 -- Pieces with the same bytes in order go out alike.
 use Rattle.std.proofs.Common.{◌≡◌, ℕ, List, [], ◌∷◌, ◌++◌, Option, None, Some, refl, sym, ap, ◌∙◌}
 use Rattle.srx_edge.specs.Sinks.{SinkSeen, sent}
-use Rattle.srx_edge.specs.Steps.{Ending, Whole, Fault, Memory, How}
+use Rattle.srx_edge.specs.Steps.{How}
 use Rattle.srx_edge.proofs.PublicLaws.{sent-sent}
-use Rattle.command_output.specs.Pieces.{Piece, ForOut, ForErr, Which, ToOut, ToErr, Sinks, gone, bytes_in_order, Went, stop_at, StopsIn, WroteAll}
+use Rattle.command_output.specs.Pieces.{Piece, ForOut, ForErr, Which, ToOut, ToErr, Sinks, gone, bytes_in_order, Went, stop_at}
 use Rattle.command_output.proofs.PieceLemmas.{marked}
 
 -- the sinks once bytes have gone out to one of them
@@ -20,7 +20,8 @@ sent-none : (sink : Which) (sinks : Sinks) → sent_to sink [] sinks ≡ sinks
 sent-none ToOut sinks = refl
 sent-none ToErr sinks = refl
 
-sent-both : (sink : Which) (first more : List ℕ) (sinks : Sinks) → sent_to sink more (sent_to sink first sinks) ≡ sent_to sink (first ++ more) sinks
+sent-both : (sink : Which) (first more : List ℕ) (sinks : Sinks)
+    → sent_to sink more (sent_to sink first sinks) ≡ sent_to sink (first ++ more) sinks
 sent-both ToOut first more sinks = ap (λ (s : SinkSeen). record sinks { out = s }) (sent-sent more first sinks.out)
 sent-both ToErr first more sinks = ap (λ (s : SinkSeen). record sinks { err = s }) (sent-sent more first sinks.err)
 
@@ -45,12 +46,3 @@ module _ (one other : List Piece) (old new : Sinks) (same : bytes_in_order one �
   went-same sink None w = record { first = w.first; rest = w.rest; whole = w.whole ∙ same; sinks = w.sinks }
   went-same sink (Some how) w =
       record { first = w.first; rest = w.rest; whole = w.whole ∙ same; next = w.next; sinks = w.sinks }
-
-  stops-same : (ending : Ending) → StopsIn ending one old new → StopsIn ending other old new
-  stops-same ending s = record { sink = s.sink; how = s.how; ends = s.ends; went = went-same s.sink s.how s.went }
-
-  -- a step that wrote the first wrote the others
-  pub all_same : (ending : Ending) → WroteAll ending one old new → WroteAll ending other old new
-  all_same Whole h = h ∙ gone-same
-  all_same Fault h = stops-same Fault h
-  all_same Memory h = stops-same Memory h

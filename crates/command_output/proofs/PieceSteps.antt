@@ -81,11 +81,6 @@ pub all_longer : (failure : Failure) (first more : List Piece) (old new : Sinks)
 all_longer failures.Fault first more old new h = stops-longer Fault first more old new h
 all_longer failures.NoMemory first more old new h = stops-longer Memory first more old new h
 
-pub all_behind : (failure : Failure) (before more : List Piece) (old mid new : Sinks) → mid ≡ gone before old
-    → WroteAll (ending_of_failure failure) more mid new → WroteAll (ending_of_failure failure) (before ++ more) old new
-all_behind failures.Fault before more old mid new went h = stops-behind Fault before more old mid new went h
-all_behind failures.NoMemory before more old mid new went h = stops-behind Memory before more old mid new went h
-
 -- memory was wanting elsewhere, once some pieces had gone out
 pub all_wanting : (before more : List Piece) (old new : Sinks) → new ≡ gone before old → WroteAll Memory (before ++ more) old new
 all_wanting before more old new went = record {
@@ -153,9 +148,6 @@ module _ (bytes line : List ℕ) (more : List Piece) (o p e f : SinkSeen) where
     out-went : sinks_of p e ≡ gone (ForOut bytes ∷ []) (sinks_of o e)
     out-went = ap (λ (s : SinkSeen). sinks_of s e) went
 
-    pub wanting_behind_out : WroteAll Memory (ForOut bytes ∷ more) (sinks_of o e) (sinks_of p e)
-    wanting_behind_out = all_wanting (ForOut bytes ∷ []) more (sinks_of o e) (sinks_of p e) out-went
-
     pub line_behind_out : (ending : Ending) → Wrote ending line e f
         → WroteAll ending (ForOut bytes ∷ ForErr line ∷ []) (sinks_of o e) (sinks_of p f)
     line_behind_out ending wrote = all_then ending (ForOut bytes ∷ []) (ForErr line ∷ []) (sinks_of o e) (sinks_of p e)
@@ -166,11 +158,3 @@ module _ (bytes line : List ℕ) (more : List Piece) (o p e f : SinkSeen) where
         → WroteAll (ending_of_failure failure) (ForOut bytes ∷ ForErr line ∷ more) (sinks_of o e) (sinks_of p f)
     cut_at_line failure wrote = all_longer failure (ForOut bytes ∷ ForErr line ∷ []) more (sinks_of o e) (sinks_of p f)
         (line_behind_out (ending_of_failure failure) wrote)
-
-    both-went : f ≡ sent line e → sinks_of p f ≡ gone (ForOut bytes ∷ ForErr line ∷ []) (sinks_of o e)
-    both-went told = ap (λ (s : SinkSeen). sinks_of p s) told ∙ ap (λ (s : SinkSeen). sinks_of s (sent line e)) went
-
-    pub behind_line : (ending : Ending) (new : Sinks) → f ≡ sent line e → WroteAll ending more (sinks_of p f) new
-        → WroteAll ending (ForOut bytes ∷ ForErr line ∷ more) (sinks_of o e) new
-    behind_line ending new told wrote = all_then ending (ForOut bytes ∷ ForErr line ∷ []) more (sinks_of o e) (sinks_of p f) new
-        (both-went told) wrote

@@ -232,7 +232,8 @@ module _ (bytes : List ℕ) (old new : Pooled) (kept : new.sinks ≡ old.sinks) 
   as-it-was waiting now same room = subst (λ (w : List ℕ). length w ≤ MOST_WAITING) (sym same) (omega (arith, room))
 
   pub goes_out : new.waiting.out ≡ old.waiting.out ++ bytes → new.waiting.err ≡ old.waiting.err
-      → length old.waiting.out + length bytes ≤ MOST_WAITING → length old.waiting.err + 0 ≤ MOST_WAITING → Goes Whole (ForOut bytes ∷ []) old new
+      → length old.waiting.out + length bytes ≤ MOST_WAITING → length old.waiting.err + 0 ≤ MOST_WAITING
+      → Goes Whole (ForOut bytes ∷ []) old new
   goes_out out err room_out room_err = goes_waiting (ForOut bytes ∷ []) old new kept
       (out ∙ ap (λ (b : List ℕ). old.waiting.out ++ b) (sym (append-nil bytes)))
       (err ∙ sym (append-nil old.waiting.err))
@@ -240,7 +241,8 @@ module _ (bytes : List ℕ) (old new : Pooled) (kept : new.sinks ≡ old.sinks) 
       (as-it-was old.waiting.err new.waiting.err err room_err)
 
   pub goes_err : new.waiting.out ≡ old.waiting.out → new.waiting.err ≡ old.waiting.err ++ bytes
-      → length old.waiting.out + 0 ≤ MOST_WAITING → length old.waiting.err + length bytes ≤ MOST_WAITING → Goes Whole (ForErr bytes ∷ []) old new
+      → length old.waiting.out + 0 ≤ MOST_WAITING → length old.waiting.err + length bytes ≤ MOST_WAITING
+      → Goes Whole (ForErr bytes ∷ []) old new
   goes_err out err room_out room_err = goes_waiting (ForErr bytes ∷ []) old new kept
       (out ∙ sym (append-nil old.waiting.out))
       (err ∙ ap (λ (b : List ℕ). old.waiting.err ++ b) (sym (append-nil bytes)))

@@ -313,7 +313,8 @@ held-err ToErr Wanting sinks = refl
 
 pub groups-stand : (stop : Stop) (pieces : List Piece) (old new : Sinks) → InGroups stop pieces old new → StandsInOrder pieces old new
 groups-stand Never pieces old new g = stands pieces old new g.groups g.same (flat_map gathered g.groups) []
-    (append-nil (bytes_in_order (flat_map gathered g.groups))) (ap (λ (s : Sinks). s.out.held) g.went) (ap (λ (s : Sinks). s.err.held) g.went)
+    (append-nil (bytes_in_order (flat_map gathered g.groups)))
+    (ap (λ (s : Sinks). s.out.held) g.went) (ap (λ (s : Sinks). s.err.held) g.went)
 groups-stand AtFiles pieces old new g = stands-none pieces old new g.went
 groups-stand AtInput pieces old new g = stands-none pieces old new g.went
 groups-stand (At sink how) pieces old new g = stands pieces old new g.groups g.same g.went.first g.went.rest g.went.whole

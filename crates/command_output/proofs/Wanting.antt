@@ -2,14 +2,11 @@
 use Rattle.std.proofs.Common.{◌≡◌, ℕ, List, [], ◌∷◌, Ok, Err, refl, ap, ◌∙◌, inl, inr}
 use Rattle.std.specs.Prelude.{Result}
 use Rattle.srx_edge.specs.Edge.{next_count}
-use Rattle.srx_edge.specs.Sinks.{SinkSeen, sent, Pours}
-use Rattle.srx_edge.specs.declared.output.PourFault.{PourFault}
-use Rattle.srx_edge.specs.declared.output.PourFault.TheVariants as pours
+use Rattle.srx_edge.specs.Sinks.{SinkSeen, sent}
 use Rattle.command_output.specs.declared.halt.Failure.{Failure}
 use Rattle.command_output.specs.declared.halt.Failure.TheVariants as failures
 use Rattle.command_output.specs.Answers.{ending_of_failure, ending_of_step}
 use Rattle.command_output.specs.Gathered.{HasWant, Waiting, WantsInSink, WantsInSinks, waiting_pieces}
-use Rattle.command_output.specs.Halts.{failure_of_pour}
 use Rattle.command_output.specs.Pieces.{Sinks, sinks_of, gone}
 
 -- bytes that go out are no want
@@ -20,13 +17,6 @@ wants-sent (byte ∷ bytes) sink = refl
 want-after : (bytes : List ℕ) (old mid new : SinkSeen) → mid ≡ sent bytes old → HasWant mid new → HasWant old new
 want-after bytes old mid new went h =
     (h.0 ∙ ap next_count (ap (λ (sink : SinkSeen). sink.wants) went ∙ wants-sent bytes old), h.1)
-
--- `pour` was stopped
-pub poured_wants : (fault : PourFault) (bytes : List ℕ) (old new : SinkSeen) → Pours bytes (Err fault) old new
-    → WantsInSink (ending_of_failure (failure_of_pour fault)) old new
-poured_wants (pours.Failed written) bytes old new h = tt
-poured_wants (pours.NoMemory written) bytes old new h =
-    (ap (λ (sink : SinkSeen). sink.wants) h.1 ∙ ap next_count (wants-sent _ old), ap (λ (sink : SinkSeen). sink.stopped) h.1)
 
 -- one of the two sinks is written to
 

@@ -29,9 +29,4 @@ pub wrote_after : (failure : Failure) (bytes more : List ℕ) (old mid new : Sin
 wrote_after failures.Fault bytes more old mid new first h = cut_after _ bytes more old mid new first h
 wrote_after failures.NoMemory bytes more old mid new first h = cut_after _ bytes more old mid new first h
 
--- memory was wanting after the first bytes went out
-pub wanted_after : (bytes more : List ℕ) (old mid : SinkSeen) → mid ≡ sent bytes old
-    → Wrote (ending_of_failure failures.NoMemory) (bytes ++ more) old mid
-wanted_after bytes more old mid first = wrote_after failures.NoMemory bytes more old mid mid first (cut_none more mid)
-
 pub ruleset writing = (poured_cut, wrote_longer, wrote_after, sent_both, cut_whole, cut_none)

@@ -90,7 +90,8 @@ dropped_line number reason name =
     codes "packet " ++ (decimal number ++ (codes ": dropped " ++ (reason_name reason ++ (codes " at " ++ (name ++ 10 ∷ [])))))
 
 unfoldable pub stages_line : ℕ → List ℕ
-stages_line number = codes "packet " ++ (decimal number ++ (codes ": stopped after " ++ (decimal MAX_STAGES ++ (codes " stages" ++ 10 ∷ []))))
+stages_line number =
+    codes "packet " ++ (decimal number ++ (codes ": stopped after " ++ (decimal MAX_STAGES ++ (codes " stages" ++ 10 ∷ []))))
 
 abbrev pub packet_line : Network → ℕ → Ended → List ℕ
 packet_line net number (ends.Left link) = left_line number (name_of_link (slice_get net.links link))

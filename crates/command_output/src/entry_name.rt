@@ -3,8 +3,8 @@
 use net_model::EntryId;
 use std::fmt;
 
-/// A route, a SID or a node's own address by its table and its number from 1 there; an address by its
-/// node's. (own rule)
+/// A route, a SID or a node's own address by its table and its number from 1 there; an address by
+/// its node's. (own rule)
 #[derive(Clone, Copy, Debug, PartialEq, Eq)]
 pub struct EntryName {
     /// Which it is.

@@ -67,8 +67,8 @@ pub fn write_unread_line(line: &mut String, number: u32, cause: Unread) -> Resul
     write!(line, "packet {number}: not read, {cause}\n")
 }
 
-/// Writes the line of a packet of a number when it ends, in place of what the text held; a text that
-/// is handed on from packet to packet asks for memory for its longest line alone. (own rule)
+/// Writes the line of a packet of a number when it ends, in place of what the text held; a text
+/// that is handed on from packet to packet asks for memory for its longest line alone. (own rule)
 pub fn write_packet_line(
     line: &mut String,
     net: &Net,

@@ -21,7 +21,7 @@ pub enum Refusal {
         /// The limit, in bytes.
         limit: usize,
     },
-    /// 11 to 15 and 17: the input is no classic capture, or has too many frames.
+    /// 11, 13 to 15 and 17: the input is no capture, or has too many frames.
     Capture(CaptureFault),
     /// 16: the capture ends within a frame.
     CutFrame {
@@ -30,7 +30,7 @@ pub enum Refusal {
     },
     /// 21 to 32: the description gives no network; the first fault.
     Net(TextFault),
-    /// 33 to 38: the intent's text gives no intent in the network; the first fault.
+    /// 33 to 38 and 46: the intent's text gives no intent in the network; the first fault.
     Intent(IntentFault),
     /// 39: no node has the name.
     BadNode,
@@ -40,7 +40,7 @@ pub enum Refusal {
         /// it, and where `end` is missing, the line after the last.
         line: u32,
     },
-    /// 41: an entry's prefix lies strictly inside a SID's.
+    /// 41: an entry's prefix lies strictly inside a SID's, and it is no SID nested in that one.
     Nested {
         /// The SID's prefix.
         outer: Prefix,

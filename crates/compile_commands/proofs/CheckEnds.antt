@@ -232,7 +232,8 @@ module _ (file intent cert : List ℕ) where
         (record { rest = cert ∷ []; whole = refl }) tt (names-two (flat-not-ok net refusal (flatness_of net) h)) last-is) refl)
 
     -- or memory was wanting
-    pub check_halted_at_legs : (halt : Halt) → LegsOf net value (Err halt) → CommandsUnread (check_shape file intent cert) (Err halt) f last o o
+    pub check_halted_at_legs : (halt : Halt) → LegsOf net value (Err halt)
+        → CommandsUnread (check_shape file intent cert) (Err halt) f last o o
     check_halted_at_legs (halts.Refused refusal) h = halted-not-flat refusal h
     check_halted_at_legs (halts.Failed failures.Fault) h = absurd h
     check_halted_at_legs (halts.Failed failures.NoMemory) h = λ s. memory_wants (check_shape file intent cert) f last s s o

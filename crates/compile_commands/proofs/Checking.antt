@@ -1,6 +1,5 @@
 -- What is judged of a certificate over the legs of an intent, by the verdict on it.
 use Rattle.std.proofs.Common.{◌≡◌, inl, inr, ℕ, List, [], ◌∷◌, get_or, Option, None, Some, refl, sym, ap₂, subst}
-use Rattle.std.specs.Prelude.{slice_get}
 use Rattle.std.proofs.lemmas.Option.{slice_get_within, slice_get-get_or, get_or_from_slice_get}
 use Rattle.net_model.specs.Network.{Network}
 use Rattle.net_model.specs.Rules.{IsNetwork}
@@ -37,7 +36,8 @@ module _ (net : Network) (intent : Intent) (network : IsNetwork net) (flat : IsF
   known-by position (Some n) room h =
       let s = sids-for net intent network flat is n (position, h.0, h.1) in slice_get_within net.sids n s.sid s.here
 
-  knows-why : (cert : Cert) (line : ℕ) (why : Why) → IsVerdict (intent_legs_value net intent) cert (No line why) → KnowsState net (No line why)
+  knows-why : (cert : Cert) (line : ℕ) (why : Why) → IsVerdict (intent_legs_value net intent) cert (No line why)
+      → KnowsState net (No line why)
   knows-why cert line whys.Edge h = tt
   knows-why cert line (whys.Unlisted state) h = known-by state.position state.via state.room h.is_state
   knows-why cert line whys.Path h = tt

@@ -46,7 +46,8 @@ flat-by net whole is = (flatness_ok net whole).0 (subst (λ (r : Result (Unit {0
 
 -- a list that was found in a flat network has values
 values-of : (net : Network) (intent : Intent) (c : Compiled) → IsNetwork net → net.hidden ≡ [] → flatness_of net ≡ Ok tt
-    → IsFound (intent_legs_value net intent) net (ListRealizesFor net intent) (ListExecutesFor net intent) intent.reduced c → HasValues net c
+    → IsFound (intent_legs_value net intent) net (ListRealizesFor net intent) (ListExecutesFor net intent) intent.reduced c
+    → HasValues net c
 values-of net intent c network whole is_flat found =
     let legal = found.chosen.whole.legal in
     (legal, legal-flat net c.list (flat-lists net network (flat-by net whole is_flat)) legal)
@@ -69,12 +70,14 @@ pub knows_kept : (net : Network) (intent : Intent) (c : Compiled) → IsNetwork 
 knows_kept net intent c network is answers =
     knows_states net intent network (flat-by net answers.whole answers.flat) is c.solution answers.found.solution
 
-pub knows_long : (net : Network) (intent : Intent) (c : Compiled) → IsNetwork net → IsIntent net intent → IntentAnswers net intent (Err (faults.TooLong c))
+pub knows_long : (net : Network) (intent : Intent) (c : Compiled) → IsNetwork net → IsIntent net intent
+    → IntentAnswers net intent (Err (faults.TooLong c))
     → KnowsStates net c.solution
 knows_long net intent c network is answers =
     knows_states net intent network (flat-by net answers.whole answers.flat) is c.solution answers.found.solution
 
-pub knows_over : (net : Network) (intent : Intent) (c : Compiled) → IsNetwork net → IsIntent net intent → IntentAnswers net intent (Err (faults.HopLimit c))
+pub knows_over : (net : Network) (intent : Intent) (c : Compiled) → IsNetwork net → IsIntent net intent
+    → IntentAnswers net intent (Err (faults.HopLimit c))
     → KnowsStates net c.solution
 knows_over net intent c network is answers =
     knows_states net intent network (flat-by net answers.whole answers.flat) is c.solution answers.found.solution

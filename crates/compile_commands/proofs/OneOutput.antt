@@ -26,7 +26,7 @@ module _ (Wants : Wanted) (wants : WantsOne Wants) where
   some-memory net intent answer output is e =
       wants.some net intent output (subst (λ (x : Result Compiled CompileFault). Wants net intent x output) e is)
 
-  compiled-one : (net : Network) (intent : Intent) (a b : Output) → CompiledWants Wants net intent a → CompiledWants Wants net intent b
+  pub compiled-one : (net : Network) (intent : Intent) (a b : Output) → CompiledWants Wants net intent a → CompiledWants Wants net intent b
       → a ≡ b
   compiled-one net intent a b one two =
       let same : one.0 ≡ two.0
@@ -66,7 +66,8 @@ answer-one net intent (Err (faults.TooLong found)) a b one two = one ∙ sym two
 answer-one net intent (Err (faults.HopLimit found)) a b one two = one ∙ sym two
 answer-one net intent (Err faults.NoMemory) a b one two = absurd one
 
-pub compile-one : (file intent : List ℕ) (held : Held) (input other : List ℕ) (a b : Output) → (compile_shape file intent).wants held input a
+pub compile-one : (file intent : List ℕ) (held : Held) (input other : List ℕ) (a b : Output)
+    → (compile_shape file intent).wants held input a
     → (compile_shape file intent).wants held other b → a ≡ b
 compile-one file intent held input other a b one two =
     files-one AnswerWants (record { one = answer-one; some = λ net intent output is. is }) (file_named held file) (file_named held intent)

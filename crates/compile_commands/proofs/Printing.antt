@@ -107,7 +107,8 @@ module _ (net : Network) (intent : Intent) (network : IsNetwork net) (is_intent 
       let flat_wants : FlatWants net intent (Ok tt) (Some text) output
       = subst (λ (r : Result (Unit {0}) NotFlat). FlatWants net intent r (Some text) output) flat wants in
       let read : CertWants net intent (Ok (certificate_of head s)) output
-      = subst (λ (r : Result Cert Refusal). CertWants net intent r output) (cert-read s comments text laws is all parts small (flat-by whole flat))
+      = subst (λ (r : Result Cert Refusal). CertWants net intent r output)
+      (cert-read s comments text laws is all parts small (flat-by whole flat))
       flat_wants in
       let same : read.0 ≡ verdict
       = one-verdict v (certificate_of head s) read.0 verdict laws (solution-cert v head s is) read.1.is (certifies head) in

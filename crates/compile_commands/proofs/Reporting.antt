@@ -116,7 +116,8 @@ container-comments [] h = All-nil IsComment
 container-comments (v ∷ vs) h =
     let below = All-head (λ (a : ℕ). a < 2 ^ 128) v vs h in
     All-cons IsComment (container_text v) (map container_text vs)
-    (comment (container_text v) refl (lacks-joined 10 (codes "# container ") (address_text v) (plain-lacks 10 (codes "# container ") refl) (address-lacks v below)))
+    (comment (container_text v) refl (lacks-joined 10 (codes "# container ") (address_text v)
+    (plain-lacks 10 (codes "# container ") refl) (address-lacks v below)))
     (container-comments vs (All-tail (λ (a : ℕ). a < 2 ^ 128) v vs h))
 
 number-comments : (count header need : ℕ) → All IsComment (numbers_texts count header need)
@@ -125,9 +126,11 @@ number-comments count header need =
     let second : List ℕ = codes "# header " ++ decimal header in
     let third : List ℕ = codes "# need " ++ decimal need in
     All-cons IsComment first (second ∷ third ∷ [])
-    (comment first refl (lacks-joined 10 (codes "# containers ") (decimal count) (plain-lacks 10 (codes "# containers ") refl) (decimal-lacks count)))
+    (comment first refl (lacks-joined 10 (codes "# containers ") (decimal count) (plain-lacks 10 (codes "# containers ") refl)
+    (decimal-lacks count)))
     (All-cons IsComment second (third ∷ [])
-    (comment second refl (lacks-joined 10 (codes "# header ") (decimal header) (plain-lacks 10 (codes "# header ") refl) (decimal-lacks header)))
+    (comment second refl (lacks-joined 10 (codes "# header ") (decimal header) (plain-lacks 10 (codes "# header ") refl)
+    (decimal-lacks header)))
     (All-cons IsComment third []
     (comment third refl (lacks-joined 10 (codes "# need ") (decimal need) (plain-lacks 10 (codes "# need ") refl) (decimal-lacks need)))
     (All-nil IsComment)))

@@ -1,6 +1,5 @@
 -- Where no step is to reach a node and no SID binds a policy, what is wanted goes by strict steps.
-use Rattle.std.proofs.Common.{◌≡◌, ◌↔◌, ℕ, List, Option, None, Some, Result, Ok, Err, sym, subst}
-use Rattle.std.specs.Prelude.{IsSomeAnd}
+use Rattle.std.proofs.Common.{◌↔◌, ℕ, List, Option, None, Some, Result, Ok, Err, sym, subst}
 use Rattle.net_model.specs.Network.{Network}
 use Rattle.flat_networks.specs.declared.not_flat.NotFlat.{NotFlat}
 use Rattle.intent_reader.specs.declared.intent.Intent.{Intent}
@@ -9,7 +8,6 @@ use Rattle.list_certificate.specs.declared.types.Cert.{Cert}
 use Rattle.list_certificate.specs.declared.types.Verdict.{Verdict}
 use Rattle.list_certificate.specs.Verdicts.{IsVerdict}
 use Rattle.leg_table.specs.Value.{legs_value}
-use Rattle.intent_legs.specs.Legs.{intent_legs_value}
 use Rattle.intent_legs.specs.Kinds.{BindsNothing, ReachesNothing}
 use Rattle.intent_legs.proofs.PublicLaws.{answers-strict, handing-strict, legs-strict, none_less-strict, says-strict}
 use Rattle.command_output.specs.declared.refusal.Refusal.{Refusal}

@@ -152,7 +152,8 @@ check_shape file intent cert = record {
   lines_last = true;
   statuses = statuses.Done ∷ statuses.Refused ∷ statuses.SaysNo ∷ [];
   wants = λ held input output.
-      IsSomeAnd (file_named held file) (λ text. CheckedNetworkWants (network_in text) (file_named held intent) (file_named held cert) output);
+      IsSomeAnd (file_named held file) (λ text. CheckedNetworkWants (network_in text) (file_named held intent)
+      (file_named held cert) output);
 }
 
 -- What `check` has to write, as its steps answer it.

@@ -131,7 +131,8 @@ compile_shape file intent = record {
   leaves_input = λ held. ⊤;
   lines_last = true;
   statuses = statuses.Done ∷ statuses.Refused ∷ statuses.NoAnswer ∷ [];
-  wants = λ held input output. IsSomeAnd (file_named held file) (λ text. NetworkWants AnswerWants (network_in text) (file_named held intent) output);
+  wants = λ held input output. IsSomeAnd (file_named held file)
+      (λ text. NetworkWants AnswerWants (network_in text) (file_named held intent) output);
 }
 
 -- What `compile` has to write, as its steps answer it.

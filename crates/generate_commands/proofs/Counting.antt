@@ -1,5 +1,5 @@
 -- Walks that are counted: what was counted so far with what is left comes to the whole.
-use Rattle.std.proofs.Common.{◌≡◌, ℕ, suc, ◌+◌, cond, List, [], ◌∷◌, ◌++◌, Some, None, refl, sym, ap, subst, ◌∙◌, arith}
+use Rattle.std.proofs.Common.{◌≡◌, ℕ, suc, ◌+◌, cond, List, [], ◌∷◌, ◌++◌, Some, None, sym, ap, subst, ◌∙◌, arith}
 use Rattle.std.specs.Prelude.{count_by}
 use Rattle.std.specs.List.{flat_map, range_with_len}
 use Rattle.std.proofs.lemmas.List.Sums.{sum_by-append}
@@ -7,7 +7,6 @@ use Rattle.srv6_rules.specs.Packet.{Content}
 use Rattle.net_model.specs.Network.{Network}
 use Rattle.walk_rules.specs.declared.place.Place.{Place}
 use Rattle.walk_rules.specs.declared.place.Outcome.{Outcome}
-use Rattle.walk_rules.specs.declared.place.Outcome.TheVariants as outcomes
 use Rattle.walk_rules.specs.declared.place.Ended.{Ended}
 use Rattle.walk_rules.specs.declared.place.Ended.TheVariants as ends
 use Rattle.walk_rules.specs.Relation.{IsPlace}
@@ -20,7 +19,8 @@ use Rattle.packet_walk.proofs.PublicLaws.{end_of-cons, goes_on}
 use Rattle.run_commands.proofs.PublicLaws.{step_by, walk_goes_on, walk_ends}
 
 -- a packet that enters within the network stands at a place of it
-pub comes-placed : (net : Network) (entry : Entry) (comes : Comes) → EntersIn net entry → Some comes ≡ comes_of entry → IsPlace net comes.place
+pub comes-placed : (net : Network) (entry : Entry) (comes : Comes) → EntersIn net entry → Some comes ≡ comes_of entry
+    → IsPlace net comes.place
 comes-placed net (Staying stays) comes within is = absurd (cc)
 comes-placed net (Entering other) comes within is =
     let same : other ≡ comes = cc in

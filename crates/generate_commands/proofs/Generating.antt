@@ -53,7 +53,8 @@ module _ (net : Network) (intent : Intent) where
       → refusal ≡ flat_refusal net why → Generates (CompiledWants SumWants net intent) (Err (halts.Refused refusal))
   summed_flat why refusal answers is = (Err (faults.NotFlat why), answers.0, answers.1, ap refused is)
 
-  pub summed_none : (s : Solution) (line : Text) → SummaryAnswers net intent PACKETS (Err (faults.NoList s)) → bytes_of_text line ≡ none_line
+  pub summed_none : (s : Solution) (line : Text) → SummaryAnswers net intent PACKETS (Err (faults.NoList s))
+      → bytes_of_text line ≡ none_line
       → Generates (CompiledWants SumWants net intent) (Ok (generates.NoList line))
   summed_none s line answers is = (Err (faults.NoList s), answers.0, answers.1, ap no_list is)
 
@@ -116,7 +117,8 @@ module _ (n : ℕ) (made : Made) (f : FilesSeen) (s : SourceSeen) where
   takes-how (Some how) = takes (At ToOut how) refl refl tt refl
 
   -- nothing was made
-  pub gen_halted : (halt : Halt) (o : SinkSeen) → Generates (GenWants n made) (Err halt) → CommandsOut (gen_shape n made) (Err halt) f f s s o o
+  pub gen_halted : (halt : Halt) (o : SinkSeen) → Generates (GenWants n made) (Err halt)
+      → CommandsOut (gen_shape n made) (Err halt) f f s s o o
   gen_halted (halts.Refused refusal) o h =
       refused_commands (gen_shape n made) refusal f f s s o h (inr (inl refl)) (takes Never refl refl tt refl)
   gen_halted (halts.Failed failures.Fault) o none = absurd none

@@ -1,2 +1,4 @@
 pub mod Counting
 pub mod Generating
+pub mod OneOutput
+pub mod PublicLaws

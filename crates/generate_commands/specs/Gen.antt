@@ -10,7 +10,6 @@ use Rattle.net_model.specs.Network.{Network}
 use Rattle.intent_reader.specs.declared.intent.Intent.{Intent}
 use Rattle.path_compiler.specs.declared.compiled.Compiled.{Compiled}
 use Rattle.path_compiler.specs.declared.compiled.CompileFault.{CompileFault}
-use Rattle.path_compiler.specs.declared.compiled.CompileFault.TheVariants as faults
 use Rattle.generate_commands.specs.declared.gen_.Generated.{Generated}
 use Rattle.generate_commands.specs.declared.gen_.Generated.TheVariants as generates
 use Rattle.generate_commands.specs.declared.gen_.Made.{Made}
@@ -21,10 +20,9 @@ use Rattle.command_output.specs.declared.halt.Halt.{Halt}
 use Rattle.command_output.specs.declared.halt.Halt.TheVariants as halts
 use Rattle.command_output.specs.declared.status.Status.TheVariants as statuses
 use Rattle.generate_commands.specs.declared.summed.Summary.{Summary}
-use Rattle.walk_commands.specs.Lists.{NetworkWants, hop_limit_line, none_line, too_long_line}
-use Rattle.command_output.specs.Halts.{flat_refusal}
+use Rattle.walk_commands.specs.Lists.{NetworkWants}
 use Rattle.command_output.specs.Outputs.{refused, reported}
-use Rattle.walk_commands.specs.Walk.{no_list}
+use Rattle.walk_commands.specs.Walk.{NoListWants, no_list}
 use Rattle.command_inputs.specs.Judgements.{network_in}
 use Rattle.command_output.specs.Lines.{bytes_of_text}
 use Rattle.command_output.specs.Pieces.{Output}
@@ -96,14 +94,10 @@ abbrev pub summary_lines : Summary → List ℕ
 summary_lines s =
     network_lines s.nodes s.links s.routes s.sids ++ (list_lines s.containers s.header s.need ++ walks_lines s.packets s.frames s.left)
 
--- the output of an answer of the compiler: the summary, or the line that `compile` has; want of memory has none
+-- the output of an answer of the compiler: the summary, or what `walk` has where there is no list
 abbrev pub SumWants : Network → Intent → Result Compiled CompileFault → Output → Type 0
 SumWants net intent (Ok c) output = output ≡ reported (summary_lines (summary_of net intent c PACKETS)) [] statuses.Done
-SumWants net intent (Err (faults.NotFlat why)) output = output ≡ refused (flat_refusal net why)
-SumWants net intent (Err (faults.NoList solution)) output = output ≡ no_list none_line
-SumWants net intent (Err (faults.TooLong found)) output = output ≡ no_list (too_long_line found.containers)
-SumWants net intent (Err (faults.HopLimit found)) output = output ≡ no_list (hop_limit_line found.need)
-SumWants net intent (Err faults.NoMemory) output = ⊥
+SumWants net intent (Err fault) output = NoListWants net fault output
 
 -- its own texts are judged as `compile` judges those of two files
 abbrev pub GenWants : ℕ → Made → Output → Type 0

@@ -5,6 +5,7 @@
 
 pub mod figures;
 mod gen_;
+pub mod laws;
 mod summed;
 mod summing;
 

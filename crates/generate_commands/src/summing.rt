@@ -19,7 +19,7 @@ use packet_walk::decisions_of;
 use path_compiler::{CompileFault, Compiled};
 use pcap_io::{LentBody, LentFrame};
 use pkt_buf::PktBuf;
-use run_commands::{Comes, Enters, staged};
+use run_commands::{Comes, Enters, take_stage};
 use std::alloc::Global;
 use walk_commands::lists::least_list;
 use walk_commands::{Headend, headend_of};
@@ -95,7 +95,7 @@ fn count_walk(alloc: Global, net: &Net, comes: Comes, choices: &[u32]) -> Result
     let mut sent = 0;
     for used in 0..MAX_STAGES {
         let choice = choices[taken % choices.len()];
-        let outcome = staged(alloc, net, &place, &mut content, choice, &mut error)?;
+        let outcome = take_stage(alloc, net, &place, &mut content, choice, &mut error)?;
         taken += decisions_of(&outcome);
         sent += frames_of(&outcome);
         match next_place(net, &place, &outcome) {

@@ -1,5 +1,5 @@
 -- Packets that enter, frame by frame.
-use Rattle.std.proofs.Common.{◌≡◌, ℕ, ◌+◌, ◌^◌, ◌<◌, ◌≤◌, List, [], ◌∷◌, ◌++◌, length, get_or, Option, Some, None, IfSome, refl, sym, ap, ◌∙◌, subst, append-nil, length-append, arith}
+use Rattle.std.proofs.Common.{◌≡◌, ℕ, ◌+◌, ◌<◌, ◌≤◌, List, [], ◌∷◌, ◌++◌, length, get_or, Option, Some, None, IfSome, refl, sym, ap, ◌∙◌, subst, append-nil, length-append, arith}
 use Rattle.std.specs.List.{flat_map}
 use Rattle.std.specs.Prelude.{All}
 use Rattle.std.proofs.lemmas.List.Elements.{All-push, All-get_or, All-from_get_or}
@@ -11,7 +11,7 @@ use Rattle.packet_walk.specs.Rest.{rest_of}
 use Rattle.packet_walk.specs.Schedule.{Coming, comings, comings_of}
 use Rattle.packet_walk.proofs.PublicLaws.{rising-push}
 use Rattle.command_inputs.specs.Frames.{FramesSeen, FindsFrame}
-use Rattle.command_inputs.proofs.PublicLaws.{FramesLeft, all_left, at_hand, flat_one, frames_done, one_done}
+use Rattle.command_inputs.proofs.PublicLaws.{FramesLeft, all_left, at_hand, flat_one, one_done}
 use Rattle.run_commands.specs.declared.enters.Comes.{Comes}
 use Rattle.run_commands.specs.Entry.{Entry, comes_of, coming_if_comes, coming_of_frame, in_flight_if_comes}
 use Rattle.run_commands.specs.Scheduled.{IsEntered, IsInStep, coming}
@@ -23,12 +23,14 @@ below-more numbers last number more below = All-from_get_or (λ n. n ≤ number)
 
 -- one more packet, with its number
 comings-push : (net : Network) (numbers : List ℕ) (packets : List InFlight) (number : ℕ) (p : InFlight) → length numbers ≡ length packets
-    → comings net (numbers ++ number ∷ []) (packets ++ p ∷ []) ≡ comings net numbers packets ++ record { number = number; steps = rest_of net p } ∷ []
+    → comings net (numbers ++ number ∷ []) (packets ++ p ∷ [])
+    ≡ comings net numbers packets ++ record { number = number; steps = rest_of net p } ∷ []
 comings-push net [] [] number p each = refl
 comings-push net [] (q ∷ packets) number p each = absurd (omega (arith, each))
 comings-push net (n ∷ numbers) [] number p each = absurd (omega (arith, each))
 comings-push net (n ∷ numbers) (q ∷ packets) number p each =
-    ap (λ (more : List Coming). record { number = n; steps = rest_of net q } ∷ more) (comings-push net numbers packets number p (omega (arith, each)))
+    ap (λ (more : List Coming). record { number = n; steps = rest_of net q } ∷ more)
+    (comings-push net numbers packets number p (omega (arith, each)))
 
 -- the packets that entered so far are these, and their frames' numbers are no more than a last one
 pub record HasEntered (net : Network) (last : ℕ) (packets : List Coming) (numbers : List ℕ) (f : Flight) : Type 0 where
@@ -109,7 +111,8 @@ module _ (net : Network) (choices : List ℕ) (entry : Body → Entry) where
   packets = coming_of_frame net choices entry
 
   -- what comes with a frame is what enters of it
-  comes-as : (number : ℕ) (comes : Option Comes) → coming_if_comes net choices number comes ≡ coming_if net number (in_flight_if_comes choices comes)
+  comes-as : (number : ℕ) (comes : Option Comes)
+      → coming_if_comes net choices number comes ≡ coming_if net number (in_flight_if_comes choices comes)
   comes-as number None = refl
   comes-as number (Some comes) = refl
 
@@ -118,9 +121,6 @@ module _ (net : Network) (choices : List ℕ) (entry : Body → Entry) where
 
   module _ (whole old new : FramesSeen) (numbers : List ℕ) (f : Flight) (e : EnteredOf packets net whole old numbers f)
       (h : FindsFrame old new) where
-    pub entering_room : length f.packets + 1 < 2 ^ 32
-    entering_room = omega (arith, e.has.few, h.taken, h.few)
-
     pub entering_one : (numbers_new : List ℕ) (g : Flight)
         → IfSome new.at (λ frame. IsEntered frame.number (enters-of frame) numbers f numbers_new g)
         → EnteredOf packets net whole new numbers_new g
@@ -139,7 +139,3 @@ module _ (net : Network) (choices : List ℕ) (entry : Body → Entry) where
               (enters_as net old.taken (flat_map packets e.left.done) f numbers h.frame.number (omega (arith, h.number)) e.has
               (enters-of h.frame) numbers_new g one));
         }
-
-pub entering_all : (packets : Frame → List Coming) (net : Network) (whole now : FramesSeen) (numbers : List ℕ) (f : Flight)
-    → EnteredOf packets net whole now numbers f → now.frames ≡ [] → comings_of numbers f ≡ flat_map packets whole.frames
-entering_all packets net whole now numbers f e none = e.has.those ∙ ap (flat_map packets) (frames_done whole now e.left none)

@@ -63,7 +63,8 @@ module _ (net : Network) where
   walk-steps : (number : ℕ) (place : Place) (content : Content) (pick : ℕ → ℕ)
       → All (λ (c : Coming). 0 < length c.steps) (coming number (walk_of MAX_STAGES net (Some place) content pick 0))
   walk-steps number place content pick =
-      All-cons (λ (c : Coming). 0 < length c.steps) (record { number = number; steps = walk_of MAX_STAGES net (Some place) content pick 0 }) []
+      All-cons (λ (c : Coming). 0 < length c.steps)
+      (record { number = number; steps = walk_of MAX_STAGES net (Some place) content pick 0 }) []
       (subst (λ (steps : List Stage). 0 < length steps) (sym (first-step net number place content pick)) (omega arith))
       (All-nil (λ (c : Coming). 0 < length c.steps))
 
@@ -77,7 +78,8 @@ all-walk packets each (frame ∷ more) =
 -- so the packets of frames differ in their numbers, where each frame has one at most
 
 abbrev IsOne : (Frame → List Coming) → Type 1
-IsOne packets = (frame : Frame) (P : List Coming → Type 0) → P [] → ((steps : List Stage) → P (coming frame.number steps)) → P (packets frame)
+IsOne packets = (frame : Frame) (P : List Coming → Type 0) → P [] → ((steps : List Stage) → P (coming frame.number steps))
+    → P (packets frame)
 
 abbrev numbers : List Coming → List ℕ
 numbers comings = map (λ (c : Coming). c.number) comings

@@ -192,7 +192,8 @@ outs-same f (frame ∷ frames) =
     ∙ ap (λ (b : List (Which × ℕ)). b ++ []) (sym (map-append (λ byte. (ToOut, byte)) (f frame) (flat_map f frames))))
 
 pub outs_went : (f : Frame → List ℕ) (frames : List Frame) (ending : Ending) (old new : Pooled)
-    → Goes ending (flat_map (λ (frame : Frame). ForOut (f frame) ∷ []) frames) old new → Goes ending (ForOut (flat_map f frames) ∷ []) old new
+    → Goes ending (flat_map (λ (frame : Frame). ForOut (f frame) ∷ []) frames) old new
+    → Goes ending (ForOut (flat_map f frames) ∷ []) old new
 outs_went f frames ending old new goes =
     goes_same ending (flat_map (λ (frame : Frame). ForOut (f frame) ∷ []) frames) (ForOut (flat_map f frames) ∷ []) old new
     (outs-same f frames) goes

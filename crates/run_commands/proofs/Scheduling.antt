@@ -61,7 +61,8 @@ module _ (net : Network) where
 
   -- packets one after the other
   frames-same : (packets : Frame → List Coming)
-      → ((frame : Frame) → bytes_in_order (pieces_of_frame net packets frame) ≡ bytes_in_order (pieces_of_stages net (one_by_one (packets frame))))
+      → ((frame : Frame) → bytes_in_order (pieces_of_frame net packets frame)
+      ≡ bytes_in_order (pieces_of_stages net (one_by_one (packets frame))))
       → (frames : List Frame) → bytes_in_order (flat_map (pieces_of_frame net packets) frames)
       ≡ bytes_in_order (scheduled_pieces net [] (flat_map packets frames))
   frames-same packets each [] = refl
@@ -104,7 +105,8 @@ module _ (net : Network) (choices : List ℕ) (entry : Body → Entry) where
 
   in-order : (frames : List Frame) → bytes_in_order (flat_map (pieces_of_frame net (coming_of_frame net choices entry)) frames)
       ≡ bytes_in_order (scheduled_pieces net [] (comings_of_frames net choices entry frames))
-  in-order frames = frames-same net (coming_of_frame net choices entry) (λ frame. comes-same frame.number (comes_of (entry frame.body))) frames
+  in-order frames = frames-same net (coming_of_frame net choices entry)
+      (λ frame. comes-same frame.number (comes_of (entry frame.body))) frames
 
   -- a step that wrote the packets one after the other wrote them under no schedule
   pub wrote_in_order : (frames : List Frame) (schedule : List ℕ) → length schedule ≡ 0 → (ending : Ending) (old new : Pooled)

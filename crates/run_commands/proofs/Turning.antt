@@ -198,7 +198,8 @@ module _ (f : Flight) (packet : ℕ) (given : IsGiven f packet) (going : IfSome 
           (ended-by net same number ending q r ends))
 
 -- of all stages these are done, and the others are due
-pub record InTurns (net : Network) (numbers : List ℕ) (whole : List Taken) (now : Progress) (f : Flight) (first pool : Pooled) : Type 0 where
+pub record InTurns (net : Network) (numbers : List ℕ) (whole : List Taken) (now : Progress) (f : Flight)
+    (first pool : Pooled) : Type 0 where
   pub same_net : f.net ≡ net
   pub same_numbers : now.numbers ≡ numbers
   pub of : IsOf f now

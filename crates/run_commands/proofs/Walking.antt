@@ -123,7 +123,8 @@ module _ (number : ℕ) (net : Network) (all more : ℕ) (place : Place) (conten
     (whole : List Stage)
     (first now later : Pooled) (is : all ≡ suc more) (gives : step_of net place content (pick taken) ≡ gave)
     (p : Progress number net (walk_of all net (Some place) content pick taken) whole first now) where
-  pub staged_on : (next : Place) → next_place net place gave.outcome ≡ Some next → Goes Whole (ForOut (frame_of_gave number gave) ∷ []) now later
+  pub staged_on : (next : Place) → next_place net place gave.outcome ≡ Some next
+      → Goes Whole (ForOut (frame_of_gave number gave) ∷ []) now later
       → Progress number net (walk_of more net (Some next) gave.after pick (taken + decisions gave.outcome)) whole first later
   staged_on next goes went = progress_on number net (walk_of all net (Some place) content pick taken) whole
       (walk_of more net (Some next) gave.after pick (taken + decisions gave.outcome))
@@ -161,7 +162,8 @@ pub error_went : (ending : Ending) (number : ℕ) (reason : Reason) (sends : Boo
     → Goes ending (ForOut (written_frame_bytes number 0 bytes) ∷ []) first now
     → Goes ending (ForOut (frame_by number (outcomes.Drop reason sends) after told) ∷ []) first now
 error_went ending number reason sends after told bytes first now is tells has wrote =
-    subst (λ (frame : List ℕ). Goes ending (ForOut frame ∷ []) first now) (error-frame number reason sends after told bytes is tells has) wrote
+    subst (λ (frame : List ℕ). Goes ending (ForOut frame ∷ []) first now)
+    (error-frame number reason sends after told bytes is tells has) wrote
 
 pub no_error_went : (number : ℕ) (reason : Reason) (sends : Bool) (after : Content) (told : Option Packet)
     → (now : Pooled) → sends ≡ false → sends ≡ is_some told

@@ -148,7 +148,8 @@ step-writable net place content choice keeps is fits =
     (stage-step net place content choice keeps is) (step-content net place content choice keeps fits)
 
 pub gave_writable : (net : Network) (place : Place) (content : Content) (choice : ℕ) (gave : Gave)
-    → gave ≡ step_of net place content choice → Keeps net → IsPlace net place → IsContent content → IsWritable gave.outcome (bytes_of gave.after)
+    → gave ≡ step_of net place content choice → Keeps net → IsPlace net place → IsContent content
+    → IsWritable gave.outcome (bytes_of gave.after)
 gave_writable net place content choice gave gives keeps is fits =
     subst (λ (g : Gave). IsWritable g.outcome (bytes_of g.after)) (sym gives) (step-writable net place content choice keeps is fits)
 

@@ -40,7 +40,12 @@ run_words words = run_by (two_words (codes "run") words)
 
 -- as the code has them
 abbrev pub run_words_seen : code.RunWords → RunWords
-run_words_seen words = record { file = words.file.now; node = words.node.now; choices = words.choices.items; schedule = words.schedule.items }
+run_words_seen words = record {
+  file = words.file.now;
+  node = words.node.now;
+  choices = words.choices.items;
+  schedule = words.schedule.items;
+}
 
 abbrev pub run_asked : Option code.RunWords → Option RunWords
 run_asked None = None

@@ -66,4 +66,5 @@ pub record IsInStep (net : Network) (numbers : List ℕ) (f : Flight) : Type 0 w
 -- a packet, if there is one, entered after the others, with the number of its frame, whatever is spare in front of it
 abbrev pub IsEntered : ℕ → Option InFlight → List ℕ → Flight → List ℕ → Flight → Type 0
 IsEntered number None numbers_old old numbers_new new = (numbers_new ≡ numbers_old) × (new ≡ old)
-IsEntered number (Some p) numbers_old old numbers_new new = (numbers_new ≡ numbers_old ++ number ∷ []) × ((front : ℕ) × (new ≡ entered old (with_front front p)))
+IsEntered number (Some p) numbers_old old numbers_new new =
+    (numbers_new ≡ numbers_old ++ number ∷ []) × ((front : ℕ) × (new ≡ entered old (with_front front p)))

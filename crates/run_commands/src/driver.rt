@@ -13,7 +13,8 @@ ghost use Rattle.run_commands.specs.Scheduled.{IsEntered, IsInStep, scheduled_pi
 
 use crate::course::Course;
 use crate::enters::{Comes, Enters, Stays};
-use crate::put_walk::{put_head, put_walk};
+use crate::put_stage::put_head;
+use crate::put_walk::put_walk;
 use crate::scheduled::{Entered, put_turns};
 use base::NoMemory;
 use command_inputs::{Found, Frames, Packets, Puts, put_frames};
@@ -24,8 +25,8 @@ use pkt_buf::PktBuf;
 use srx_edge::Sink;
 use std::alloc::Global;
 
-/// Room for the longest line of a packet, so that no line asks for memory: it has a number of at most
-/// 10 digits, a reason, and a name of at most 32 bytes.
+/// Room for the longest line of a packet, so that no line asks for memory: it has a number of at
+/// most 10 digits, a reason, and a name of at most 32 bytes.
 const LINE_ROOM: usize = 128;
 
 /// Writes the line of a packet that stays, by a text whose bytes are replaced. (own rule)
@@ -84,8 +85,8 @@ impl<W: Enters> Puts for Staying<'_, W> {
 }
 
 /// What is written of the packets that enter, each of which is walked to its end before the next.
-/// No packet is kept in memory after its end: its buffer is handed on to the next, and so is the text
-/// of its line.
+/// No packet is kept in memory after its end: its buffer is handed on to the next, and so is the
+/// text of its line.
 #[derive(Drop)]
 struct Walking<'a, W> {
     course: &'a Course<'a>,
@@ -95,8 +96,8 @@ struct Walking<'a, W> {
 }
 
 impl<W: Enters> Walking<'_, W> {
-    /// Writes what the walk of a packet that enters sends, and then its line; the buffer in which it
-    /// stood is handed on.
+    /// Writes what the walk of a packet that enters sends, and then its line; the buffer in which
+    /// it stood is handed on.
     fn walk<O: Sink, E: Sink>(
         &mut self,
         alloc: Global,
@@ -298,11 +299,11 @@ fn drive_frames<N: Frames, W: Enters, O: Sink, E: Sink>(
     Ok(fault)
 }
 
-/// Writes the capture's head, the lines of the packets of the input that stay, by their numbers, and
-/// then walks those that enter, in the order of the schedule, or one after the other where there is
-/// none: what each stage sends, and after a packet's last stage its line. It goes out in groups, and
-/// nothing waits at the end; after a fault or want of memory what still waited is lost. Gives the
-/// refusal of what comes after the frames, if anything does. (own rule)
+/// Writes the capture's head, the lines of the packets of the input that stay, by their numbers,
+/// and then walks those that enter, in the order of the schedule, or one after the other where
+/// there is none: what each stage sends, and after a packet's last stage its line. It goes out in
+/// groups, and nothing waits at the end; after a fault or want of memory what still waited is lost.
+/// Gives the refusal of what comes after the frames, if anything does. (own rule)
 pub fn drive<W: Enters, O: Sink, E: Sink>(
     alloc: Global,
     course: &Course<'_>,

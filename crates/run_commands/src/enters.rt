@@ -42,9 +42,10 @@ pub trait Enters {
         requires { ready self.now }
         ensures { result ≡ stays_of (entry self.now frame.now.body) };
 
-    /// A frame's packet as it enters, if it does: a copy of the frame's bytes in a buffer, in place of
-    /// those that it held, with room in front for the longest header of a policy; a buffer without
-    /// bytes is left in its place. Memory is taken only where the buffer has fewer bytes in all.
+    /// A frame's packet as it enters, if it does: a copy of the frame's bytes in a buffer, in place
+    /// of those that it held, with room in front for the longest header of a policy; a buffer
+    /// without bytes is left in its place. Memory is taken only where the buffer has fewer bytes in
+    /// all.
     fn enter(&self, frame: &LentFrame<'_>, buf: &mut PktBuf) -> Result<Option<Comes>, NoMemory>
         requires { ready self.now }
         ensures { IfOk result (λ comes. comes ≡ comes_of (entry self.now frame.now.body)) };

@@ -11,8 +11,8 @@ ghost use Rattle.run_commands.specs.Capture.{frames_of};
 ghost use Rattle.run_commands.specs.Run.{comings_from};
 ghost use Rattle.run_commands.specs.Scheduled.{frame_of_stage, frames_sent, line_of_stage, line_of_walk, lines_told, scheduled_pieces};
 
-/// What is for `out` of the pieces in the order of a schedule are the frames that the stages send, in
-/// that order, and what is for `err` the lines after the packets' last stages. (own rule)
+/// What is for `out` of the pieces in the order of a schedule are the frames that the stages send,
+/// in that order, and what is for `err` the lines after the packets' last stages. (own rule)
 pub fn pieces_are_those_of_stages()
     ensures out { (net : Network) (schedule : List ℕ) (comings : List Coming) →
         bytes_for_out (scheduled_pieces net schedule comings)
@@ -22,15 +22,16 @@ pub fn pieces_are_those_of_stages()
         ≡ flat_map (line_of_stage net) (scheduled schedule comings) }
 {}
 
-/// Whatever the schedule, the frames of a packet are those of its own walk, in their order, and it has
-/// one line, that of its own walk's end; for its walk has a stage. So two schedules give each packet
-/// the same frames in the same order and the same line, and only their mixing differs. The packets
-/// are those of a capture, or the bare one. (own rule)
+/// Whatever the schedule, the frames of a packet are those of its own walk, in their order, and it
+/// has one line, that of its own walk's end; for its walk has a stage. So two schedules give each
+/// packet the same frames in the same order and the same line, and only their mixing differs. The
+/// packets are those of a capture, or the bare one. (own rule)
 pub fn a_schedule_mixes_walks()
     ensures frames { (net : Network) (node number : ℕ) (choices schedule : List ℕ)
         (packets : Packets) →
         let comings = comings_from net node choices (reading_of packets).frames in
-        frames_sent number (scheduled schedule comings) ≡ frames_of number (steps_of number comings) }
+        frames_sent number (scheduled schedule comings)
+        ≡ frames_of number (steps_of number comings) }
     ensures lines { (net : Network) (node number : ℕ) (choices schedule : List ℕ)
         (packets : Packets) →
         let comings = comings_from net node choices (reading_of packets).frames in

@@ -1,115 +1,25 @@
 //! A packet's walk, written by the pool as it goes.
 
-ghost use Rattle.std.specs.Prelude.{◌≡◌, ◌≤◌, ◌<◌, ◌∷◌, [], IfOk, IfSome, OnErr, OnOk, Option, length};
-ghost use Rattle.icmp6_errors.specs.Answer.{error_bytes};
-ghost use Rattle.pcap_io.specs.Capture.{written_head_bytes};
-ghost use Rattle.srv6_rules.specs.Packet.{Content as ContentValue, Packet as PacketValue, bytes_of};
+ghost use Rattle.std.specs.Prelude.{◌≡◌, ◌<◌, ◌∷◌, [], IfOk, length};
 ghost use Rattle.command_output.specs.Answers.{ending_of_step};
 ghost use Rattle.command_output.specs.Gathered.{Goes, pooled};
 ghost use Rattle.command_output.specs.Pieces.{ForOut};
 ghost use Rattle.command_output.specs.Sent.{IsEnd};
-ghost use Rattle.run_commands.specs.Capture.{IsWritable, frame_by, frames_of};
+ghost use Rattle.run_commands.specs.Capture.{frames_of};
 ghost use Rattle.run_commands.specs.Entry.{walk_of_comes};
-ghost use Rattle.trace_replay.specs.Numbered.{IsNumbered};
-ghost use Rattle.walk_rules.specs.Laws.{TellsOfError};
 ghost use Rattle.walk_rules.specs.Relation.{IsPlace};
-ghost use Rattle.walk_rules.specs.Treatment.{step_of};
-ghost use Rattle.walk_rules.specs.Walk.{next_place as place_after, end_by, end_of};
+ghost use Rattle.walk_rules.specs.Walk.{end_of};
 
 use crate::course::Course;
 use crate::enters::Comes;
-use base::NoMemory;
+use crate::put_stage::{put_sent, take_stage};
 use command_output::{Failure, Pool};
 use icmp6_errors::IcmpSlot;
-use net_model::Net;
-use node_stage::{Content, stage};
+use node_stage::Content;
 use packet_walk::decisions_of;
-use srv6_rules::numbers::MAX_PACKET_LEN;
 use srx_edge::Sink;
 use std::alloc::Global;
-use trace_replay::an_outcome_names_what_is_there;
-use walk_rules::{Ended, MAX_STAGES, Outcome, Place, ended_by, next_place};
-
-/// Writes the capture's head. (own rule)
-#[tactic(auto, using(command_output::proofs::PublicLaws::going))]
-pub fn put_head<O: Sink, E: Sink>(
-    alloc: Global,
-    pool: &mut Pool,
-    out: &mut O,
-    err: &mut E,
-) -> Result<(), Failure>
-    ensures { Goes (ending_of_step result) (ForOut written_head_bytes ∷ [])
-        (pooled pool.old (O.seen out.old) (E.seen err.old))
-        (pooled pool.new (O.seen out.new) (E.seen err.new)) }
-{
-    let mut head = Vec::new(alloc);
-    pcap_io::write_head(&mut head)?;
-    pool.put_out(head.as_slice(), out, err)
-}
-
-/// Writes what a stage sends: the packet on a link, with the link's number from 1 as microseconds, or
-/// the ICMPv6 error about what is dropped, with 0. (own rule)
-#[tactic(auto, using(crate::proofs::Walking::errors))]
-pub fn put_sent<O: Sink, E: Sink>(
-    number: u32,
-    outcome: &Outcome,
-    packet: &[u8],
-    error: &[u8],
-    pool: &mut Pool,
-    out: &mut O,
-    err: &mut E,
-) -> Result<(), Failure>
-    requires writable { IsWritable outcome.now packet.now }
-    requires error { length error.now ≤ MAX_PACKET_LEN }
-    ensures { (after : ContentValue) (told : Option PacketValue) → TellsOfError outcome.now told
-        → packet.now ≡ bytes_of after → error.now ≡ error_bytes told
-        → Goes (ending_of_step result) (ForOut (frame_by number outcome.now after told) ∷ [])
-        (pooled pool.old (O.seen out.old) (E.seen err.old))
-        (pooled pool.new (O.seen out.new) (E.seen err.new)) }
-{
-    match outcome {
-        Outcome::Send { link } => pool.put_frame(number, *link + 1, packet, out, err),
-        Outcome::Drop { error: told, .. } => {
-            if !*told {
-                return Ok(());
-            }
-            pool.put_frame(number, 0, error, out, err)
-        }
-        Outcome::Again { .. } | Outcome::Hand { .. } | Outcome::Local => Ok(()),
-    }
-}
-
-/// One stage, of which what it sends can be written; the slot has the error about what it drops.
-/// `NoMemory` leaves what stands there as it was, and the slot too. (own rule)
-pub fn staged(
-    alloc: Global,
-    net: &Net,
-    place: &Place,
-    content: &mut Content,
-    choice: u32,
-    error: &mut IcmpSlot,
-) -> Result<Outcome, NoMemory>
-    requires { IsPlace net.now place.now }
-    ensures function { IfOk result (λ outcome.
-        let gave = step_of net.now place.now content.old choice in
-        gave ≡ record { outcome = outcome; after = content.new; error = gave.error }) }
-    ensures error { OnOk result (error.new.items
-        ≡ error_bytes (step_of net.now place.now content.old choice).error) }
-    ensures tells { IfOk result (λ outcome.
-        TellsOfError outcome (step_of net.now place.now content.old choice).error) }
-    ensures writable { IfOk result (λ outcome. IsWritable outcome (bytes_of content.new)) }
-    ensures next { IfOk result (λ outcome.
-        IfSome (place_after net.now place.now outcome) (IsPlace net.now)) }
-    ensures ends { IfOk result (λ outcome. IsEnd net.now (end_by net.now place.now outcome)) }
-    ensures numbered { IfOk result (IsNumbered net.now) }
-    ensures kept { OnErr result (content.new ≡ content.old) }
-    ensures last { OnErr result (error.new.items ≡ error.old.items) }
-{
-    net.keeps_rules();
-    an_outcome_names_what_is_there();
-    content.keeps_rules();
-    stage(alloc, net, place, content, choice, error)
-}
+use walk_rules::{Ended, MAX_STAGES, ended_by, next_place};
 
 /// A packet whose walk ended.
 #[derive(Debug, Drop)]
@@ -121,8 +31,8 @@ pub(crate) struct Walked {
 }
 
 /// Walks a packet from where it enters and writes each of its frames, with its number, and that of
-/// the ICMPv6 error about it, if a node sends one. Decision d takes the choice at d modulo the number
-/// of choices. The walk ends as its last stage does, after at most 10,000 stages. (own rule)
+/// the ICMPv6 error about it, if a node sends one. Decision d takes the choice at d modulo the
+/// number of choices. The walk ends as its last stage does, after at most 10,000 stages. (own rule)
 pub(crate) fn put_walk<O: Sink, E: Sink>(
     alloc: Global,
     course: &Course<'_>,
@@ -152,7 +62,7 @@ pub(crate) fn put_walk<O: Sink, E: Sink>(
     let mut taken = 0;
     for used in 0..MAX_STAGES {
         let choice = choices[taken % choices.len()];
-        let outcome = staged(alloc, net, &place, &mut content, choice, &mut error)?;
+        let outcome = take_stage(alloc, net, &place, &mut content, choice, &mut error)?;
         let (packet, told) = (content.bytes(), error.as_slice());
         put_sent(number, &outcome, packet, told, pool, out, err)?;
         taken += decisions_of(&outcome);

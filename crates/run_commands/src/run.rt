@@ -1,5 +1,5 @@
-//! The command `run`: the packets of the input, from a node of the network that a file describes, in
-//! the order of a schedule, or one after the other.
+//! The command `run`: the packets of the input, from a node of the network that a file describes,
+//! in the order of a schedule, or one after the other.
 
 ghost use Rattle.std.specs.Prelude.{◌≡◌, ◌<◌, IfOk, IfSome, length};
 ghost use Rattle.command_output.specs.Answers.{Commands};
@@ -47,32 +47,31 @@ pub fn run_of_words(alloc: Global, words: &[String]) -> Result<Option<RunWords<'
     }))
 }
 
-/// Runs the packets of the input from a node of the network that a file describes. A schedule's entry
-/// gives the packet of that number one stage; one that names no packet in flight gives none; after
-/// the last entry the packets still in flight are run to their ends in the order of their numbers.
-/// Decision d of each packet, counted in its sends from 0, takes the choice at d modulo the number of
-/// choices. The file is judged, then the node's name, then the input, each before the
+/// Runs the packets of the input from a node of the network that a file describes. A schedule's
+/// entry gives the packet of that number one stage; one that names no packet in flight gives none;
+/// after the last entry the packets still in flight are run to their ends in the order of their
+/// numbers. Decision d of each packet, counted in its sends from 0, takes the choice at d modulo
+/// the number of choices. The file is judged, then the node's name, then the input, each before the
 /// next is read. What comes after the last frame of a capture is refused once all packets were
 /// walked. (own rule)
 pub fn run<F: Files, S: Source, O: Sink, E: Sink>(
     alloc: Global,
-    file: &str,
-    node: &str,
-    choices: &[u32],
-    schedule: &[u32],
+    words: &RunWords<'_>,
     files: &mut F,
     input: &mut S,
     out: &mut O,
     err: &mut E,
 ) -> Result<Told, Halt>
-    requires { 0 < length choices.now }
-    ensures { Commands (run_shape file.now node.now choices.now schedule.now) result
+    requires { 0 < length words.now.choices.items }
+    ensures { Commands (run_shape words.now.file.now words.now.node.now words.now.choices.items
+        words.now.schedule.items) result
         (outside (F.seen files.old) (S.seen input.old) (O.seen out.old) (E.seen err.old))
         (outside (F.seen files.new) (S.seen input.new) (O.seen out.new) (E.seen err.new)) }
 {
-    let net = network_of_file(alloc, files, file)?;
-    let node = node_of_name(&net, node)?;
+    let net = network_of_file(alloc, files, words.file)?;
+    let node = node_of_name(&net, words.node)?;
     let packets = packets_of_input(alloc, input)?;
+    let (choices, schedule) = (words.choices.as_slice(), words.schedule.as_slice());
     let course = Course {
         net: &net,
         choices,

@@ -1,6 +1,6 @@
 //! Packets side by side, in turns by a schedule, written by the pool as they go.
 
-ghost use Rattle.std.specs.Prelude.{◌≡◌, ◌≤◌, ◌<◌, ◌+◌, ◌^◌, ◌++◌, ◌∷◌, [], IfSome, None, OnErr, OnOk, Option, Some, length};
+ghost use Rattle.std.specs.Prelude.{◌≡◌, ◌<◌, ◌+◌, ◌^◌, ◌∷◌, [], IfSome, None, OnErr, OnOk, Option, Some, length};
 ghost use Rattle.icmp6_errors.specs.Answer.{error_bytes};
 ghost use Rattle.packet_walk.specs.Flight.{IsGiven, entering, packet_of, turned};
 ghost use Rattle.packet_walk.specs.Schedule.{comings_of, next_of};
@@ -16,7 +16,7 @@ ghost use Rattle.run_commands.specs.Scheduled.{IsEntered, IsInStep, line_by, pie
 ghost use Rattle.command_output.specs.Sent.{IsEnd};
 
 use crate::course::Course;
-use crate::put_walk::put_sent;
+use crate::put_stage::put_sent;
 use base::NoMemory;
 use command_output::{Failure, Pool, write_packet_line};
 use net_model::Net;
@@ -47,8 +47,8 @@ impl<'a> Entered<'a> {
         }
     }
 
-    /// What stands at a place enters there after the packets before it, with the number of its frame,
-    /// and with the choices of its decisions (own rule). `NoMemory` leaves all as it was.
+    /// What stands at a place enters there after the packets before it, with the number of its
+    /// frame, and with the choices of its decisions (own rule). `NoMemory` leaves all as it was.
     pub(crate) fn enter(
         &mut self,
         number: u32,

@@ -16,8 +16,8 @@ fn serve_gen(alloc: Global, size: &str, made: &str) -> Result<Ran, Fail> {
     serve_over(alloc, &["gen", size, made], files, input, &NONE)
 }
 
-/// Three lowerings up to End.X over `a3`: at n1, at n2's own SID and at End.X, or one at End.X of each
-/// of n0, n1 and n2; none at the function. Each packet is sent over four links.
+/// Three lowerings up to End.X over `a3`: at n1, at n2's own SID and at End.X, or one at End.X of
+/// each of n0, n1 and n2; none at the function. Each packet is sent over four links.
 const SUM_OF_3: &str = "nodes 4
 links 7
 routes 7
@@ -30,7 +30,8 @@ frames 4000
 left 1000
 ";
 
-/// Two lowerings in front of the function, at n1 and at a SID. Each packet is sent over three links.
+/// Two lowerings in front of the function, at n1 and at a SID. Each packet is sent over three
+/// links.
 const SUM_OF_2: &str = "nodes 3
 links 5
 routes 4
@@ -43,8 +44,8 @@ frames 3000
 left 1000
 ";
 
-/// Three lowerings up to End.X over `a3`, then one at each of n3 and n4, where it goes on over End.X.
-/// Each packet is sent over six links.
+/// Three lowerings up to End.X over `a3`, then one at each of n3 and n4, where it goes on over
+/// End.X. Each packet is sent over six links.
 const SUM_OF_5: &str = "nodes 6
 links 11
 routes 16

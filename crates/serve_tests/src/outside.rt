@@ -1,5 +1,5 @@
-//! The outside of a call of `serve` in memory: the files, a packet as the input, two sinks, and which
-//! of their calls fail.
+//! The outside of a call of `serve` in memory: the files, a packet as the input, two sinks, and
+//! which of their calls fail.
 
 use srv6_cli::{Status, serve};
 use srx_edge::{MemFiles, MemSink, MemSource};

@@ -4,8 +4,8 @@
 use std::alloc::{AllocError, Global};
 use test_networks::ROW;
 
-/// A block of NEXT-CSIDs of 16 bits, and SIDs of the row: at the second node End, and End.X over its
-/// first link to the third; at the last End, and End.DT6.
+/// A block of NEXT-CSIDs of 16 bits, and SIDs of the row: at the second node End, and End.X over
+/// its first link to the third; at the last End, and End.DT6.
 const SIDS: &str = r#"
 [[block]]
 prefix = "fcbb:bb00::/32"

@@ -1,5 +1,5 @@
 -- What `Serves` says of each fault and want.
-use Rattle.std.proofs.Common.{◌≡◌, ◌≢◌, inl, inr, ℕ, true, List, refl, sym, ap, ◌∙◌, ◌⊎◌}
+use Rattle.std.proofs.Common.{◌≡◌, ◌≢◌, inl, inr, ℕ, true, List, refl, sym, ap, ◌∙◌}
 use Rattle.std.specs.List.{flat_map}
 use Rattle.srx_edge.specs.FilesRead.{FilesSeen}
 use Rattle.srx_edge.specs.Sources.{SourceSeen}
@@ -11,7 +11,7 @@ use Rattle.srv6_cli.specs.Serves.{Serves}
 use Rattle.srv6_cli.specs.Words.{Command}
 use Rattle.srv6_cli.specs.Laws.{HadFault, HadWant, AfterFilesFault, AfterInputFault, AfterOut, AfterOutFault, AfterOutWant, NoFault, NoWant, OneFault, OfServe}
 use Rattle.command_output.specs.Gathered.{gathered}
-use Rattle.command_output.specs.Outside.{Outside, Reads, asked_for_all, files_left_by, ReadsWhole}
+use Rattle.command_output.specs.Outside.{Outside, Reads, asked_for_all, files_left_by}
 use Rattle.command_output.specs.Pieces.{Piece, ToOut, ToErr, Sinks, Stop, Never, AtFiles, AtInput, At, Elsewhere, ending_by, Went}
 use Rattle.command_output.specs.Endings.{ending_of_status, LinesLast}
 use Rattle.srv6_cli.proofs.Stops.{count-stop, files-stop, input-stop}

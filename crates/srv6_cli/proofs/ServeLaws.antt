@@ -17,7 +17,7 @@ use Rattle.srv6_cli.specs.Words.{Command}
 use Rattle.command_output.specs.Gathered.{InGroups, gathered}
 use Rattle.command_output.specs.Lines.{bytes_of_text, refusal_line}
 use Rattle.command_output.specs.Outside.{Outside, AsksAs, Reads, asked_for_all, files_left_by, FailsBy}
-use Rattle.command_output.specs.Pieces.{ForErr, ToErr, Output, Sinks, Stop, Never, AtFiles, AtInput, At, Elsewhere, ending_by, gone, stop_at, Went}
+use Rattle.command_output.specs.Pieces.{ForErr, ToErr, Output, Sinks, Stop, Never, AtFiles, AtInput, At, Elsewhere, ending_by, gone, stop_at}
 use Rattle.command_output.specs.Endings.{ending_of_status, OnWhole, OrNothing, LinesLast, Takes, ReadsIts}
 use Rattle.srv6_cli.specs.Serves.{Serves}
 use Rattle.command_output.specs.Shape.{Shape, names_of, WantedOf, IsOneOf, Held}

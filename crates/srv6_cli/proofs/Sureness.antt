@@ -3,9 +3,7 @@ use Rattle.std.proofs.Common.{◌≡◌, ◌≢◌, ◌⊎◌, inl, inr, ℕ, �
 use Rattle.srx_edge.specs.Edge.{next_count}
 use Rattle.srx_edge.specs.Sources.{SourceSeen}
 use Rattle.srx_edge.specs.Steps.{Fault, Memory, Failing, Wanting}
-use Rattle.command_output.specs.declared.status.Status.{Status}
 use Rattle.command_output.specs.declared.status.Status.TheVariants as statuses
-use Rattle.command_output.specs.Endings.{ending_of_status}
 use Rattle.command_output.specs.Outside.{Outside, Reads, ReadsWhole}
 use Rattle.command_output.specs.Pieces.{Stop, Never, AtFiles, AtInput, At, Elsewhere, ending_by}
 use Rattle.srv6_cli.specs.Command.{shape_of}

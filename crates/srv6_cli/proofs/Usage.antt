@@ -59,4 +59,5 @@ usage-answer (Err halt) f s o h = absurd h
 pub usage_commands : (command : Command) (answer : Result Told Halt) (f : FilesSeen) (s : SourceSeen) (o : SinkSeen) → Unknown ≡ command
     → UsageTold answer
     → CommandsOut (shape_of command) answer f f s s o o
-usage_commands command answer f s o is h = subst (λ (k : Command). CommandsOut (shape_of k) answer f f s s o o) is (usage-answer answer f s o h)
+usage_commands command answer f s o is h =
+    subst (λ (k : Command). CommandsOut (shape_of k) answer f f s s o o) is (usage-answer answer f s o h)

@@ -42,8 +42,8 @@ pub enum Asked<'a> {
     Replay(ReplayWords<'a>),
     /// A text of a generated network, or what walks through it come to.
     Gen(GenWords),
-    /// The inner packets of the input while the tables pass from the description of a file to that of
-    /// another.
+    /// The inner packets of the input while the tables pass from the description of a file to that
+    /// of another.
     Update(UpdateWords<'a>),
     /// The headers of the packets of the input as lines.
     Show,
@@ -112,48 +112,19 @@ pub fn command<F: Files, S: Source, O: Sink, E: Sink>(
         (outside (F.seen files.new) (S.seen input.new) (O.seen out.new) (E.seen err.new)) }
 {
     match asked_of_words(alloc, words)? {
-        Asked::Run(words) => {
-            let (choices, schedule) = (words.choices.as_slice(), words.schedule.as_slice());
-            run::run(
-                alloc, words.file, words.node, choices, schedule, files, input, out, err,
-            )
-        }
+        Asked::Run(words) => run::run(alloc, &words, files, input, out, err),
         Asked::Compile(words) => compile::compile(alloc, words.file, words.intent, files, out),
         Asked::Check(words) => {
             check::check(alloc, words.file, words.intent, words.cert, files, out)
         }
-        Asked::Walk(words) => {
-            let (choices, schedule) = (words.choices.as_slice(), words.schedule.as_slice());
-            walk::walk(
-                alloc,
-                words.file,
-                words.intent,
-                choices,
-                schedule,
-                files,
-                input,
-                out,
-                err,
-            )
-        }
+        Asked::Walk(words) => walk::walk(alloc, &words, files, input, out, err),
         Asked::Trace(words) => {
             let choices = words.choices.as_slice();
             trace::trace(alloc, words.file, words.node, choices, files, input, out)
         }
         Asked::Replay(words) => replay::replay(alloc, words.file, words.trace, files, out),
         Asked::Gen(words) => generate(alloc, words.size, words.made, out),
-        Asked::Update(words) => {
-            let names = (words.old, words.new, words.intent);
-            update::update(
-                alloc,
-                names,
-                words.events.as_slice(),
-                files,
-                input,
-                out,
-                err,
-            )
-        }
+        Asked::Update(words) => update::update(alloc, &words, files, input, out, err),
         Asked::Show => show::show(alloc, input, out),
         Asked::Unknown => usage(),
     }

@@ -2,6 +2,7 @@
 //! Each law is of every call, also over files, an input and sinks that tell nothing.
 
 ghost use Rattle.std.specs.Prelude.{◌≡◌, ◌≢◌, ℕ, List};
+ghost use Rattle.generate_commands.specs.declared.gen_.Made.{Made};
 ghost use Rattle.srv6_cli.specs.Laws.{OfServe, HadFault, HadWant, AfterFilesFault, AfterInputFault, AfterOutFault, AfterOutWant, HasOneOutput, InputIsWhole, NoFault, NoWant, NoneFailsOverSure, OneFault, StandAtZero};
 ghost use Rattle.srv6_cli.specs.Command.{shape_of};
 ghost use Rattle.srv6_cli.specs.Complete.{FilesAreSure};
@@ -10,10 +11,10 @@ ghost use Rattle.srv6_cli.specs.Words as commands;
 use command_output::Status;
 
 /// Where a count of faults changed, it went on by one. After a fault of the files no name was asked
-/// for, and the input and both sinks are as they were. After one of the input no later read gave anything, and both sinks
-/// are as they were. After one of a sink no later write to it sent anything; where that is `out`,
-/// `err` had no fault and no want, and is as it was where the command's lines stand after all of
-/// `out`. (own rule)
+/// for, and the input and both sinks are as they were. After one of the input no later read gave
+/// anything, and both sinks are as they were. After one of a sink no later write to it sent
+/// anything; where that is `out`, `err` had no fault and no want, and is as it was where the
+/// command's lines stand after all of `out`. (own rule)
 pub fn a_fault_is_the_last_thing()
     ensures files { OfServe (λ command status old new.
         new.files.faults ≢ old.files.faults → AfterFilesFault old new) }
@@ -65,10 +66,13 @@ pub fn an_input_is_read_whole_or_not_at_all()
         → status ≢ Status.NoMemory → InputIsWhole old new) }
 {}
 
-/// The output that `serve` wants of `compile`, and of `walk`, is one: with one content of the files
-/// and one input there are no two. (own rule)
-pub fn compile_and_walk_have_one_output()
+/// The output that `serve` wants of a command that compiles an intent is one: with one content of
+/// the files and one input there are no two. (own rule)
+pub fn each_compiling_command_has_one_output()
     ensures compile { (file intent : List ℕ) → HasOneOutput (commands.Compile file intent) }
     ensures walk { (file intent choices schedule : List ℕ) →
         HasOneOutput (commands.Walk file intent choices schedule) }
+    ensures update { (old new intent events : List ℕ) →
+        HasOneOutput (commands.Update old new intent events) }
+    ensures generates { (n : ℕ) (made : Made) → HasOneOutput (commands.Gen n made) }
 {}

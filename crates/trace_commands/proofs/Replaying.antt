@@ -1,7 +1,6 @@
 -- What `trace` writes is a trace of packets that entered, which is what `replay` finds.
-use Rattle.std.proofs.Common.{◌≡◌, ℕ, zero, suc, ◌+◌, ◌^◌, ◌<◌, ◌≤◌, Bool, true, false, List, [], ◌∷◌, All, length, drop, Option, Some, None, Result, Ok, Err, refl, sym, ap, ◌∙◌, arith, subst, append-nil}
-use Rattle.std.specs.Prelude.{◌↔◌, ◌/◌, ◌==◌, IsSomeAnd, bytes_eq, if◌then◌else◌, nat_le, nat_lt, slice_index}
-use Rattle.std.proofs.lemmas.Bool.{leb-true, leb-false}
+use Rattle.std.proofs.Common.{◌≡◌, ℕ, ◌+◌, ◌^◌, ◌<◌, ◌≤◌, List, [], ◌∷◌, All, length, Option, Some, None, Result, Ok, Err, refl, sym, ap, ◌∙◌, arith, subst, append-nil}
+use Rattle.std.specs.Prelude.{◌↔◌, IsSomeAnd, bytes_eq}
 use Rattle.std.proofs.lemmas.List.Elements.{All-append, All-cons, All-nil, All-tail}
 use Rattle.std.proofs.lemmas.Option.{slice_get_within}
 use Rattle.pcap_io.specs.declared.frame.Body.{Body}
@@ -185,7 +184,8 @@ whole_right rules text name choices input h done fits =
       judged,
       replays text (trace_for_out text name choices input) judged.net _ judged.described
           (ap (replay_output judged.net) out
-          ∙ right-output judged.net packets (keeps_from_network judged.net (rules-kept rules text judged.net judged.described)) (judged-entered choices judged h)
+          ∙ right-output judged.net packets (keeps_from_network judged.net (rules-kept rules text judged.net judged.described))
+          (judged-entered choices judged h)
           (subst (λ (bytes : List ℕ). length bytes ≤ MAX_TEXT_BYTES) out fits)),
     )
 
@@ -198,5 +198,6 @@ unended_refused rules text name choices input h judged ends fits =
     out-judged choices judged ∙ ap (text_by judged.net packets) fault.1 in
     replays text (trace_for_out text name choices input) judged.net _ judged.described
     (ap (replay_output judged.net) out
-    ∙ unended-output judged.net packets (keeps_from_network judged.net (rules-kept rules text judged.net judged.described)) (judged-entered choices judged h)
+    ∙ unended-output judged.net packets (keeps_from_network judged.net (rules-kept rules text judged.net judged.described))
+    (judged-entered choices judged h)
     (subst (λ (bytes : List ℕ). length bytes ≤ MAX_TEXT_BYTES) out fits))

@@ -13,7 +13,6 @@ use Rattle.trace_replay.specs.Laws.{walk_lines}
 use Rattle.trace_replay.specs.Lines.{stage_text, stages_text}
 use Rattle.trace_replay.specs.Written.{Traced, fed, packet_trace, packets_trace, trace_end_bytes, trace_head_bytes, unended_text}
 use Rattle.command_output.specs.declared.halt.Failure.{Failure}
-use Rattle.command_output.specs.declared.halt.Failure.TheVariants as failures
 use Rattle.command_output.specs.declared.refusal.Refusal.{Refusal}
 use Rattle.command_output.specs.Answers.{ending_of_failure}
 use Rattle.command_output.specs.Gathered.{Goes, Pooled}

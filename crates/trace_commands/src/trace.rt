@@ -28,7 +28,7 @@ use net_model::Net;
 use node_stage::Content;
 use packet_walk::decisions_of;
 use pcap_io::{LentBody, LentFrame};
-use run_commands::{Silent, staged};
+use run_commands::{Silent, take_stage};
 use srv6_rules::Family;
 use srx_edge::{Files, Sink, Source};
 use std::alloc::{AllocError, Global};
@@ -116,8 +116,8 @@ fn put_stopped<O: Sink, E: Sink>(
     pool.put_out(text.as_slice(), out, err)
 }
 
-/// What is written of a frame by the walk of its packet: the network, the node that packets enter at,
-/// and the choices of each walk.
+/// What is written of a frame by the walk of its packet: the network, the node that packets enter
+/// at, and the choices of each walk.
 #[derive(Drop)]
 struct WalkTeller<'a> {
     net: &'a Net,
@@ -152,7 +152,7 @@ fn put_stages<O: Sink, E: Sink>(
     let mut taken = 0;
     for used in 0..MAX_STAGES {
         let choice = choices[taken % choices.len()];
-        let outcome = staged(alloc, net, &place, &mut content, choice, &mut error)?;
+        let outcome = take_stage(alloc, net, &place, &mut content, choice, &mut error)?;
         let line = line_of_event(alloc, net, &outcome, &content, &error)?;
         pool.put_out(line.as_slice(), out, err)?;
         taken += decisions_of(&outcome);

@@ -1,5 +1,5 @@
 -- A packet of an update that entered: what is told of it by events is its walk in its own description, as far as that meets routes.
-use Rattle.std.proofs.Common.{◌≡◌, ◌≢◌, ◌⊎◌, inl, inr, ℕ, zero, suc, ◌+◌, ◌<◌, ◌≤◌, nat_le, nat_eq, Bool, true, false, if◌then◌else◌, List, [], ◌∷◌, ◌++◌, length, slice_get, slice_set, All, Option, Some, None, refl, sym, ap, ap₂, ◌∙◌, subst, arith}
+use Rattle.std.proofs.Common.{◌≡◌, ◌≢◌, ℕ, zero, suc, ◌+◌, ◌≤◌, nat_le, nat_eq, Bool, true, false, if◌then◌else◌, List, [], ◌∷◌, ◌++◌, length, slice_get, All, Option, Some, None, refl, sym, ap, ap₂, ◌∙◌, subst, arith}
 use Rattle.std.proofs.lemmas.Bool.{eqb-true, eqb-false, leb-true, le-leb}
 use Rattle.std.proofs.lemmas.List.Elements.{All-head, All-tail, filter-append}
 use Rattle.std.proofs.lemmas.Option.{slice_get_within}
@@ -7,20 +7,19 @@ use Rattle.net_model.specs.declared.net.EntryId.{EntryId}
 use Rattle.net_model.specs.Network.{Network}
 use Rattle.walk_rules.specs.declared.place.Ended.{Ended}
 use Rattle.walk_rules.specs.Walk.{Stage}
-use Rattle.packet_walk.specs.Flight.{Flight, InFlight, IsCounted, packet_in, stage_in, staged, turned, within}
+use Rattle.packet_walk.specs.Flight.{Flight, InFlight, IsCounted, packet_in, stage_in, staged, within}
 use Rattle.packet_walk.specs.Rest.{rest_of}
 use Rattle.packet_walk.proofs.PublicLaws.{packet-behind, rest-ended, rest-going, staged-counted, turned-ended, turned-other, turned-staged}
-use Rattle.update_plan.specs.Changes.{added_entries, removed_entries}
+use Rattle.update_rules.specs.Changes.{added_entries, removed_entries}
 use Rattle.update_flight.specs.Interleaving.{PassOver, own_of}
 use Rattle.update_flight.specs.Tables.{HasRoute, KeepsOwn}
 use Rattle.update_flight.specs.Transition.{IsTransition, Transition, edit_count, entered, is_before_switch}
-use Rattle.update_flight.proofs.OwnStages.{own-stage, own-staged}
-use Rattle.update_flight.proofs.Whole.{own-kept}
+use Rattle.update_flight.proofs.PublicLaws.{own-stage, own-staged, own-kept}
 use Rattle.updates.specs.Update.{tables_between, tables_now}
 use Rattle.run_commands.specs.Entry.{Entry, Staying, Entering}
 use Rattle.update_events.specs.declared.seat.Seat.{Seat}
 use Rattle.update_events.specs.declared.seat.Seat.TheVariants as seats
-use Rattle.update_events.specs.Moving.{Doing, Happening, Staged, Stayed, Moving, Sides, after_entering, after_staying, as_in_flight, coming_by, doing, editing, entered_count, happening, side_of, stepping, told_of_turn, told_where, turning}
+use Rattle.update_events.specs.Moving.{Doing, Happening, Staged, Stayed, Moving, Sides, after_entering, as_in_flight, coming_by, doing, entered_count, happening, side_of, stepping, told_of_turn, told_where, turning}
 use Rattle.update_commands.specs.Whole.{is_of, told_of}
 use Rattle.update_commands.proofs.Lists.{set-elsewhere}
 use Rattle.update_commands.proofs.Tracking.{IsThrough, other-number, tables-are, through-edited, through-entered, through-stayed, through-turned, told-edit, told-own, told-stay, told-turn}
@@ -275,7 +274,8 @@ module _ (old new : Network) (pass : PassOver (tables_between old new) (added_en
             over = later.over;
           }
 
-      other : Later → (b : Bool) → nat_eq e number ≡ b → p.ended ≡ None → length (s ∷ first) ≤ (if b then suc (times number events) else times number events)
+      other : Later → (b : Bool) → nat_eq e number ≡ b → p.ended ≡ None
+          → length (s ∷ first) ≤ (if b then suc (times number events) else times number events)
           → Goal
       other behind true is-mine going enough = mine behind going is-mine (omega (arith, enough))
       other behind false is-not going enough =

@@ -1,22 +1,20 @@
 -- Same stages send the same frames, and the stages that are told are those that a packet takes.
-use Rattle.std.proofs.Common.{◌≡◌, ℕ, suc, ◌+◌, List, [], ◌∷◌, ◌++◌, Option, Some, None, refl, sym, ap, ap₂, ◌∙◌, subst}
-use Rattle.std.specs.List.{filter_map}
+use Rattle.std.proofs.Common.{◌≡◌, ℕ, ◌+◌, List, [], ◌∷◌, ◌++◌, refl, ap, ap₂}
 use Rattle.pcap_io.specs.Capture.{written_frame_bytes}
-use Rattle.srv6_rules.specs.Packet.{Content, Packet, bytes_of}
+use Rattle.srv6_rules.specs.Packet.{Content, bytes_of}
 use Rattle.net_model.specs.declared.parts.Link.{Link}
 use Rattle.net_model.specs.declared.parts.Node.{Node}
 use Rattle.net_model.specs.Network.{Network}
 use Rattle.walk_rules.specs.declared.place.Ended.{Ended}
 use Rattle.walk_rules.specs.declared.place.Ended.TheVariants as ends
-use Rattle.walk_rules.specs.declared.place.Outcome.{Outcome}
 use Rattle.walk_rules.specs.Treatment.{Gave}
 use Rattle.walk_rules.specs.Walk.{Stage}
 use Rattle.packet_walk.specs.Flight.{InFlight, staged}
-use Rattle.update_walks.specs.Alike.{LooksAs, SameGave, SameOutcome, SameStages}
-use Rattle.update_walks.proofs.Cases.{EachSame, same-each}
+use Rattle.update_walks.specs.Alike.{SameGave, SameStages}
+use Rattle.update_walks.proofs.PublicLaws.{same-each}
 use Rattle.command_output.specs.Lines.{packet_line}
 use Rattle.run_commands.specs.Capture.{frame_by, frame_of_error, frame_of_gave, frames_of}
-use Rattle.update_events.specs.Moving.{Happening, Staged}
+use Rattle.update_events.specs.Moving.{Happening}
 use Rattle.update_commands.specs.Whole.{stages_told}
 use Rattle.update_commands.proofs.Entered.{tellings}
 

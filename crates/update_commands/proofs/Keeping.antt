@@ -1,7 +1,7 @@
--- Each packet of an update that is to come takes the walk of one description, and keeps to the intent there.
-use Rattle.std.proofs.Common.{◌≡◌, ℕ, zero, suc, ◌+◌, ◌≤◌, nat_eq, nat_le, Bool, true, false, if◌then◌else◌, List, [], ◌∷◌, ◌++◌, length, map, replicate, slice_get, All, Option, Some, None, option_map, Ok, refl, sym, ap, ap₂, ◌∙◌, subst, arith}
+-- Each packet of an update that is to come takes the walk of one description; an inner packet is to come, and keeps to the intent there.
+use Rattle.std.proofs.Common.{◌≡◌, ℕ, zero, suc, ◌+◌, ◌≤◌, nat_eq, Bool, true, false, if◌then◌else◌, List, [], ◌∷◌, ◌++◌, length, map, replicate, slice_get, All, Option, Some, None, option_map, Ok, refl, sym, ap, ◌∙◌, subst, arith}
 use Rattle.std.specs.List.{flat_map}
-use Rattle.std.proofs.lemmas.Bool.{eqb-true, eqb-false, le-leb}
+use Rattle.std.proofs.lemmas.Bool.{eqb-false, le-leb}
 use Rattle.std.proofs.lemmas.Option.{slice_get-map}
 use Rattle.pcap_io.specs.declared.frame.Body.{Body}
 use Rattle.pcap_io.specs.declared.frame.Body.TheVariants as bodies
@@ -18,34 +18,34 @@ use Rattle.intent_reader.specs.declared.intent.Intent.{Intent}
 use Rattle.list_pack.specs.SidLists.{list_values}
 use Rattle.leg_table.specs.Realizes.{IsInner}
 use Rattle.path_compiler.specs.declared.compiled.Compiled.{Compiled}
-use Rattle.update_plan.specs.Changes.{added_entries, removed_entries}
-use Rattle.update_plan.specs.Joined.{joined_of}
-use Rattle.update_plan.specs.Planning.{planning}
-use Rattle.update_plan.proofs.Parts.{no_fault}
+use Rattle.update_rules.specs.Changes.{added_entries, removed_entries}
+use Rattle.update_rules.specs.Joined.{joined_of}
+use Rattle.update_rules.specs.Planning.{planning}
+use Rattle.update_rules.proofs.PublicLaws.{no_fault}
 use Rattle.update_flight.specs.Interleaving.{PassOver}
 use Rattle.packet_walk.specs.Rest.{rest_of}
 use Rattle.update_flight.specs.Planned.{hidden_after}
 use Rattle.update_flight.specs.Tables.{HasRoute}
-use Rattle.update_flight.specs.Transition.{edits, is_before_switch}
-use Rattle.update_flight.proofs.Kept.{kept-start}
+use Rattle.update_flight.specs.Transition.{edits}
+use Rattle.update_flight.proofs.PublicLaws.{kept-start}
 use Rattle.updates.specs.Update.{plan_of, tables_between}
-use Rattle.updates.proofs.Between.{between-pass}
-use Rattle.update_walks.specs.Alike.{LooksAs}
-use Rattle.update_walks.proofs.Between.{first-looks, last-looks}
+use Rattle.updates.proofs.PublicLaws.{between-pass}
+use Rattle.update_walks.proofs.PublicLaws.{first-looks, last-looks}
 use Rattle.command_inputs.specs.declared.judge.BothIntents.{BothIntents}
 use Rattle.run_commands.specs.declared.enters.Comes.{Comes}
 use Rattle.run_commands.specs.declared.enters.Stays.{Stays}
 use Rattle.run_commands.specs.Entry.{Entry, Staying, Entering}
 use Rattle.walk_commands.specs.Lists.{IsCompiledFor, IsSmallFor}
-use Rattle.walk_commands.specs.Walk.{AtHeadend, NotRead, Dropped, Enters, at_headend, entry_of, of_content, policy_of, submitted_at, walk_at_headend}
+use Rattle.walk_commands.specs.Walk.{AtHeadend, NotRead, Dropped, Enters, at_headend, entry_of, headend_of, of_content, policy_of, submitted_at, walk_at_headend}
 use Rattle.walk_commands.proofs.WalkKeeping.{small_keeps}
 use Rattle.update_events.specs.declared.seat.Seat.{Seat}
 use Rattle.update_events.specs.declared.seat.Seat.TheVariants as seats
 use Rattle.update_events.specs.Arriving.{early_at, seat_of, seat_unless}
-use Rattle.update_events.specs.Events.{edits_left, events_and_rest, numbers_behind, starting, to_their_ends}
-use Rattle.update_events.specs.Moving.{Happening, Moving, Sides, as_in_flight, first_member, happening}
-use Rattle.update_commands.specs.Whole.{HasInner, IsToldAs, KeepsToOwn, Own, PacketKeeps, PacketsKeep, all_of, comes_early, own_by, own_entry, own_of, sides_of, stages_to_hand, told_of}
-use Rattle.update_commands.proofs.Entered.{Told, times}
+use Rattle.update_events.specs.Events.{edits_left, events_and_rest, numbers_behind, starting}
+use Rattle.update_events.specs.Moving.{Happening, Moving, Sides, as_in_flight, first_member}
+use Rattle.update_commands.specs.Whole.{HasInner, IsToldAs, KeepsToOwn, Own, PacketsKeep, all_of, comes_early, own_by, own_entry, own_of, sides_of, stages_to_hand, told_of}
+use Rattle.update_commands.proofs.Coming.{headend-comes}
+use Rattle.update_commands.proofs.Entered.{times}
 use Rattle.update_commands.proofs.Hands.{hand-front, hand-routes}
 use Rattle.update_commands.proofs.Owning.{IsOwn, early-own}
 use Rattle.update_commands.proofs.Taking.{TellsFront, takes-walk}
@@ -59,7 +59,8 @@ module _ (n : ℕ) where
   times-append [] ys = omega arith
   times-append (x ∷ xs) ys = by (times-append xs ys) (nat_eq x n)
     where
-      by : times n (xs ++ ys) ≡ times n xs + times n ys → (b : Bool) → (if b then suc (times n (xs ++ ys)) else times n (xs ++ ys)) ≡ (if b then suc (times n xs) else times n xs) + times n ys
+      by : times n (xs ++ ys) ≡ times n xs + times n ys → (b : Bool)
+          → (if b then suc (times n (xs ++ ys)) else times n (xs ++ ys)) ≡ (if b then suc (times n xs) else times n xs) + times n ys
       by e true = omega (arith, e)
       by e false = e
 
@@ -72,7 +73,8 @@ module _ (n : ℕ) where
 
   times-all : (c : ℕ) → times n (replicate c n) ≡ c
   times-all zero = refl
-  times-all (suc c) = ap (λ (b : Bool). if b then suc (times n (replicate c n)) else times n (replicate c n)) same-times ∙ ap suc (times-all c)
+  times-all (suc c) = ap (λ (b : Bool). if b then suc (times n (replicate c n)) else times n (replicate c n)) same-times
+      ∙ ap suc (times-all c)
 
   times-chunk : {X : Type 0} (c b j : ℕ) (xs : List X) (x : X) → slice_get xs j ≡ Some x → n ≡ suc (b + j)
       → c ≤ times n (flat_map (λ k. replicate c k) (numbers_behind b xs))
@@ -226,17 +228,31 @@ module _ (old new : Network) (both : BothIntents) (before after : Compiled) (rul
     keeps-by true h = keeps-own one rules compiled_before (told-own true h)
     keeps-by false h = keeps-own two new_rules compiled_after (told-own false h)
 
-  pub packets_keep : PacketsKeep old new both before after
-  packets_keep frames events at frame there none =
-      let start : Moving = starting sides (plan_of old new) frames in
-      let all : List Happening = all_of old new sides frames events in
-      let early : Bool = comes_early (suc at) all in
-      let told : List Happening = told_of (suc at) all in
-      let own : IsOwn old new pass sides at frame.body early told =
-      early-own old new pass sides at frame.body (events_and_rest start frames events) start
-      (start-through old new sides frames, start-seat sides.old frames at frame there none)
-      (le-leb 0 (length (added_entries old new)) (omega arith)) (enough-turns start frames events at frame there) in
-      record {
-        takes = told-own at frame.body told early own;
-        keeps = keeps-by at frame.body told early own;
-      }
+  module _ (family : both.before.inner ≡ both.after.inner) where
+    old-family : (early : Bool) → (own_by one two early).intent.inner ≡ both.before.inner
+    old-family true = refl
+    old-family false = sym family
+
+    -- an inner packet of the intent's family in one description is to come, also where that is the new one
+    is-to-come : (early : Bool) (body : Body) (inner : Content) → HasInner (own_by one two early).intent.inner body inner
+        → IsInner (own_by one two early).intent.inner inner → early_at sides.old body ≡ None
+    is-to-come early body inner has is =
+        headend-comes (headend_of old both.before before) body inner
+        (subst (λ (f : Family). HasInner f body inner) (old-family early) has)
+        (subst (λ (f : Family). IsInner f inner) (old-family early) is)
+
+    pub packets_keep : PacketsKeep old new both before after
+    packets_keep frames events at frame there =
+        let start : Moving = starting sides (plan_of old new) frames in
+        let all : List Happening = all_of old new sides frames events in
+        let early : Bool = comes_early (suc at) all in
+        let told : List Happening = told_of (suc at) all in
+        let own : early_at sides.old frame.body ≡ None → IsOwn old new pass sides at frame.body early told =
+        λ none. early-own old new pass sides at frame.body (events_and_rest start frames events) start
+        (start-through old new sides frames, start-seat sides.old frames at frame there none)
+        (le-leb 0 (length (added_entries old new)) (omega arith)) (enough-turns start frames events at frame there) in
+        record {
+          takes = λ none. told-own at frame.body told early (own none);
+          keeps = λ inner has is small.
+              keeps-by at frame.body told early (own (is-to-come early frame.body inner has is)) inner has is small;
+        }

@@ -7,8 +7,13 @@ pub mod Telling
 pub mod Frames
 pub mod Taking
 pub mod Hands
+pub mod Coming
+pub mod Families
 pub mod Keeping
 pub mod NoLists
 pub mod Steps
 pub mod Starting
+pub mod Held
 pub mod UpdateEnds
+pub mod OneOutput
+pub mod PublicLaws

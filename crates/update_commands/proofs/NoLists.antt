@@ -1,5 +1,5 @@
 -- The input isn't read where there is no plan, or a list is wanting.
-use Rattle.std.proofs.Common.{◌≡◌, ◌≢◌, ℕ, List, [], ◌∷◌, Option, None, Some, Result, Ok, Err, refl, sym, ap, ◌∙◌, subst}
+use Rattle.std.proofs.Common.{◌≡◌, ◌≢◌, ℕ, List, [], ◌∷◌, Option, None, Some, Result, Ok, Err, refl, ap, ◌∙◌, subst}
 use Rattle.std.specs.Prelude.{IsSomeAnd}
 use Rattle.net_model.specs.Network.{Network}
 use Rattle.flat_networks.specs.Flat.{flatness_of}
@@ -7,20 +7,16 @@ use Rattle.flat_networks.specs.declared.not_flat.NotFlat.{NotFlat}
 use Rattle.intent_reader.specs.declared.intent.Intent.{Intent}
 use Rattle.path_compiler.specs.declared.compiled.Compiled.{Compiled}
 use Rattle.path_compiler.specs.declared.compiled.CompileFault.{CompileFault}
-use Rattle.path_compiler.specs.declared.compiled.CompileFault.TheVariants as faults
-use Rattle.update_plan.specs.Planning.{planning}
-use Rattle.update_plan.specs.declared.fault.PlanFault.{PlanFault}
+use Rattle.update_rules.specs.Planning.{planning}
+use Rattle.update_rules.specs.declared.fault.PlanFault.{PlanFault}
 use Rattle.updates.specs.Update.{plan_of}
 use Rattle.command_output.specs.declared.refusal.Refusal.{Refusal}
 use Rattle.command_output.specs.declared.status.Status.TheVariants as statuses
-use Rattle.command_output.specs.Halts.{flat_refusal}
-use Rattle.command_output.specs.Outputs.{refused}
 use Rattle.command_output.specs.Pieces.{Output}
 use Rattle.command_inputs.specs.declared.judge.BothIntents.{BothIntents}
 use Rattle.command_inputs.specs.Judgements.{network_in, intents_in}
-use Rattle.walk_commands.specs.Lists.{CompiledWants, IntentAnswers, IsCompiledFor, NoneLessFor, hop_limit_line, none_line, too_long_line}
-use Rattle.walk_commands.specs.Walk.{WalkWants, no_list}
-use Rattle.walk_commands.proofs.NoList.{no_list_always}
+use Rattle.walk_commands.specs.Lists.{IntentAnswers, IsCompiledFor, NoneLessFor}
+use Rattle.walk_commands.proofs.PublicLaws.{none_has_list}
 use Rattle.update_commands.specs.Update.{BothWant, HasLists, IfJudged, ListsWant, ReadsInput, WithFlat, WithList, WithPlan, update_output}
 use Rattle.update_commands.specs.Whole.{sides_of}
 
@@ -61,25 +57,10 @@ module _ (old new : Network) (judged : Result BothIntents Refusal) where
 
 -- where the intent is compiled, what follows a list is wanted
 module _ (net : Network) (intent : Intent) (c : Compiled) (is : IsCompiledFor net intent c) (Follow : Compiled → Output → Type 0) where
-  -- another answer would be told of every walk
-  other-answer : (fault : CompileFault) (told : Output) → told.status ≢ statuses.Done → IntentAnswers net intent (Err fault)
-      → NoneLessFor net intent (Err fault)
-      → ((choices schedule input : List ℕ) → WalkWants choices schedule input net intent (Err fault) told) → ⊥
-  other-answer fault told early answers none wants =
-      no_list_always net intent told early (λ choices schedule input. (Err fault, answers, none, wants choices schedule input)) (c, is)
-
   follows-list : (answer : Result Compiled CompileFault) (output : Output) → IntentAnswers net intent answer
       → NoneLessFor net intent answer → WithList Follow net intent answer output → (d : Compiled) × Follow d output
   follows-list (Ok d) output answers none wants = (d, wants)
-  follows-list (Err (faults.NotFlat why)) output answers none wants =
-      absurd (other-answer (faults.NotFlat why) (refused (flat_refusal net why)) (λ e. cc) answers none (λ choices schedule input. refl))
-  follows-list (Err (faults.NoList s)) output answers none wants =
-      absurd (other-answer (faults.NoList s) (no_list none_line) (λ e. cc) answers none (λ choices schedule input. refl))
-  follows-list (Err (faults.TooLong d)) output answers none wants =
-      absurd (other-answer (faults.TooLong d) (no_list (too_long_line d.containers)) (λ e. cc) answers none (λ choices schedule input. refl))
-  follows-list (Err (faults.HopLimit d)) output answers none wants =
-      absurd (other-answer (faults.HopLimit d) (no_list (hop_limit_line d.need)) (λ e. cc) answers none (λ choices schedule input. refl))
-  follows-list (Err faults.NoMemory) output answers none wants = absurd wants
+  follows-list (Err fault) output answers none wants = absurd (none_has_list net intent output (fault, answers, none, wants) (c, is))
 
 module _ (old new : Network) (both : BothIntents) where
   -- an output that is wanted whatever the events and the input are
@@ -104,5 +85,6 @@ module _ (old new : Network) (both : BothIntents) where
       let before = follows-list old both.before has.1.0 has.1.1 _ w.0 output w.1 w.2 w.3 in
       let v = before.1 in
       let after = follows-list new both.after has.2.0 has.2.1 _ v.0 output v.1 v.2 v.3 in
-      let whole : (update_output old (sides_of old new both before.0 after.0) (plan_of old new) [] (96 ∷ [])).status ≡ statuses.Done = refl in
+      let whole : (update_output old (sides_of old new both before.0 after.0) (plan_of old new) [] (96 ∷ [])).status ≡ statuses.Done =
+      refl in
       early (ap (λ (o : Output). o.status) after.1.0 ∙ whole)

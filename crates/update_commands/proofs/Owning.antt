@@ -1,11 +1,10 @@
 -- A packet of an update that is to come takes the walk of the description that is its own when it enters.
-use Rattle.std.proofs.Common.{◌≡◌, ◌≢◌, ◌⊎◌, inl, inr, ℕ, zero, suc, ◌+◌, ◌<◌, ◌≤◌, nat_eq, Bool, true, false, if◌then◌else◌, List, [], ◌∷◌, ◌++◌, length, slice_get, Option, Some, None, Result, Ok, Err, refl, sym, ap, ap₂, ◌∙◌, subst, arith}
+use Rattle.std.proofs.Common.{◌≡◌, ◌≢◌, inl, inr, ℕ, zero, suc, ◌+◌, ◌≤◌, nat_eq, Bool, true, false, if◌then◌else◌, List, [], ◌∷◌, ◌++◌, slice_get, Option, Some, None, Result, refl, sym, ap, ◌∙◌, subst, arith}
 use Rattle.std.proofs.lemmas.Bool.{eqb-true, eqb-false}
 use Rattle.pcap_io.specs.declared.frame.Body.{Body}
 use Rattle.net_model.specs.Network.{Network}
 use Rattle.walk_rules.specs.declared.limits.TheConstants.{MAX_STAGES}
-use Rattle.packet_walk.specs.Flight.{packet_in}
-use Rattle.update_plan.specs.Changes.{added_entries, removed_entries}
+use Rattle.update_rules.specs.Changes.{added_entries, removed_entries}
 use Rattle.update_flight.specs.declared.edit.Busy.{Busy}
 use Rattle.update_flight.specs.declared.edit.Edit.{Edit}
 use Rattle.update_flight.specs.Interleaving.{PassOver}
@@ -14,7 +13,7 @@ use Rattle.updates.specs.Update.{tables_between}
 use Rattle.run_commands.specs.Entry.{Entry, Staying, Entering}
 use Rattle.update_events.specs.declared.seat.Seat.{Seat}
 use Rattle.update_events.specs.declared.seat.Seat.TheVariants as seats
-use Rattle.update_events.specs.Moving.{Happening, Moving, Sides, after_entering, as_in_flight, coming_by, doing, editing, entered_count, happening, side_of, stepping, told_of_edit, turning}
+use Rattle.update_events.specs.Moving.{Happening, Moving, Sides, after_entering, as_in_flight, coming_by, doing, editing, happening, side_of, stepping, told_of_edit}
 use Rattle.update_commands.specs.Whole.{comes_early, told_of}
 use Rattle.update_commands.proofs.Entered.{times}
 use Rattle.update_commands.proofs.Tracking.{IsThrough}
@@ -72,7 +71,8 @@ module _ (old new : Network) (pass : PassOver (tables_between old new) (added_en
       (mine-told old new pass sides at body m come.0 come.1 events most)
 
   -- so many events are left of those that name it
-  left-over : (e : ℕ) (events : List ℕ) → nat_eq e number ≡ false → MAX_STAGES ≤ times number (e ∷ events) → MAX_STAGES ≤ times number events
+  left-over : (e : ℕ) (events : List ℕ) → nat_eq e number ≡ false → MAX_STAGES ≤ times number (e ∷ events)
+      → MAX_STAGES ≤ times number events
   left-over e events is enough =
       subst (λ (b : Bool). MAX_STAGES ≤ (if b then suc (times number events) else times number events)) is enough
 
@@ -80,7 +80,8 @@ module _ (old new : Network) (pass : PassOver (tables_between old new) (added_en
   late-own : (events : List ℕ) (m : Moving) → IsToCome m → is_before_switch m.update.transition ≡ false → MAX_STAGES ≤ times number events
       → IsOwn false (told_of number (happening sides m events))
   late-own [] m come behind enough = absurd (omega (arith, enough))
-  late-own (e ∷ events) m come behind enough = by (λ n come behind enough. late-own events n come behind enough) e (nat_eq e number) refl enough
+  late-own (e ∷ events) m come behind enough =
+      by (λ n come behind enough. late-own events n come behind enough) e (nat_eq e number) refl enough
     where
       -- what the later events tell
       Later : Type 0
@@ -101,10 +102,12 @@ module _ (old new : Network) (pass : PassOver (tables_between old new) (added_en
           (later (doing sides x m).after (put.through, put.there) (still x) (left-over x events is most))
 
   -- before it, it is as it comes
-  pub early-own : (events : List ℕ) (m : Moving) → IsToCome m → is_before_switch m.update.transition ≡ true → MAX_STAGES ≤ times number events
+  pub early-own : (events : List ℕ) (m : Moving) → IsToCome m → is_before_switch m.update.transition ≡ true
+      → MAX_STAGES ≤ times number events
       → IsOwn (comes_early number (happening sides m events)) (told_of number (happening sides m events))
   early-own [] m come before enough = absurd (omega (arith, enough))
-  early-own (e ∷ events) m come before enough = by (λ n come before enough. early-own events n come before enough) e (nat_eq e number) refl enough
+  early-own (e ∷ events) m come before enough =
+      by (λ n come before enough. early-own events n come before enough) e (nat_eq e number) refl enough
     where
       -- what the later events tell
       Later : Type 0
@@ -136,7 +139,8 @@ module _ (old new : Network) (pass : PassOver (tables_between old new) (added_en
           (mine-own events m come x is most)
       by later (suc i) false is most =
           let put = put-by (suc i) is in
-          move-own _ _ _ _ (early-step m i (slice_get m.seats i) (happening sides (doing sides (suc i) m).after events) (eqb-false (suc i) number is))
+          move-own _ _ _ _ (early-step m i (slice_get m.seats i) (happening sides (doing sides (suc i) m).after events)
+          (eqb-false (suc i) number is))
           (told-x (suc i) is)
           (later (doing sides (suc i) m).after (put.through, put.there)
           (before-step m i (slice_get m.seats i) ∙ before) (left-over (suc i) events is most))

@@ -1,31 +1,28 @@
 -- An update that starts with a plan and both lists, and what is wanted of it then.
 use Rattle.std.proofs.Common.{◌≡◌, ℕ, ◌<◌, List, [], Result, Ok, length, sym, ap, ap₂, ◌∙◌, subst}
-use Rattle.pcap_io.specs.declared.frame.Body.{Body}
 use Rattle.srv6_rules.specs.Policies.{IsPolicy}
 use Rattle.net_model.specs.declared.parts.Node.{Node}
 use Rattle.net_model.specs.Network.{Network}
 use Rattle.net_model.specs.Rules.{IsNetwork}
 use Rattle.flat_networks.specs.declared.not_flat.NotFlat.{NotFlat}
 use Rattle.flat_networks.specs.Flat.{flatness_of}
-use Rattle.intent_reader.specs.declared.intent.Intent.{Intent}
 use Rattle.intent_reader.specs.Rules.{IsIntent}
 use Rattle.path_compiler.specs.declared.compiled.Compiled.{Compiled}
-use Rattle.update_plan.specs.Joined.{joined_of}
-use Rattle.update_plan.specs.Planning.{planning}
-use Rattle.update_plan.specs.declared.fault.PlanFault.{PlanFault}
-use Rattle.update_plan.proofs.Parts.{no_fault}
+use Rattle.update_rules.specs.Planning.{planning}
+use Rattle.update_rules.specs.declared.fault.PlanFault.{PlanFault}
+use Rattle.update_rules.proofs.PublicLaws.{no_fault}
 use Rattle.updates.specs.Update.{Plan, plan_of}
 use Rattle.command_output.specs.Pieces.{Output}
 use Rattle.command_inputs.specs.declared.judge.BothIntents.{BothIntents}
-use Rattle.run_commands.specs.Entry.{AllEnterIn, EntersIn, Entry}
+use Rattle.run_commands.specs.Entry.{AllEnterIn, EntersIn}
 use Rattle.walk_commands.specs.declared.headend.Headend.{Headend}
 use Rattle.walk_commands.specs.Lists.{IsCompiledFor, IsLeastFor}
-use Rattle.walk_commands.specs.Walk.{AtHeadend, NotRead, Dropped, Enters, at_headend, entry_at_headend, entry_of, headend_of}
+use Rattle.walk_commands.specs.Walk.{AtHeadend, NotRead, Dropped, Enters, at_headend, entry_at_headend, entry_of}
 use Rattle.walk_commands.proofs.PublicLaws.{headend_ready, headend_within}
 use Rattle.update_events.specs.declared.moving.Sides as code
 use Rattle.update_events.specs.Moving.{Sides, sides_by}
-use Rattle.update_commands.specs.declared.start.Start.TheVariants as starts
-use Rattle.update_commands.specs.Update.{BothWant, ListsWant, StartsAs, WithFlat, WithPlan, update_output}
+use Rattle.update_commands.specs.declared.start.UpdateStart.TheVariants as starts
+use Rattle.update_commands.specs.Update.{BothWant, ListsWant, UpdateStartsAs, WithFlat, WithPlan, update_output}
 use Rattle.update_commands.specs.Whole.{PacketsKeep, sides_of}
 use Rattle.update_commands.proofs.Keeping.{packets_keep}
 
@@ -51,12 +48,12 @@ pub record Begins (old new : Network) (both : BothIntents) (plan : Plan) (sides 
   pub least_after : IsLeastFor new both.after after
   pub plan_is : plan ≡ plan_of old new
   pub sides_are : sides ≡ sides_of old new both before after
-  pub keeps : PacketsKeep old new both before after
+  pub keeps : both.before.inner ≡ both.after.inner → PacketsKeep old new both before after
 
 -- ---- from the answer of its steps
 
 module _ (old new : Network) (both : BothIntents) (plan : Plan) (sides : code.Sides Headend)
-    (starts : StartsAs old new both (Ok (starts.Lists plan sides))) where
+    (starts : UpdateStartsAs old new both (Ok (starts.Lists plan sides))) where
   pub begins : IsNetwork old → IsNetwork new → old.hidden ≡ [] → new.hidden ≡ [] → Begins old new both plan (sides_at sides.old sides.new)
   begins rules new_rules whole new_whole = record {
     planned = starts.0;
@@ -101,7 +98,8 @@ module _ (old new : Network) (both : BothIntents) (plan : Plan) (sides : code.Si
 
 -- ---- so is the output
 
-module _ (old new : Network) (both : BothIntents) (plan : Plan) (sides : Sides) (b : Begins old new both plan sides) (events input : List ℕ) where
+module _ (old new : Network) (both : BothIntents) (plan : Plan) (sides : Sides) (b : Begins old new both plan sides)
+    (family : both.before.inner ≡ both.after.inner) (events input : List ℕ) where
   lists-are-wanted : (output : Output) → output ≡ update_output old sides plan events input → ListsWant old new both events input output
   lists-are-wanted output is = (
     Ok b.before,
@@ -113,7 +111,7 @@ module _ (old new : Network) (both : BothIntents) (plan : Plan) (sides : Sides) 
       b.least_after,
       (
         is ∙ ap₂ (λ (s : Sides) (p : Plan). update_output old s p events input) b.sides_are b.plan_is,
-        b.keeps,
+        b.keeps family,
       ),
     ),
   )

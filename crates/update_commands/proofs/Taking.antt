@@ -1,18 +1,17 @@
 -- A packet whose walk in its own description is told of it takes that walk.
-use Rattle.std.proofs.Common.{◌≡◌, ℕ, zero, suc, ◌<◌, List, [], ◌∷◌, ◌++◌, All, Option, Some, None, refl, sym, ap, ◌∙◌, subst, append-nil, arith}
+use Rattle.std.proofs.Common.{◌≡◌, ℕ, List, [], ◌∷◌, ◌++◌, All, refl, sym, ap, ◌∙◌, subst, append-nil, arith}
 use Rattle.net_model.specs.declared.net.Hit.{Hit}
 use Rattle.net_model.specs.Network.{Network}
 use Rattle.walk_rules.specs.declared.limits.TheConstants.{MAX_STAGES}
 use Rattle.walk_rules.specs.declared.place.Place.{Place}
-use Rattle.walk_rules.specs.Walk.{Stage, choice_at, end_of, walk_of}
+use Rattle.walk_rules.specs.Walk.{Stage, choice_at, end_of}
 use Rattle.node_stage.specs.Fronted.{fronted}
 use Rattle.packet_walk.specs.Flight.{InFlight, IsCounted, stage_in, staged}
-use Rattle.packet_walk.specs.Rest.{end_from, rest_of}
+use Rattle.packet_walk.specs.Rest.{rest_of}
 use Rattle.packet_walk.proofs.PublicLaws.{entering-counted, rest-going}
 use Rattle.update_flight.specs.Tables.{HasRoute}
 use Rattle.update_walks.specs.Alike.{BeginAs, LooksAs, SamePlace, SameStages}
-use Rattle.update_walks.proofs.Same.{Split, ends-same, routes-same, split-same, stages-shown}
-use Rattle.update_walks.proofs.Walks.{places-same}
+use Rattle.update_walks.proofs.PublicLaws.{Split, ends-same, routes-same, split-same, stages-shown, places-same}
 use Rattle.command_output.specs.Lines.{packet_line}
 use Rattle.command_output.specs.Pieces.{bytes_for_err, bytes_for_out}
 use Rattle.run_commands.specs.declared.enters.Comes.{Comes}
@@ -81,7 +80,8 @@ module _ (joined old net : Network) (hidden : List Hit) where
           ap (λ (xs : List Happening). bytes_for_out (pieces_of old xs)) told-whole
           ∙ (frames-told old number a p (rest_of a p) ∙ frames-same a net number (rest_of a p) walk same)
 
-      some-walk : (ts : List Stage) → SameStages a net (rest_of a p) ts → packet_line net number (end_of net ts) ≡ line_of_walk net number ts
+      some-walk : (ts : List Stage) → SameStages a net (rest_of a p) ts
+          → packet_line net number (end_of net ts) ≡ line_of_walk net number ts
       some-walk [] none = absurd (no-stages (rest_of a p) (rest-going a p refl (counted.left refl)) none)
         where
           no-stages : (ss : List Stage) → ss ≡ stage_in a p ∷ rest_of a (staged a p) → SameStages a net ss [] → ⊥

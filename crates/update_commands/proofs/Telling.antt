@@ -1,5 +1,5 @@
 -- What is written of a packet that takes its walk: its frames, and one line, that of how it ends.
-use Rattle.std.proofs.Common.{◌≡◌, ℕ, suc, ◌+◌, ◌<◌, List, [], ◌∷◌, ◌++◌, Option, Some, None, refl, sym, ap, ap₂, ◌∙◌, append-nil}
+use Rattle.std.proofs.Common.{◌≡◌, ℕ, ◌+◌, List, [], ◌∷◌, ◌++◌, Option, Some, None, refl, sym, ap, ap₂, ◌∙◌, append-nil}
 use Rattle.net_model.specs.Network.{Network}
 use Rattle.walk_rules.specs.declared.place.Ended.{Ended}
 use Rattle.walk_rules.specs.Walk.{Stage}
@@ -14,7 +14,8 @@ use Rattle.update_events.specs.Events.{pieces_of}
 use Rattle.update_commands.proofs.Entered.{tellings}
 
 module _ (net : Network) (number : ℕ) (own : Network) where
-  pub frames-told : (p : InFlight) (steps : List Stage) → bytes_for_out (pieces_of net (tellings number own p steps)) ≡ frames_of number steps
+  pub frames-told : (p : InFlight) (steps : List Stage)
+      → bytes_for_out (pieces_of net (tellings number own p steps)) ≡ frames_of number steps
   frames-told p [] = refl
   frames-told p (s ∷ more) = ap (λ (bytes : List ℕ). frame_of_gave number s.gave ++ bytes) (frames-told (staged own p) more)
 
@@ -22,7 +23,8 @@ module _ (net : Network) (number : ℕ) (own : Network) where
       → bytes_for_err (pieces_of net (tellings number own p steps)) ≡ packet_line net number (end_from own p)
   lines-told p [] is going counted = absurd (let rest = rest-going own p going (counted.left going) in cc)
   lines-told p (s ∷ more) is going counted =
-      by (λ same goes. lines-told (staged own p) more same goes (staged-counted own p going counted)) (staged own p).ended refl ∙ ap (packet_line net number) (end-going own p going (counted.left going))
+      by (λ same goes. lines-told (staged own p) more same goes (staged-counted own p going counted)) (staged own p).ended refl
+      ∙ ap (packet_line net number) (end-going own p going (counted.left going))
     where
       q : InFlight
       q = staged own p
@@ -33,13 +35,16 @@ module _ (net : Network) (number : ℕ) (own : Network) where
           let both : s ∷ more ≡ stage_in own p ∷ rest_of own q = is ∙ rest in
           cc
 
-      by : (more ≡ rest_of own q → q.ended ≡ None → bytes_for_err (pieces_of net (tellings number own q more)) ≡ packet_line net number (end_from own q))
+      by : (more ≡ rest_of own q → q.ended ≡ None → bytes_for_err (pieces_of net (tellings number own q more))
+          ≡ packet_line net number (end_from own q))
           → (e : Option Ended) → q.ended ≡ e
-          → line_by net number q.ended ++ bytes_for_err (pieces_of net (tellings number own q more)) ≡ packet_line net number (end_from own q)
+          → line_by net number q.ended ++ bytes_for_err (pieces_of net (tellings number own q more))
+          ≡ packet_line net number (end_from own q)
       by rest None goes =
           ap (λ (e : Option Ended). line_by net number e ++ bytes_for_err (pieces_of net (tellings number own q more))) goes
           ∙ rest later goes
       by rest (Some end) over =
-          ap₂ (λ (e : Option Ended) (xs : List Stage). line_by net number e ++ bytes_for_err (pieces_of net (tellings number own q xs))) over
+          ap₂ (λ (e : Option Ended) (xs : List Stage).
+          line_by net number e ++ bytes_for_err (pieces_of net (tellings number own q xs))) over
           (later ∙ rest-ended own q end over)
           ∙ (append-nil (packet_line net number end) ∙ ap (packet_line net number) (sym (end-ended own q end over)))

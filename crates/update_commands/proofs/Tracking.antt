@@ -1,29 +1,23 @@
 -- What events do to packets of an update: what is so of all of them, and of one that entered.
-use Rattle.std.proofs.Common.{◌≡◌, ◌≢◌, ◌⊎◌, inl, inr, ℕ, zero, suc, ◌+◌, ◌<◌, ◌≤◌, nat_le, nat_eq, Bool, true, false, if◌then◌else◌, List, [], ◌∷◌, ◌++◌, length, length-append, slice_get, slice_set, Option, Some, None, Result, Ok, Err, refl, sym, ap, ◌∙◌, subst, arith}
-use Rattle.std.proofs.lemmas.Bool.{eqb-true, eqb-false, leb-true, le-leb}
+use Rattle.std.proofs.Common.{◌≡◌, ◌≢◌, ℕ, suc, ◌+◌, nat_eq, Bool, true, false, if◌then◌else◌, List, [], ◌∷◌, ◌++◌, length, length-append, slice_get, slice_set, Option, Some, None, Result, Ok, Err, refl, sym, ap, ◌∙◌, subst, arith}
+use Rattle.std.proofs.lemmas.Bool.{eqb-true, eqb-false}
 use Rattle.std.proofs.lemmas.Option.{slice_get_within}
-use Rattle.net_model.specs.declared.net.EntryId.{EntryId}
 use Rattle.net_model.specs.Network.{Network}
 use Rattle.walk_rules.specs.declared.place.Ended.{Ended}
 use Rattle.walk_rules.specs.Walk.{Stage}
-use Rattle.packet_walk.specs.Flight.{Flight, InFlight, IsCounted, packet_in, stage_in, staged, turned, within}
-use Rattle.packet_walk.proofs.PublicLaws.{packet-behind, staged-counted, turned-ended, turned-other, turned-staged}
-use Rattle.update_plan.specs.Changes.{added_entries, removed_entries}
-use Rattle.update_plan.specs.Joined.{joined_of}
+use Rattle.packet_walk.specs.Flight.{InFlight, within}
+use Rattle.update_rules.specs.Changes.{added_entries, removed_entries}
+use Rattle.update_rules.specs.Joined.{joined_of}
 use Rattle.update_flight.specs.declared.edit.Busy.{Busy}
 use Rattle.update_flight.specs.declared.edit.Edit.{Edit}
-use Rattle.update_flight.specs.Interleaving.{Enter, PassOver, own_of}
-use Rattle.update_flight.specs.Tables.{HasRoute, KeepsOwn}
-use Rattle.update_flight.specs.Transition.{IsTransition, Transition, answer_of, edit_count, edited, entered, is_before_switch, turned_in}
-use Rattle.update_flight.proofs.Kept.{kept-edit, kept-move, kept-turn, turn-length}
-use Rattle.update_flight.proofs.OwnStages.{own-stage, own-staged}
-use Rattle.update_flight.proofs.Whole.{own-kept}
+use Rattle.update_flight.specs.Interleaving.{Enter}
+use Rattle.update_flight.specs.Transition.{IsTransition, is_before_switch}
+use Rattle.update_flight.proofs.PublicLaws.{kept-edit, kept-move, kept-turn, turn-length}
 use Rattle.updates.specs.Update.{Update, tables_after, tables_between, tables_now}
 use Rattle.run_commands.specs.declared.enters.Stays.{Stays}
-use Rattle.run_commands.specs.Entry.{Entry, Staying, Entering}
 use Rattle.update_events.specs.declared.seat.Seat.{Seat}
 use Rattle.update_events.specs.declared.seat.Seat.TheVariants as seats
-use Rattle.update_events.specs.Moving.{Doing, Happening, Staged, Stayed, Edited, Waits, Moving, Sides, after_entering, after_staying, as_in_flight, coming_by, doing, editing, entered_count, side_of, stepping, told_of_edit, told_of_turn, turning}
+use Rattle.update_events.specs.Moving.{Happening, Staged, Stayed, Moving, after_entering, after_staying, editing, entered_count, told_of_edit, told_of_turn, turning}
 use Rattle.update_commands.specs.Whole.{is_of, told_of}
 use Rattle.update_commands.proofs.Lists.{get-front, get-seam, set-elsewhere, set-here}
 

@@ -1,6 +1,6 @@
 -- What `update` leaves, by where it ends.
-use Rattle.std.proofs.Common.{◌≡◌, inl, inr, ℕ, true, false, List, [], ◌∷◌, Option, None, Some, IfSome, Result, Ok, Err, refl, sym, ap, ◌∙◌, subst}
-use Rattle.std.specs.Prelude.{IsSomeAnd, if◌then◌else◌}
+use Rattle.std.proofs.Common.{◌≡◌, inl, inr, ℕ, false, List, [], ◌∷◌, Option, None, Some, IfSome, Result, Ok, Err, refl, sym, ap, ◌∙◌, subst}
+use Rattle.std.specs.Prelude.{if◌then◌else◌}
 use Rattle.srx_edge.specs.Edge.{file_named}
 use Rattle.srx_edge.specs.FilesRead.{FilesSeen, FailsAt, asked_for}
 use Rattle.srx_edge.specs.Sources.{SourceSeen}
@@ -32,27 +32,12 @@ use Rattle.command_inputs.specs.Packets.{packets_in, reading_of, fault_of}
 use Rattle.walk_commands.specs.Walk.{no_list}
 use Rattle.update_events.specs.Events.{update_pieces}
 use Rattle.update_events.specs.Moving.{Sides}
-use Rattle.update_commands.specs.declared.start.Start.TheVariants as starts
-use Rattle.update_commands.specs.Update.{BothWant, HasLists, IfJudged, IntentWants, NewWants, OldWants, ReadsInput, StartsAs, WithJudged, asks_behind_networks, update_output, update_shape, updated}
+use Rattle.update_commands.specs.declared.start.UpdateStart.TheVariants as starts
+use Rattle.update_commands.specs.Update.{BothWant, HasLists, IfJudged, IntentWants, NewWants, OldWants, ReadsInput, UpdateStartsAs, WithJudged, asks_behind_networks, update_output, update_shape, updated}
+use Rattle.update_commands.proofs.Families.{one-family}
+use Rattle.update_commands.proofs.Held.{all-told, any-input, both-told}
 use Rattle.update_commands.proofs.NoLists.{GivesText, all_of_both, no_lists_always, none_of_both, none_of_new, none_of_old}
 use Rattle.update_commands.proofs.Starting.{Begins, lists_want}
-
--- of any input
-any-input : (left : Option (List ℕ)) → IfSome left (λ input. Unit {0})
-any-input None = tt
-any-input (Some input) = tt
-
--- what holds of what is told, of two and of three facts of it
-
-both-told : (told : Option Held) (P Q R : Held → Type 0) → ((held : Held) → P held → Q held → R held) → IfSome told P → IfSome told Q
-    → IfSome told R
-both-told None P Q R f p q = tt
-both-told (Some held) P Q R f p q = f held p q
-
-all-told : (told : Option Held) (P Q R S : Held → Type 0) → ((held : Held) → P held → Q held → R held → S held) → IfSome told P
-    → IfSome told Q → IfSome told R → IfSome told S
-all-told None P Q R S f p q r = tt
-all-told (Some held) P Q R S f p q r = f held p q r
 
 module _ (one two three events : List ℕ) where
   abbrev shape : Shape
@@ -145,11 +130,13 @@ module _ (one two three events : List ℕ) where
 
   wants-both : (old new : Network) (judged : Result BothIntents Refusal) (held : Held) (input : List ℕ) (output : Output)
       → OldIs (Ok old) held → NewIs (Ok new) held → IntentIs old new judged held
-      → WithJudged judged (λ both. BothWant old new both events input) output → Wants held input output
+      → ((text : List ℕ) → intents_in old new text ≡ judged → WithJudged judged (λ both. BothWant old new both events input) output)
+      → Wants held input output
   wants-both old new judged held input output h i k w = wants-new old (Ok new) held input output h i
       (some-map (file_named held three) (λ text. intents_in old new text ≡ judged)
       (λ text. WithJudged (intents_in old new text) (λ both. BothWant old new both events input) output)
-      (λ text is. subst (λ (j : Result BothIntents Refusal). WithJudged j (λ both. BothWant old new both events input) output) (sym is) w) k)
+      (λ text is. subst (λ (j : Result BothIntents Refusal). WithJudged j (λ both. BothWant old new both events input) output)
+      (sym is) (w text is)) k)
 
   -- ---- the input as it was
 
@@ -252,15 +239,19 @@ module _ (one two three events : List ℕ) where
     asks-three : (stop : Stop) → FailsBy stop (one ∷ two ∷ three ∷ []) f → g ≡ files_left_by stop (asked_for three last)
         → Asks shape stop f g
     asks-three stop fails seen = asks_all shape stop (one ∷ two ∷ three ∷ []) f g (front_whole (one ∷ two ∷ three ∷ [])) fails
-        (names-three old new f.told first.0 told-new) (seen ∙ ap (λ (files : FilesSeen). files_left_by stop (asked_for three files)) last-is)
+        (names-three old new f.told first.0 told-new)
+        (seen ∙ ap (λ (files : FilesSeen). files_left_by stop (asked_for three files)) last-is)
 
-    wants-judged : (judged : Result BothIntents Refusal) (Q : List ℕ → Type 0) (output : Output) → IfSome last.told (IntentIs old new judged)
-        → IfSome s.left Q → ((input : List ℕ) → Q input → WithJudged judged (λ both. BothWant old new both events input) output)
+    wants-judged : (judged : Result BothIntents Refusal) (Q : List ℕ → Type 0) (output : Output)
+        → IfSome last.told (IntentIs old new judged)
+        → IfSome s.left Q → ((text input : List ℕ) → intents_in old new text ≡ judged → Q input
+        → WithJudged judged (λ both. BothWant old new both events input) output)
         → WantedOf shape f.told s.left output
     wants-judged judged Q output h q w = wanted Q f.told s.left output q
         (all-told f.told (OldIs (Ok old)) (NewIs (Ok new)) (IntentIs old new judged)
         (λ held. (input : List ℕ) → Q input → Wants held input output)
-        (λ held is more intent input q. wants-both old new judged held input output is more intent (w input q)) first.0 told-new
+        (λ held is more intent input q. wants-both old new judged held input output is more intent (λ text given. w text input given q))
+        first.0 told-new
         (of-last (IntentIs old new judged) h))
 
     early-judged : (judged : Result BothIntents Refusal) → (IfJudged judged (HasLists old new) → ⊥)
@@ -272,7 +263,7 @@ module _ (one two three events : List ℕ) where
     pub halted_at_intent : (halt : Halt) → JudgesFile (intents_in old new) three (Err halt) last g
         → Commands shape (Err halt) (outside f s o e) (outside g s o e)
     halted_at_intent (halts.Refused refusal) h = refused_commands shape refusal f g s s o
-        (wants-judged (Err refusal) (λ input. Unit {0}) (refused refusal) h.0 (any-input s.left) (λ input _. refl))
+        (wants-judged (Err refusal) (λ input. Unit {0}) (refused refusal) h.0 (any-input s.left) (λ text input is _. refl))
         (inr (inl refl)) (takes-unread Never f g s (asks-three Never tt h.1) refl
         (unread-early f.told s (early-judged (Err refusal) (λ none. none) h.0))) e
     halted_at_intent (halts.Failed failures.Fault) h = files_fault shape f g s o
@@ -288,10 +279,10 @@ module _ (one two three events : List ℕ) where
 
     module _ (both : BothIntents) (third : JudgesFile (intents_in old new) three (Ok both) last g) where
       -- a description isn't flat, there is no plan, or memory was wanting
-      pub halted_at_start : (halt : Halt) → StartsAs old new both (Err halt)
+      pub halted_at_start : (halt : Halt) → UpdateStartsAs old new both (Err halt)
           → Commands shape (Err halt) (outside f s o e) (outside g s o e)
       halted_at_start (halts.Refused refusal) h = refused_commands shape refusal f g s s o
-          (wants-judged (Ok both) (λ input. Unit {0}) (refused refusal) third.0 (any-input s.left) (λ input _. h events input))
+          (wants-judged (Ok both) (λ input. Unit {0}) (refused refusal) third.0 (any-input s.left) (λ text input is _. h events input))
           (inr (inl refl)) (takes-unread Never f g s (asks-three Never tt third.1) refl
           (unread-early f.told s (early-judged (Ok both) (no_lists_always old new both (refused refusal) (λ done. cc) h) third.0))) e
       halted_at_start (halts.Failed failures.Fault) h = absurd h
@@ -299,13 +290,14 @@ module _ (one two three events : List ℕ) where
           (takes-unread Elsewhere f g s (asks-three Elsewhere tt third.1) refl (unread-memory f.told s)) e
 
       -- a list is wanting
-      pub without_list : (line : Text) (told : Told) → StartsAs old new both (Ok (starts.NoList line)) → told.line ≡ line
+      pub without_list : (line : Text) (told : Told) → UpdateStartsAs old new both (Ok (starts.NoList line)) → told.line ≡ line
           → told.status ≡ statuses.NoAnswer → Commands shape (Ok told) (outside f s o e) (outside g s o e)
       without_list line told h is status = pieces_whole shape [] (outside f s o e) (outside g s o e) told refl
           (rw (is, status) (wants-judged (Ok both) (λ input. Unit {0}) (no_list (bytes_of_text line)) third.0 (any-input s.left)
-          (λ input _. h events input)))
+          (λ text input is _. h events input)))
           (rw status refl) (inr (inr (inl status))) (takes-unread Never f g s (asks-three Never tt third.1) refl
-          (unread-early f.told s (early-judged (Ok both) (no_lists_always old new both (no_list (bytes_of_text line)) (λ done. cc) h) third.0)))
+          (unread-early f.told s
+          (early-judged (Ok both) (no_lists_always old new both (no_list (bytes_of_text line)) (λ done. cc) h) third.0)))
           (λ done. cc (sym status ∙ done))
 
       -- ---- there are both lists, so the input is read
@@ -333,7 +325,8 @@ module _ (one two three events : List ℕ) where
         wants-lists : (Q : List ℕ → Type 0) (output : Output) → IfSome s.left Q
             → ((input : List ℕ) → Q input → output ≡ update_output old sides plan events input) → WantedOf shape f.told s.left output
         wants-lists Q output q w = wants-judged (Ok both) Q output third.0 q
-            (λ input h. lists_want old new both plan sides begins events input output (w input h))
+            (λ text input is h.
+            lists_want old new both plan sides begins (one-family old new text both is) events input output (w input h))
 
         -- the input was refused, wasn't read, or memory was wanting
         pub halted_at_input : (halt : Halt) → JudgesInput packets_in (Err halt) s t

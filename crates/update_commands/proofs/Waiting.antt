@@ -1,5 +1,5 @@
 -- A packet of an update that is to come: what is told of it by events, and in which description it enters.
-use Rattle.std.proofs.Common.{◌≡◌, ◌≢◌, ◌⊎◌, inl, inr, ℕ, zero, suc, ◌+◌, ◌<◌, ◌≤◌, nat_le, nat_eq, Bool, true, false, if◌then◌else◌, List, [], ◌∷◌, ◌++◌, length, length-append, map, slice_get, slice_set, All, Option, Some, None, Result, Ok, Err, refl, sym, ap, ap₂, ◌∙◌, subst, arith}
+use Rattle.std.proofs.Common.{◌≡◌, ◌≢◌, ◌⊎◌, inl, inr, ℕ, zero, suc, ◌+◌, ◌<◌, ◌≤◌, nat_le, nat_eq, Bool, true, false, if◌then◌else◌, List, [], ◌∷◌, ◌++◌, length, length-append, slice_get, All, Option, Some, None, Result, Ok, refl, sym, ap, ap₂, ◌∙◌, subst, arith}
 use Rattle.std.specs.Prelude.{◌||◌}
 use Rattle.std.proofs.lemmas.Bool.{eqb-true, eqb-false, leb-true, leb-false, le-leb, lt-leb}
 use Rattle.std.proofs.lemmas.List.Elements.{filter-append}
@@ -11,25 +11,24 @@ use Rattle.walk_rules.specs.declared.place.Ended.{Ended}
 use Rattle.walk_rules.specs.Walk.{Stage, choice_at}
 use Rattle.walk_rules.proofs.PublicLaws.{length-walk_of}
 use Rattle.node_stage.specs.Fronted.{fronted}
-use Rattle.packet_walk.specs.Flight.{InFlight, IsCounted, packet_in, stage_in, staged}
+use Rattle.packet_walk.specs.Flight.{InFlight, packet_in, stage_in, staged}
 use Rattle.packet_walk.specs.Rest.{rest_of}
 use Rattle.packet_walk.proofs.PublicLaws.{entering-counted}
-use Rattle.update_plan.specs.Changes.{added_entries, removed_entries}
+use Rattle.update_rules.specs.Changes.{added_entries, removed_entries}
 use Rattle.update_flight.specs.declared.edit.Busy.{Busy}
 use Rattle.update_flight.specs.declared.edit.Edit.{Edit}
-use Rattle.update_flight.specs.declared.edit.Edit.TheVariants.{Added, Switched, Removed, Finished}
+use Rattle.update_flight.specs.declared.edit.Edit.TheVariants.{Added, Switched}
 use Rattle.update_flight.specs.Interleaving.{PassOver, own_of}
 use Rattle.update_flight.specs.Tables.{HasRoute}
-use Rattle.update_flight.specs.Transition.{IsTransition, Transition, answer_of, answer_to, done_after, edit_count, edited, edits, entered, first_early, is_before_switch, or_finished}
-use Rattle.update_flight.proofs.EditLemmas.{done-least}
-use Rattle.update_flight.proofs.Whole.{own-entry}
+use Rattle.update_flight.specs.Transition.{Transition, answer_of, answer_to, done_after, edited, edits, first_early, is_before_switch, or_finished}
+use Rattle.update_flight.proofs.PublicLaws.{done-least, own-entry}
 use Rattle.updates.specs.Update.{Update, tables_between, tables_now}
 use Rattle.run_commands.specs.declared.enters.Comes.{Comes}
 use Rattle.run_commands.specs.declared.enters.Stays.{Stays}
 use Rattle.run_commands.specs.Entry.{Entry, Staying, Entering}
 use Rattle.update_events.specs.declared.seat.Seat.{Seat}
 use Rattle.update_events.specs.declared.seat.Seat.TheVariants as seats
-use Rattle.update_events.specs.Moving.{Doing, Happening, Staged, Stayed, Edited, Waits, Moving, Sides, after_entering, after_staying, as_in_flight, coming_by, doing, editing, entered_count, first_member, happening, side_of, stepping, told_of_edit, told_of_turn, told_where, turning}
+use Rattle.update_events.specs.Moving.{Doing, Happening, Staged, Stayed, Moving, Sides, after_entering, after_staying, as_in_flight, coming_by, doing, editing, entered_count, first_member, happening, side_of, stepping, told_of_turn, told_where, turning}
 use Rattle.update_commands.specs.Whole.{comes_early, is_of, told_of}
 use Rattle.update_commands.proofs.Lists.{get-seam, set-elsewhere, set-here}
 use Rattle.update_commands.proofs.Entered.{Here, Told, doing-mine, takes, times}
@@ -148,7 +147,8 @@ module _ (old new : Network) (pass : PassOver (tables_between old new) (added_en
         there = set-elsewhere m.seats i at seats.Gone apart ∙ there;
       }
       put-come other found (Entering comes) =
-          put-turn (entered_count m + 1) (after_entering i (as_in_flight comes) m) (through-entered old new i other (as_in_flight comes) m found t)
+          put-turn (entered_count m + 1) (after_entering i (as_in_flight comes) m)
+          (through-entered old new i other (as_in_flight comes) m found t)
           (set-elsewhere m.seats i at (seats.Entered (entered_count m + 1)) apart ∙ there)
 
       put-step : (o : Option Seat) → slice_get m.seats i ≡ o → StaysPut seat (stepping sides i m o)
@@ -284,7 +284,8 @@ module _ (old new : Network) (pass : PassOver (tables_between old new) (added_en
         at-once : comes_early number (happening sides m (number ∷ events)) ≡ true
         at-once =
             ap (λ (x : Doing). comes_early number (x.happens ++ happening sides x.after events)) does
-            ∙ (ap (λ (o : Option InFlight). comes_early number (told_of_turn number now.update o ++ happening sides (turning number k now).after events)) there-now
+            ∙ (ap (λ (o : Option InFlight).
+            comes_early number (told_of_turn number now.update o ++ happening sides (turning number k now).after events)) there-now
             ∙ early-own number (stage_in (tables_now now.update) p) (staged (tables_now now.update) p).ended
             (happening sides (turning number k now).after events))
 

@@ -10,10 +10,9 @@ use Rattle.flat_networks.specs.Flat.{flatness_of}
 use Rattle.intent_reader.specs.declared.intent.Intent.{Intent}
 use Rattle.path_compiler.specs.declared.compiled.Compiled.{Compiled}
 use Rattle.path_compiler.specs.declared.compiled.CompileFault.{CompileFault}
-use Rattle.path_compiler.specs.declared.compiled.CompileFault.TheVariants as faults
-use Rattle.update_plan.specs.Planning.{planning}
-use Rattle.update_plan.specs.declared.fault.PlanFault.{PlanFault}
-use Rattle.update_plan.specs.declared.fault.PlanFault.TheVariants as plans
+use Rattle.update_rules.specs.Planning.{planning}
+use Rattle.update_rules.specs.declared.fault.PlanFault.{PlanFault}
+use Rattle.update_rules.specs.declared.fault.PlanFault.TheVariants as plans
 use Rattle.updates.specs.Update.{Plan, plan_of}
 use Rattle.srx_edge.specs.Edge.{file_named}
 use Rattle.command_output.specs.declared.halt.Failure.TheVariants as failures
@@ -26,19 +25,17 @@ use Rattle.command_output.specs.Halts.{flat_refusal}
 use Rattle.command_output.specs.Lines.{bytes_of_text}
 use Rattle.command_output.specs.Outputs.{refused, after, ended_by}
 use Rattle.command_output.specs.Pieces.{Output}
-use Rattle.command_output.specs.Shape.{Held, Shape}
+use Rattle.command_output.specs.Shape.{Shape}
 use Rattle.command_output.specs.Verbs.{TwoWords, is_word, two_words}
 use Rattle.command_inputs.specs.declared.packets.Packets.{Packets}
 use Rattle.command_inputs.specs.declared.judge.BothIntents.{BothIntents}
 use Rattle.command_inputs.specs.Choices.{events_in}
 use Rattle.command_inputs.specs.Judgements.{network_in, intents_in}
 use Rattle.command_inputs.specs.Packets.{packets_in, reading_of, fault_of}
-use Rattle.walk_commands.specs.Lists.{CompiledWants, IntentAnswers, IsCompiledFor, IsLeastFor, NoneLessFor, hop_limit_line, none_line, too_long_line}
-use Rattle.walk_commands.specs.Walk.{headend_of, no_list}
-use Rattle.update_commands.specs.declared.start.Listed.{Listed}
-use Rattle.update_commands.specs.declared.start.Listed.TheVariants as listings
-use Rattle.update_commands.specs.declared.start.Start.{Start}
-use Rattle.update_commands.specs.declared.start.Start.TheVariants as starts
+use Rattle.walk_commands.specs.Lists.{CompiledWants, IsCompiledFor, IsLeastFor}
+use Rattle.walk_commands.specs.Walk.{NoListWants, headend_of, no_list}
+use Rattle.update_commands.specs.declared.start.UpdateStart.{UpdateStart}
+use Rattle.update_commands.specs.declared.start.UpdateStart.TheVariants as starts
 use Rattle.update_commands.specs.declared.words.UpdateWords as code
 use Rattle.update_events.specs.Events.{update_pieces}
 use Rattle.update_events.specs.Moving.{Sides}
@@ -95,15 +92,7 @@ updated old sides plan events packets =
 abbrev pub update_output : Network → Sides → Plan → List ℕ → List ℕ → Output
 update_output old sides plan events input = after (packets_in input) (updated old sides plan events)
 
--- the line that `walk` has where there is no list; want of memory has none
-abbrev pub NoListWants : Network → CompileFault → Output → Type 0
-NoListWants net (faults.NotFlat why) output = output ≡ refused (flat_refusal net why)
-NoListWants net (faults.NoList solution) output = output ≡ no_list none_line
-NoListWants net (faults.TooLong found) output = output ≡ no_list (too_long_line found.containers)
-NoListWants net (faults.HopLimit found) output = output ≡ no_list (hop_limit_line found.need)
-NoListWants net faults.NoMemory output = ⊥
-
--- with a list what follows, and else that line
+-- with a list what follows, and else what `walk` has where there is none
 abbrev pub WithList : (Compiled → Output → Type 0) → Network → Intent → Result Compiled CompileFault → Output → Type 0
 WithList Follow net intent (Ok c) output = Follow c output
 WithList Follow net intent (Err fault) output = NoListWants net fault output
@@ -227,27 +216,16 @@ PlansAs old new (Err (halts.Refused refusal)) = IsRefusedBy old new (flatness_of
 PlansAs old new (Err (halts.Failed failures.Fault)) = ⊥
 PlansAs old new (Err (halts.Failed failures.NoMemory)) = ⊤
 
--- an intent's list at its headend, or the line of what is wanting
-abbrev pub ListsAs : Network → Intent → Result Listed Halt → Type 0
-ListsAs net intent (Ok (listings.List headend)) =
-    (c : Compiled) × IsCompiledFor net intent c × IsLeastFor net intent c × (headend ≡ headend_of net intent c)
-ListsAs net intent (Ok (listings.NoList told)) = (fault : CompileFault) × IntentAnswers net intent (Err fault)
-    × NoneLessFor net intent (Err fault) × NoListWants net fault (no_list (bytes_of_text told))
-ListsAs net intent (Err (halts.Refused refusal)) = (fault : CompileFault) × IntentAnswers net intent (Err fault)
-    × NoneLessFor net intent (Err fault) × NoListWants net fault (refused refusal)
-ListsAs net intent (Err (halts.Failed failures.Fault)) = ⊥
-ListsAs net intent (Err (halts.Failed failures.NoMemory)) = ⊤
-
 -- with a plan and both lists, or a list is wanting, or the refusal
-abbrev pub StartsAs : Network → Network → BothIntents → Result Start Halt → Type 0
-StartsAs old new both (Ok (starts.Lists plan sides)) =
+abbrev pub UpdateStartsAs : Network → Network → BothIntents → Result UpdateStart Halt → Type 0
+UpdateStartsAs old new both (Ok (starts.Lists plan sides)) =
     (planning old new ≡ Ok tt) × (plan ≡ plan_of old new) × ((before : Compiled) × (after : Compiled)
     × IsCompiledFor old both.before before × IsLeastFor old both.before before
     × IsCompiledFor new both.after after × IsLeastFor new both.after after
     × (sides.old ≡ headend_of old both.before before) × (sides.new ≡ headend_of new both.after after))
-StartsAs old new both (Ok (starts.NoList told)) =
+UpdateStartsAs old new both (Ok (starts.NoList told)) =
     (events input : List ℕ) → BothWant old new both events input (no_list (bytes_of_text told))
-StartsAs old new both (Err (halts.Refused refusal)) =
+UpdateStartsAs old new both (Err (halts.Refused refusal)) =
     (events input : List ℕ) → BothWant old new both events input (refused refusal)
-StartsAs old new both (Err (halts.Failed failures.Fault)) = ⊥
-StartsAs old new both (Err (halts.Failed failures.NoMemory)) = ⊤
+UpdateStartsAs old new both (Err (halts.Failed failures.Fault)) = ⊥
+UpdateStartsAs old new both (Err (halts.Failed failures.NoMemory)) = ⊤

@@ -17,7 +17,7 @@ use Rattle.list_pack.specs.SidLists.{list_values}
 use Rattle.leg_table.specs.Realizes.{IsInner}
 use Rattle.deep_stages.specs.Walks.{depth_after}
 use Rattle.path_compiler.specs.declared.compiled.Compiled.{Compiled}
-use Rattle.update_plan.specs.Joined.{joined_of}
+use Rattle.update_rules.specs.Joined.{joined_of}
 use Rattle.update_flight.specs.declared.edit.Edit.TheVariants as edits
 use Rattle.update_flight.specs.Tables.{HasRoute}
 use Rattle.updates.specs.Update.{plan_of}
@@ -136,16 +136,18 @@ pub record KeepsToOwn (joined : Network) (own : Own) (told : List Happening) (in
   pub takes : BeginAs joined own.net (stages_told told)
       (stages_to_hand own.net 0 (walk_at_headend own.net own.intent first_member keeps.outer))
 
--- ---- so it is of each packet that is to come
+-- ---- so it is of each packet
 
 -- what happens by the events, and after them
 abbrev pub all_of : Network → Network → Sides → List Frame → List ℕ → List Happening
 all_of old new sides frames events =
     let start = starting sides (plan_of old new) frames in happening sides start (events_and_rest start frames events)
 
--- of the packet of a number, among all that happens
+-- Of the packet of a number, among all that happens. One that doesn't stay before the first event is to come, and takes its own walk, or
+-- stays. An inner packet that can be lowered is to come whatever the lists are, so where it is small it keeps to the intent.
 pub record PacketKeeps (old new : Network) (before after : Own) (number : ℕ) (body : Body) (all : List Happening) : Type 0 where
-  pub takes : IsToldAs (joined_of old new) old (own_by before after (comes_early number all)).net number (told_of number all)
+  pub takes : early_at (own_entry before) body ≡ None
+      → IsToldAs (joined_of old new) old (own_by before after (comes_early number all)).net number (told_of number all)
       (own_entry (own_by before after (comes_early number all)) body)
   pub keeps : (inner : Content) → let own = own_by before after (comes_early number all) in HasInner own.intent.inner body inner
       → IsInner own.intent.inner inner → IsSmallFor own.net own.intent (list_values own.net own.list.list) inner own.intent.hop_limit
@@ -155,6 +157,5 @@ pub record PacketKeeps (old new : Network) (before after : Own) (number : ℕ) (
 abbrev pub PacketsKeep : Network → Network → BothIntents → Compiled → Compiled → Type 0
 PacketsKeep old new both before after =
     (frames : List Frame) (events : List ℕ) (at : ℕ) (frame : Frame) → slice_get frames at ≡ Some frame
-    → early_at (sides_of old new both before after).old frame.body ≡ None
     → PacketKeeps old new (own_of old both.before before) (own_of new both.after after) (suc at) frame.body
     (all_of old new (sides_of old new both before after) frames events)

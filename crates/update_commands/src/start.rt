@@ -1,37 +1,27 @@
 //! How an update starts: with a plan and the lists of both descriptions.
 
-ghost use Rattle.std.specs.Prelude.{◌≡◌, [], ⊤};
+ghost use Rattle.std.specs.Prelude.{◌≡◌, []};
 ghost use Rattle.intent_reader.specs.Rules.{IsIntent};
 ghost use Rattle.flat_networks.specs.Flat.{flatness_of};
-ghost use Rattle.update_commands.specs.Update.{FlatAs, IsPlanHalt, ListsAs, PlansAs, StartsAs, limit_refusal};
+ghost use Rattle.update_commands.specs.Update.{FlatAs, IsPlanHalt, PlansAs, UpdateStartsAs, limit_refusal};
 
 use command_inputs::BothIntents;
 use command_output::{EntryName, Failure, Halt, Refusal, Text, refusal_of_not_flat};
 use flat_networks::compilable;
-use intent_reader::Intent;
 use net_model::Net;
-use path_compiler::CompileFault;
 use std::alloc::Global;
 use text_faults::{FaultKind, FaultPlace, Key, TableKind, TextFault};
 use update_events::Sides;
-use update_plan::PlanFault;
+use update_rules::PlanFault;
 use updates::{Plan, plan_update};
-use walk_commands::lists::{least_list, line_of_hop_limit, line_of_none, line_of_too_long};
-use walk_commands::{Headend, headend_of};
+use walk_commands::{Headend, Start, start_of_intent};
 
 /// How an update starts. (own rule)
 #[derive(Drop)]
-pub enum Start {
+pub enum UpdateStart {
     /// With a plan, and with the lists that the intent is compiled to.
     Lists(Plan, Sides<Headend>),
     /// A list is wanting; the line says why.
-    NoList(Text),
-}
-
-/// A description's list at the headend, or why there is none.
-#[derive(Drop)]
-enum Listed {
-    List(Headend),
     NoList(Text),
 }
 
@@ -87,53 +77,31 @@ fn plan_of(alloc: Global, old: &Net, new: &Net) -> Result<Plan, Halt>
     }
 }
 
-/// The list that an intent is compiled to, at its headend.
-#[tactic(auto, using(walk_commands::proofs::PublicLaws::valued))]
-fn list_of(alloc: Global, net: &Net, intent: &Intent) -> Result<Listed, Halt>
-    requires whole { net.now.hidden ≡ [] }
-    requires intent { IsIntent net.now intent.now }
-    ensures { ListsAs net.now intent.now result }
-{
-    net.keeps_rules();
-    match least_list(alloc, net, intent) {
-        Ok(list) => Ok(Listed::List(headend_of(alloc, net, intent, &list)?)),
-        Err(CompileFault::NotFlat(why)) => Err(Halt::Refused(refusal_of_not_flat(net, &why))),
-        Err(CompileFault::NoList { .. }) => Ok(Listed::NoList(line_of_none())),
-        Err(CompileFault::TooLong { found }) => {
-            Ok(Listed::NoList(line_of_too_long(alloc, found.containers)?))
-        }
-        Err(CompileFault::HopLimit { found }) => {
-            Ok(Listed::NoList(line_of_hop_limit(alloc, found.need)?))
-        }
-        Err(CompileFault::NoMemory) => Err(Halt::Failed(Failure::NoMemory)),
-    }
-}
-
 /// How an update starts: both descriptions are flat, the plan, and then the lists.
-pub(crate) fn start_of(
+pub(crate) fn start_of_update(
     alloc: Global,
     old: &Net,
     new: &Net,
     both: &BothIntents,
-) -> Result<Start, Halt>
+) -> Result<UpdateStart, Halt>
     requires old { old.now.hidden ≡ [] }
     requires new { new.now.hidden ≡ [] }
     requires before { IsIntent old.now both.now.before }
     requires after { IsIntent new.now both.now.after }
-    ensures { StartsAs old.now new.now both.now result }
+    ensures { UpdateStartsAs old.now new.now both.now result }
 {
     let plan = plan_of(alloc, old, new)?;
-    let before = match list_of(alloc, old, &both.before)? {
-        Listed::List(headend) => headend,
-        Listed::NoList(line) => return Ok(Start::NoList(line)),
+    let before = match start_of_intent(alloc, old, &both.before)? {
+        Start::List(headend) => headend,
+        Start::NoList(line) => return Ok(UpdateStart::NoList(line)),
     };
-    let after = match list_of(alloc, new, &both.after)? {
-        Listed::List(headend) => headend,
-        Listed::NoList(line) => return Ok(Start::NoList(line)),
+    let after = match start_of_intent(alloc, new, &both.after)? {
+        Start::List(headend) => headend,
+        Start::NoList(line) => return Ok(UpdateStart::NoList(line)),
     };
     let sides = Sides {
         old: before,
         new: after,
     };
-    Ok(Start::Lists(plan, sides))
+    Ok(UpdateStart::Lists(plan, sides))
 }

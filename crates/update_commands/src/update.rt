@@ -4,7 +4,8 @@ ghost use Rattle.command_output.specs.Answers.{Commands};
 ghost use Rattle.command_output.specs.Outside.{outside};
 ghost use Rattle.update_commands.specs.Update.{update_shape};
 
-use crate::start::{Start, start_of};
+use crate::start::{UpdateStart, start_of_update};
+use crate::words::UpdateWords;
 use command_inputs::{intents_of_file, network_of_file, packets_of_input};
 use command_output::{Halt, Status, Text, Told};
 use srx_edge::{Files, Sink, Source};
@@ -15,24 +16,24 @@ use update_events::{Change, drive_update};
 /// tables pass from an old description to a new one. (own rule)
 pub fn update<F: Files, S: Source, O: Sink, E: Sink>(
     alloc: Global,
-    words: (&str, &str, &str),
-    events: &[u32],
+    words: &UpdateWords<'_>,
     files: &mut F,
     input: &mut S,
     out: &mut O,
     err: &mut E,
 ) -> Result<Told, Halt>
-    ensures { Commands (update_shape words.entry.0.now words.entry.1.now words.entry.2.now events.now) result
+    ensures { Commands (update_shape words.now.old.now words.now.new.now words.now.intent.now
+        words.now.events.items) result
         (outside (F.seen files.old) (S.seen input.old) (O.seen out.old) (E.seen err.old))
         (outside (F.seen files.new) (S.seen input.new) (O.seen out.new) (E.seen err.new)) }
 {
-    let old = network_of_file(alloc, files, words.0)?;
-    let new = network_of_file(alloc, files, words.1)?;
-    let both = intents_of_file(alloc, files, &old, &new, words.2)?;
-    let start = start_of(alloc, &old, &new, &both)?;
+    let old = network_of_file(alloc, files, words.old)?;
+    let new = network_of_file(alloc, files, words.new)?;
+    let both = intents_of_file(alloc, files, &old, &new, words.intent)?;
+    let start = start_of_update(alloc, &old, &new, &both)?;
     let (plan, sides) = match start {
-        Start::Lists(plan, sides) => (plan, sides),
-        Start::NoList(line) => {
+        UpdateStart::Lists(plan, sides) => (plan, sides),
+        UpdateStart::NoList(line) => {
             return Ok(Told {
                 line,
                 status: Status::NoAnswer,
@@ -45,7 +46,7 @@ pub fn update<F: Files, S: Source, O: Sink, E: Sink>(
     let change = Change {
         net: &old,
         sides: &sides,
-        events,
+        events: words.events.as_slice(),
     };
     match drive_update(alloc, &change, plan, &packets, out, err)? {
         Some(refusal) => Err(Halt::Refused(refusal)),

@@ -2,7 +2,7 @@
 
 ghost use Rattle.std.specs.Prelude.{◌≡◌, IfOk};
 ghost use Rattle.command_inputs.specs.Choices.{items_of};
-ghost use Rattle.command_output.specs.Verbs.{is_word, two_words_seen, words_of};
+ghost use Rattle.command_output.specs.Verbs.{words_of};
 ghost use Rattle.update_commands.specs.Update.{update_asked, update_words, words_with};
 
 use command_inputs::events_of;

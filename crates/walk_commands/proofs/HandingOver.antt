@@ -1,4 +1,5 @@
--- A walk that hands over where no link has an MTU does so within its stages: each stage before that lowers the hop limit, or sends what was submitted.
+-- A walk that hands over where no link has an MTU does so within its stages: each stage before that lowers the hop limit, or sends what
+-- was submitted.
 use Rattle.std.proofs.Common.{◌≡◌, ℕ, zero, suc, ◌+◌, ◌*◌, ◌<◌, Bool, true, false, List, [], ◌∷◌, Option, None, Some, refl, sym, ap, ◌∙◌, subst, arith, inl, inr}
 use Rattle.std.specs.Prelude.{slice_get, is_some, All, if◌then◌else◌}
 use Rattle.std.specs.Option.{option_map}

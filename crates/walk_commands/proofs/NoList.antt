@@ -1,5 +1,5 @@
 -- The input isn't read where there is no list.
-use Rattle.std.proofs.Common.{◌≡◌, ◌≢◌, ℕ, List, [], ◌∷◌, Option, None, Some, Result, Ok, Err, refl, ap, ◌∙◌, subst}
+use Rattle.std.proofs.Common.{◌≡◌, ℕ, List, Option, None, Some, Result, Ok, Err, refl, subst}
 use Rattle.std.specs.Prelude.{IsSomeAnd}
 use Rattle.net_model.specs.Network.{Network}
 use Rattle.intent_reader.specs.declared.intent.Intent.{Intent}
@@ -9,12 +9,9 @@ use Rattle.path_compiler.specs.declared.compiled.CompileFault.TheVariants as fau
 use Rattle.compile_commands.specs.Lists.{IntentAnswers, IsCompiledFor}
 use Rattle.compile_commands.proofs.PublicLaws.{one-answer-for}
 use Rattle.command_output.specs.declared.refusal.Refusal.{Refusal}
-use Rattle.command_output.specs.declared.status.Status.{Status}
-use Rattle.command_output.specs.declared.status.Status.TheVariants as statuses
 use Rattle.command_output.specs.Pieces.{Output}
 use Rattle.command_inputs.specs.Judgements.{network_in, intent_in}
-use Rattle.compile_commands.specs.Compile.{CompiledWants}
-use Rattle.walk_commands.specs.Walk.{HasList, HasListIn, WalkWants, headend_of, walk_output}
+use Rattle.walk_commands.specs.Walk.{HasList, HasListIn, NoListWants, WantsNoList}
 
 -- a text that is there is judged so
 abbrev GivesText : {A : Type 0} → (List ℕ → Result A Refusal) → Result A Refusal → Option (List ℕ) → Type 0
@@ -38,11 +35,7 @@ no_list_of_intent net read (Some text) None none is i = λ has. absurd i
 no_list_of_intent net read (Some text) (Some more) none is i =
     λ has. none (subst (HasList net) i (subst (λ (j : Result Network Refusal). HasListIn j (Some more)) is has))
 
--- where an output that isn't Done is wanted of every input, no list is compiled
-
-abbrev WantsAlways : Network → Intent → Output → Type 0
-WantsAlways net intent output = (choices schedule input : List ℕ) → CompiledWants (WalkWants choices schedule input) net intent output
-
+-- where an answer without a list is wanted, no list is compiled
 module _ (net : Network) (intent : Intent) where
   abbrev IsWant : Result Compiled CompileFault → Type 0
   IsWant answer = answer ≡ Err faults.NoMemory
@@ -55,18 +48,13 @@ module _ (net : Network) (intent : Intent) where
   other-answer c fault is answers some =
       found-or-not c fault (Ok c) refl (one-answer-for net intent (Ok c) (Err fault) is answers (λ e. cc) some)
 
-  by-answer : (c : Compiled) (answer : Result Compiled CompileFault) (output : Output) → IsCompiledFor net intent c
-      → output.status ≢ statuses.Done → IntentAnswers net intent answer → WalkWants [] [] (96 ∷ []) net intent answer output → ⊥
-  by-answer c (Ok d) output is early answers wants =
-      let whole : (walk_output net (headend_of net intent d) [] [] (96 ∷ [])).status ≡ statuses.Done = refl in
-      early (ap (λ (o : Output). o.status) wants.0 ∙ whole)
-  by-answer c (Err (faults.NotFlat why)) output is early answers wants = other-answer c (faults.NotFlat why) is answers (λ e. cc)
-  by-answer c (Err (faults.NoList s)) output is early answers wants = other-answer c (faults.NoList s) is answers (λ e. cc)
-  by-answer c (Err (faults.TooLong d)) output is early answers wants = other-answer c (faults.TooLong d) is answers (λ e. cc)
-  by-answer c (Err (faults.HopLimit d)) output is early answers wants = other-answer c (faults.HopLimit d) is answers (λ e. cc)
-  by-answer c (Err faults.NoMemory) output is early answers wants = absurd wants
+  by-fault : (c : Compiled) (fault : CompileFault) (output : Output) → IsCompiledFor net intent c → IntentAnswers net intent (Err fault)
+      → NoListWants net fault output → ⊥
+  by-fault c (faults.NotFlat why) output is answers wants = other-answer c (faults.NotFlat why) is answers (λ e. cc)
+  by-fault c (faults.NoList s) output is answers wants = other-answer c (faults.NoList s) is answers (λ e. cc)
+  by-fault c (faults.TooLong d) output is answers wants = other-answer c (faults.TooLong d) is answers (λ e. cc)
+  by-fault c (faults.HopLimit d) output is answers wants = other-answer c (faults.HopLimit d) is answers (λ e. cc)
+  by-fault c faults.NoMemory output is answers wants = absurd wants
 
-  pub no_list_always : (output : Output) → output.status ≢ statuses.Done → WantsAlways net intent output → ¬ HasList net (Ok intent)
-  no_list_always output early wants = λ has.
-      let w : CompiledWants (WalkWants [] [] (96 ∷ [])) net intent output = wants [] [] (96 ∷ []) in
-      by-answer has.0 w.0 output has.1 early w.1 w.3
+  pub none_has_list : (output : Output) → WantsNoList net intent output → ¬ HasList net (Ok intent)
+  none_has_list output w = λ has. by-fault has.0 w.0 output has.1 w.1 w.3

@@ -9,16 +9,19 @@ use Rattle.srx_edge.specs.Edge.{file_named}
 use Rattle.command_output.specs.Pieces.{Output}
 use Rattle.command_output.specs.Shape.{Held}
 use Rattle.compile_commands.proofs.PublicLaws.{files-one}
-use Rattle.walk_commands.specs.Walk.{WalkWants, walk_shape}
+use Rattle.walk_commands.specs.Walk.{NoListWants, WalkWants, walk_shape}
+
+pub no-list-one : (net : Network) (fault : CompileFault) (a b : Output) → NoListWants net fault a → NoListWants net fault b → a ≡ b
+no-list-one net (faults.NotFlat why) a b one two = one ∙ sym two
+no-list-one net (faults.NoList solution) a b one two = one ∙ sym two
+no-list-one net (faults.TooLong found) a b one two = one ∙ sym two
+no-list-one net (faults.HopLimit found) a b one two = one ∙ sym two
+no-list-one net faults.NoMemory a b one two = absurd one
 
 answer-one : (choices schedule input : List ℕ) (net : Network) (intent : Intent) (answer : Result Compiled CompileFault) (a b : Output)
     → WalkWants choices schedule input net intent answer a → WalkWants choices schedule input net intent answer b → a ≡ b
 answer-one choices schedule input net intent (Ok c) a b one two = one.0 ∙ sym two.0
-answer-one choices schedule input net intent (Err (faults.NotFlat why)) a b one two = one ∙ sym two
-answer-one choices schedule input net intent (Err (faults.NoList solution)) a b one two = one ∙ sym two
-answer-one choices schedule input net intent (Err (faults.TooLong found)) a b one two = one ∙ sym two
-answer-one choices schedule input net intent (Err (faults.HopLimit found)) a b one two = one ∙ sym two
-answer-one choices schedule input net intent (Err faults.NoMemory) a b one two = absurd one
+answer-one choices schedule input net intent (Err fault) a b one two = no-list-one net fault a b one two
 
 pub walk-one : (file intent choices schedule : List ℕ) (held : Held) (input : List ℕ) (a b : Output)
     → (walk_shape file intent choices schedule).wants held input a → (walk_shape file intent choices schedule).wants held input b → a ≡ b

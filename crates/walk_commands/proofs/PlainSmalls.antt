@@ -180,6 +180,7 @@ module _ (net : Network) (len : ℕ) (pick : ℕ → ℕ) where
       pub plain-few : (fuel : ℕ) → length (through_own (deep_walk fuel net place content [] pick taken)) ≤ hand
       plain-few fuel =
           let few = loose-few fuel in
-          let same : length (through_own (deep_walk fuel net place content [] pick taken)) ≡ length (through_hand (walk fuel place content taken))
+          let same : length (through_own (deep_walk fuel net place content [] pick taken))
+          ≡ length (through_hand (walk fuel place content taken))
           = ap length (stages-alone fuel) ∙ length-map (through_hand (walk fuel place content taken)) alone in
           omega (arith, same, few)

@@ -29,12 +29,12 @@ use Rattle.command_output.specs.Lines.{bytes_of_text, refusal_line}
 use Rattle.command_output.specs.Outside.{outside, FailsBy, IsFrontOf, Asks, Reads, ReadsAs, ReadsWhole, asked_for_all, files_left_by}
 use Rattle.command_inputs.specs.Packets.{packets_in, reading_of, fault_of}
 use Rattle.command_output.specs.Gathered.{WroteInGroups}
-use Rattle.command_output.specs.Pieces.{Piece, Output, Which, Stop, Never, AtFiles, AtInput, At, Elsewhere, sinks_of, gone, stop_at, WroteAll}
+use Rattle.command_output.specs.Pieces.{Piece, Output, Which, Stop, Never, AtFiles, AtInput, At, Elsewhere, sinks_of, gone, stop_at}
 use Rattle.command_output.specs.Endings.{Takes, ReadsIts}
 use Rattle.command_output.specs.Shape.{Held, goes_on_with, names_of, WantedOf}
 use Rattle.command_output.proofs.PublicLaws.{each, each-map, some-map, front_whole, front_longer, front_after, asks_all, asks_fault, asks_front, is_at_input, reads_its_early, reads_its_whole, reads_nothing, refused_commands, files_fault, input_fault, memory_wants, pieces_whole, pieces_refused, pieces_cut}
 use Rattle.walk_commands.proofs.WalkKeeping.{walks_keep}
-use Rattle.walk_commands.proofs.NoList.{no_list_of_file, no_list_of_intent, no_list_always}
+use Rattle.walk_commands.proofs.NoList.{no_list_of_file, no_list_of_intent, none_has_list}
 
 -- the names that are asked for, by the judgement of the description
 
@@ -79,13 +79,15 @@ module _ (file intent choices schedule : List ℕ) where
   -- an output that is wanted of the description's judgement, and of the input
   wants : (judged : Result Network Refusal) (Q : List ℕ → Type 0) (told : Option Held) (left : Option (List ℕ)) (output : Output)
       → IfSome told (DescriptionIs judged) → IfSome left Q
-      → IfSome told (λ held. (input : List ℕ) → Q input → NetworkWants (WalkWants choices schedule input) judged (file_named held intent) output)
+      → IfSome told (λ held. (input : List ℕ) → Q input
+      → NetworkWants (WalkWants choices schedule input) judged (file_named held intent) output)
       → WantedOf (walk_shape file intent choices schedule) told left output
   wants judged Q None left output h q w = tt
   wants judged Q (Some held) None output h q w = tt
   wants judged Q (Some held) (Some input) output h q w = some-map (file_named held file) (λ text. network_in text ≡ judged)
       (λ text. NetworkWants (WalkWants choices schedule input) (network_in text) (file_named held intent) output)
-      (λ text is. subst (λ (j : Result Network Refusal). NetworkWants (WalkWants choices schedule input) j (file_named held intent) output) (sym is)
+      (λ text is. subst (λ (j : Result Network Refusal). NetworkWants (WalkWants choices schedule input) j
+      (file_named held intent) output) (sym is)
       (w input q)) h
 
   -- the input as it was
@@ -155,12 +157,14 @@ module _ (file intent choices schedule : List ℕ) where
         → ((input : List ℕ) → Q input → IntentWants (WalkWants choices schedule input) net read output)
         → WantedOf (walk_shape file intent choices schedule) f.told s.left output
     wants-intent read Q output h q w = wants (Ok net) Q f.told s.left output judged.0 q
-        (of-first (λ held. (input : List ℕ) → Q input → NetworkWants (WalkWants choices schedule input) (Ok net) (file_named held intent) output)
+        (of-first (λ held. (input : List ℕ) → Q input
+        → NetworkWants (WalkWants choices schedule input) (Ok net) (file_named held intent) output)
         (each-map mid.told (IntentIs net read)
         (λ held. (input : List ℕ) → Q input → NetworkWants (WalkWants choices schedule input) (Ok net) (file_named held intent) output)
         (λ held there input q. some-map (file_named held intent) (λ text. intent_in net text ≡ read)
         (λ text. IntentWants (WalkWants choices schedule input) net (intent_in net text) output)
-        (λ text is. subst (λ (r : Result Intent Refusal). IntentWants (WalkWants choices schedule input) net r output) (sym is) (w input q)) there) h))
+        (λ text is. subst (λ (r : Result Intent Refusal). IntentWants (WalkWants choices schedule input) net r output) (sym is)
+        (w input q)) there) h))
 
     -- both files were asked for
     asks-both : (stop : Stop) → FailsBy stop (file ∷ intent ∷ []) f → g ≡ files_left_by stop (asked_for intent mid)
@@ -202,9 +206,9 @@ module _ (file intent choices schedule : List ℕ) where
       pub walk_halted_at_start : (halt : Halt) → StartsAs net value (Err halt)
           → Commands (walk_shape file intent choices schedule) (Err halt) (outside f s o e) (outside g s o e)
       walk_halted_at_start (halts.Refused refusal) h = refused_commands (walk_shape file intent choices schedule) refusal f g s s o
-          (wants-answer (λ input. Unit {0}) (refused refusal) (any-input s.left) (λ input _. h choices schedule input))
+          (wants-answer (λ input. Unit {0}) (refused refusal) (any-input s.left) (λ input _. (Err h.0, h.1, h.2, h.3)))
           (inr (inl refl)) (takes-unread Never f g s (asks-both Never tt read.1) refl
-          (unread-early f.told s (early-intent (no_list_always net value (refused refusal) (λ done. cc) h)))) e
+          (unread-early f.told s (early-intent (none_has_list net value (refused refusal) h)))) e
       walk_halted_at_start (halts.Failed failures.Fault) h = absurd h
       walk_halted_at_start (halts.Failed failures.NoMemory) h = memory_wants (walk_shape file intent choices schedule) f g s s o
           (takes-unread Elsewhere f g s (asks-both Elsewhere tt read.1) refl (unread-memory f.told s)) e
@@ -213,11 +217,12 @@ module _ (file intent choices schedule : List ℕ) where
       pub walk_without_list : (line : Text) (told : Told) → StartsAs net value (Ok (starts.NoList line))
           → told.line ≡ line → told.status ≡ statuses.NoAnswer
           → Commands (walk_shape file intent choices schedule) (Ok told) (outside f s o e) (outside g s o e)
-      walk_without_list line told h is status = pieces_whole (walk_shape file intent choices schedule) [] (outside f s o e) (outside g s o e) told refl
+      walk_without_list line told h is status =
+          pieces_whole (walk_shape file intent choices schedule) [] (outside f s o e) (outside g s o e) told refl
           (rw (is, status) (wants-answer (λ input. Unit {0}) (no_list (bytes_of_text line)) (any-input s.left)
-          (λ input _. h choices schedule input)))
+          (λ input _. (Err h.0, h.1, h.2, h.3))))
           (rw status refl) (inr (inr (inl status))) (takes-unread Never f g s (asks-both Never tt read.1) refl
-          (unread-early f.told s (early-intent (no_list_always net value (no_list (bytes_of_text line)) (λ done. cc) h))))
+          (unread-early f.told s (early-intent (none_has_list net value (no_list (bytes_of_text line)) h))))
           (λ done. cc (sym status ∙ done))
 
       module _ (headend : Headend) (begins : StartsAs net value (Ok (starts.List headend))) (network : IsNetwork net)
@@ -294,7 +299,8 @@ module _ (file intent choices schedule : List ℕ) where
               → Commands (walk_shape file intent choices schedule) (Err (halts.Failed failure)) (outside f s o e) (outside g t p q)
           cut-by None failure w wrote = pieces_cut (walk_shape file intent choices schedule) before (outside f s o e) (outside g t p q)
               failure [] statuses.Done refl wrote w takes-how
-          cut-by (Some refusal) failure w wrote = pieces_cut (walk_shape file intent choices schedule) before (outside f s o e) (outside g t p q)
+          cut-by (Some refusal) failure w wrote =
+              pieces_cut (walk_shape file intent choices schedule) before (outside f s o e) (outside g t p q)
               failure (refusal_line refusal) statuses.Refused refl wrote w takes-how
 
           pub walk_halted_at_pieces : (failure : Failure) → WroteInGroups (ending_of_failure failure) before (sinks_of o e) (sinks_of p q)
@@ -316,7 +322,8 @@ module _ (file intent choices schedule : List ℕ) where
           pub walk_refused : (refusal : Refusal) → Some refusal ≡ fault_of (reading_of packets)
               → sinks_of p q ≡ gone before (sinks_of o e)
               → Commands (walk_shape file intent choices schedule) (Err (halts.Refused refusal)) (outside f s o e) (outside g t p q)
-          walk_refused refusal more went = pieces_refused (walk_shape file intent choices schedule) before (outside f s o e) (outside g t p q) refusal went
+          walk_refused refusal more went = pieces_refused (walk_shape file intent choices schedule) before (outside f s o e)
+              (outside g t p q) refusal went
               (subst (λ (fault : Option Refusal). WantedOf (walk_shape file intent choices schedule) f.told s.left (ended_by before fault))
               (sym more) wanted)
               (inr (inl refl)) (takes Never tt read.1 (inr reads) reads)

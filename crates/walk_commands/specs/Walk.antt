@@ -32,7 +32,7 @@ use Rattle.own_hands.specs.Counting.{handed_at_depth}
 use Rattle.path_compiler.specs.declared.compiled.Compiled.{Compiled}
 use Rattle.path_compiler.specs.declared.compiled.CompileFault.{CompileFault}
 use Rattle.path_compiler.specs.declared.compiled.CompileFault.TheVariants as faults
-use Rattle.compile_commands.specs.Lists.{IsCompiledFor, IsLeastFor}
+use Rattle.compile_commands.specs.Lists.{IntentAnswers, IsCompiledFor, IsLeastFor, NoneLessFor}
 use Rattle.compile_commands.specs.Lists.{BindsNothing, IsSmallFor, KeepsToSteps}
 use Rattle.packet_walk.specs.Schedule.{Coming}
 use Rattle.srx_edge.specs.Edge.{file_named}
@@ -48,7 +48,7 @@ use Rattle.command_output.specs.declared.unread.Unread.{Unread}
 use Rattle.command_output.specs.declared.unread.Unread.TheVariants as unreads
 use Rattle.command_output.specs.declared.refusal.Refusal.{Refusal}
 use Rattle.command_output.specs.declared.status.Status.TheVariants as statuses
-use Rattle.compile_commands.specs.Compile.{CompiledWants, NetworkWants, none_line, too_long_line, hop_limit_line}
+use Rattle.compile_commands.specs.Compile.{NetworkWants, none_line, too_long_line, hop_limit_line}
 use Rattle.command_output.specs.Halts.{flat_refusal}
 use Rattle.command_inputs.specs.Judgements.{network_in, intent_in, asks_behind_network}
 use Rattle.command_output.specs.Outputs.{refused, after, ended_by}
@@ -84,7 +84,12 @@ walk_words words = walk_by (two_words (codes "walk") words)
 
 -- as the code has them
 abbrev pub walk_words_seen : code.WalkWords → WalkWords
-walk_words_seen words = record { file = words.file.now; intent = words.intent.now; choices = words.choices.items; schedule = words.schedule.items }
+walk_words_seen words = record {
+  file = words.file.now;
+  intent = words.intent.now;
+  choices = words.choices.items;
+  schedule = words.schedule.items;
+}
 
 abbrev pub walk_asked : Option code.WalkWords → Option WalkWords
 walk_asked None = None
@@ -222,14 +227,18 @@ abbrev pub ListWants : Network → Intent → List ℕ → List ℕ → List ℕ
 ListWants net intent choices schedule input c output =
     (output ≡ walk_output net (headend_of net intent c) choices schedule input) × WalksKeep net intent c choices
 
--- the output of an answer of the compiler; want of memory has none
+-- where there is no list, the line that `compile` has, or the refusal of a network that isn't flat; want of memory has no output
+abbrev pub NoListWants : Network → CompileFault → Output → Type 0
+NoListWants net (faults.NotFlat why) output = output ≡ refused (flat_refusal net why)
+NoListWants net (faults.NoList solution) output = output ≡ no_list none_line
+NoListWants net (faults.TooLong found) output = output ≡ no_list (too_long_line found.containers)
+NoListWants net (faults.HopLimit found) output = output ≡ no_list (hop_limit_line found.need)
+NoListWants net faults.NoMemory output = ⊥
+
+-- the output of an answer of the compiler
 abbrev pub WalkWants : List ℕ → List ℕ → List ℕ → Network → Intent → Result Compiled CompileFault → Output → Type 0
 WalkWants choices schedule input net intent (Ok c) output = ListWants net intent choices schedule input c output
-WalkWants choices schedule input net intent (Err (faults.NotFlat why)) output = output ≡ refused (flat_refusal net why)
-WalkWants choices schedule input net intent (Err (faults.NoList solution)) output = output ≡ no_list none_line
-WalkWants choices schedule input net intent (Err (faults.TooLong found)) output = output ≡ no_list (too_long_line found.containers)
-WalkWants choices schedule input net intent (Err (faults.HopLimit found)) output = output ≡ no_list (hop_limit_line found.need)
-WalkWants choices schedule input net intent (Err faults.NoMemory) output = ⊥
+WalkWants choices schedule input net intent (Err fault) output = NoListWants net fault output
 
 -- the input is read only where the intent may be compiled
 
@@ -253,16 +262,20 @@ walk_shape file intent choices schedule = record {
   lines_last = false;
   statuses = statuses.Done ∷ statuses.Refused ∷ statuses.NoAnswer ∷ [];
   wants = λ held input output.
-      IsSomeAnd (file_named held file) (λ text. NetworkWants (WalkWants choices schedule input) (network_in text) (file_named held intent) output);
+      IsSomeAnd (file_named held file) (λ text. NetworkWants (WalkWants choices schedule input) (network_in text)
+      (file_named held intent) output);
 }
+
+-- an output that is wanted of an answer without a list
+abbrev pub WantsNoList : Network → Intent → Output → Type 0
+WantsNoList net intent output =
+    (fault : CompileFault) × IntentAnswers net intent (Err fault) × NoneLessFor net intent (Err fault) × NoListWants net fault output
 
 -- how a walk starts, as its steps answer it: at the headend, with a list, or there is no list, or the refusal
 abbrev pub StartsAs : Network → Intent → Result Start Halt → Type 0
 StartsAs net intent (Ok (starts.List headend)) =
     (c : Compiled) × IsCompiledFor net intent c × IsLeastFor net intent c × (headend ≡ headend_of net intent c)
-StartsAs net intent (Ok (starts.NoList told)) =
-    (choices schedule input : List ℕ) → CompiledWants (WalkWants choices schedule input) net intent (no_list (bytes_of_text told))
-StartsAs net intent (Err (halts.Refused refusal)) =
-    (choices schedule input : List ℕ) → CompiledWants (WalkWants choices schedule input) net intent (refused refusal)
+StartsAs net intent (Ok (starts.NoList told)) = WantsNoList net intent (no_list (bytes_of_text told))
+StartsAs net intent (Err (halts.Refused refusal)) = WantsNoList net intent (refused refusal)
 StartsAs net intent (Err (halts.Failed failures.Fault)) = ⊥
 StartsAs net intent (Err (halts.Failed failures.NoMemory)) = ⊤

@@ -103,7 +103,8 @@ impl Headend {
         }
     }
 
-    /// The outer packet round an inner one, if it can be encapsulated, in a buffer that is handed in.
+    /// The outer packet round an inner one, if it can be encapsulated, in a buffer that is handed
+    /// in.
     fn encapsulated(&self, packet: &[u8], buf: &mut PktBuf) -> Result<Option<Comes>, NoMemory>
         requires policy { IsPolicy self.now.policy }
         requires packet { HoldsInner self.now.inner packet.now }

@@ -73,7 +73,8 @@ pub fn a_schedule_mixes_walks()
     ensures frames { (net : Network) (headend : Headend) (number : ℕ)
         (choices schedule : List ℕ) (packets : Packets) →
         let comings = comings_at_headend net headend choices (reading_of packets).frames in
-        frames_sent number (scheduled schedule comings) ≡ frames_of number (steps_of number comings) }
+        frames_sent number (scheduled schedule comings)
+        ≡ frames_of number (steps_of number comings) }
     ensures lines { (net : Network) (headend : Headend) (number : ℕ)
         (choices schedule : List ℕ) (packets : Packets) →
         let comings = comings_at_headend net headend choices (reading_of packets).frames in

@@ -11,4 +11,4 @@ pub mod start;
 pub mod walk;
 
 pub use headend::Headend;
-pub use start::headend_of;
+pub use start::{Start, headend_of, start_of_intent};

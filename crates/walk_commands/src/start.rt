@@ -66,9 +66,9 @@ pub fn headend_of(
 }
 
 /// How a walk starts for an intent: with the list that it is compiled to, binding SIDs among its
-/// SIDs or not, if there is one.
+/// SIDs or not, if there is one. (own rule)
 #[tactic(auto, using(compile_commands::proofs::PublicLaws::valued))]
-pub(crate) fn start_of_intent(alloc: Global, net: &Net, intent: &Intent) -> Result<Start, Halt>
+pub fn start_of_intent(alloc: Global, net: &Net, intent: &Intent) -> Result<Start, Halt>
     requires whole { net.now.hidden ≡ [] }
     requires intent { IsIntent net.now intent.now }
     ensures { StartsAs net.now intent.now result }

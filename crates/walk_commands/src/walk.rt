@@ -58,22 +58,20 @@ pub fn walk_of_words(alloc: Global, words: &[String]) -> Result<Option<WalkWords
 /// a capture is refused once all packets were walked. (own rule)
 pub fn walk<F: Files, S: Source, O: Sink, E: Sink>(
     alloc: Global,
-    file: &str,
-    intent: &str,
-    choices: &[u32],
-    schedule: &[u32],
+    words: &WalkWords<'_>,
     files: &mut F,
     input: &mut S,
     out: &mut O,
     err: &mut E,
 ) -> Result<Told, Halt>
-    requires { 0 < length choices.now }
-    ensures { Commands (walk_shape file.now intent.now choices.now schedule.now) result
+    requires { 0 < length words.now.choices.items }
+    ensures { Commands (walk_shape words.now.file.now words.now.intent.now words.now.choices.items
+        words.now.schedule.items) result
         (outside (F.seen files.old) (S.seen input.old) (O.seen out.old) (E.seen err.old))
         (outside (F.seen files.new) (S.seen input.new) (O.seen out.new) (E.seen err.new)) }
 {
-    let net = network_of_file(alloc, files, file)?;
-    let intent = intent_of_file(alloc, files, &net, intent)?;
+    let net = network_of_file(alloc, files, words.file)?;
+    let intent = intent_of_file(alloc, files, &net, words.intent)?;
     let start = start_of_intent(alloc, &net, &intent)?;
     let headend = match start {
         Start::List(headend) => headend,
@@ -87,6 +85,7 @@ pub fn walk<F: Files, S: Source, O: Sink, E: Sink>(
     net.keeps_rules();
     hop_limit_fits(intent.hop_limit);
     let packets = packets_of_input(alloc, input)?;
+    let (choices, schedule) = (words.choices.as_slice(), words.schedule.as_slice());
     let course = Course {
         net: &net,
         choices,

@@ -71,7 +71,8 @@ module _ (file intent : List ℕ) where
   -- an output that is wanted of the description's judgement
   wants : (judged : Result Network Refusal) (told : Option Held) (left : Option (List ℕ)) (output : Output)
       → IfSome told (λ held. IsSomeAnd (file_named held file) (λ text. network_in text ≡ judged))
-      → IfSome told (λ held. NetworkWants AnswerWants judged (file_named held intent) output) → WantedOf (compile_shape file intent) told left output
+      → IfSome told (λ held. NetworkWants AnswerWants judged (file_named held intent) output)
+      → WantedOf (compile_shape file intent) told left output
   wants judged None left output h w = tt
   wants judged (Some held) left output h w = some-map (file_named held file) (λ text. network_in text ≡ judged)
       (λ text. NetworkWants AnswerWants (network_in text) (file_named held intent) output)
@@ -110,7 +111,8 @@ module _ (file intent : List ℕ) where
     of-first P h = subst (λ (files : FilesSeen). IfSome files.told P) judged.1 h
 
     wants-intent : (read : Result Intent Refusal) (left : Option (List ℕ)) (output : Output)
-        → IfSome mid.told (λ held. IsSomeAnd (file_named held intent) (λ text. intent_in net text ≡ read)) → IntentWants AnswerWants net read output
+        → IfSome mid.told (λ held. IsSomeAnd (file_named held intent) (λ text. intent_in net text ≡ read))
+        → IntentWants AnswerWants net read output
         → WantedOf (compile_shape file intent) f.told left output
     wants-intent read left output h w = wants (Ok net) f.told left output judged.0
         (of-first (λ held. NetworkWants AnswerWants (Ok net) (file_named held intent) output)
@@ -148,7 +150,8 @@ module _ (file intent : List ℕ) where
       wants-answer left output w = wants-intent (Ok value) left output read.0 w
 
       -- the network isn't flat, or memory was wanting
-      pub compile_halted_at_answer : (halt : Halt) → GivesOf net value (Err halt) → CommandsUnread (compile_shape file intent) (Err halt) f g o o
+      pub compile_halted_at_answer : (halt : Halt) → GivesOf net value (Err halt)
+          → CommandsUnread (compile_shape file intent) (Err halt) f g o o
       compile_halted_at_answer (halts.Refused refusal) h = λ s. refused_commands (compile_shape file intent) refusal f g s s o
           (wants-answer s.left (refused refusal) h) (inr (inl refl)) (takes Never f g s (asks-both Never tt read.1) refl)
       compile_halted_at_answer (halts.Failed failures.Fault) h = absurd h

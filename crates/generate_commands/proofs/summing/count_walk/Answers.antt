@@ -11,14 +11,14 @@ use Rattle.generate_commands.proofs.summing.count_walk.Goals as goal
 pub loop-used-preserved : goal.loop-used-preserved
 loop-used-preserved c =
     let step : Gave = step_of c.args.net.now c.loop-used.place c.loop-used.content (choice_at c.args.choices.now c.loop-used.taken) in
-    let gave : Gave = record { outcome = c.in_ok-outcome.outcome; after = c.staged.new.content; error = step.error } in
+    let gave : Gave = record { outcome = c.in_ok-outcome.outcome; after = c.take_stage.new.content; error = step.error } in
     let left : MAX_STAGES - c.loop-used.used ≡ suc (MAX_STAGES - (c.loop-used.used + 1)) = omega arith in
     let on = counted_on c.args.net.now (MAX_STAGES - c.loop-used.used) (MAX_STAGES - (c.loop-used.used + 1))
     c.loop-used.place c.loop-used.content (choice_at c.args.choices.now) c.loop-used.taken gave _
     c.loop-used.sent left c.in_ok-outcome.ensures.function c.loop-used.invariant.counted c.in-Some.next (sym c.in-Some.ensures) in
     let whole = walk_of MAX_STAGES c.args.net.now (Some c.args.comes.place) c.args.comes.content (choice_at c.args.choices.now) 0 in
     let behind : ℕ → List Stage = λ n. walk_of (MAX_STAGES - (c.loop-used.used + 1)) c.args.net.now (Some c.in-Some.next)
-    c.staged.new.content (choice_at c.args.choices.now) (c.loop-used.taken + n) in
+    c.take_stage.new.content (choice_at c.args.choices.now) (c.loop-used.taken + n) in
     record {
       place = subst (λ (o : Option Place). IfSome o (IsPlace c.args.net.now)) (sym c.in-Some.ensures) c.in_ok-outcome.ensures.next;
       taken = omega (arith, c.decisions_of-taken.ensures.few, c.loop-used.invariant.taken);
@@ -33,7 +33,7 @@ pub returns-in-None-clause-frames : goal.returns-in-None-clause-frames
 returns-in-None-clause-frames c =
     let whole = walk_of MAX_STAGES c.args.net.now (Some c.args.comes.place) c.args.comes.content (choice_at c.args.choices.now) 0 in
     let step : Gave = step_of c.args.net.now c.loop-used.place c.loop-used.content (choice_at c.args.choices.now c.loop-used.taken) in
-    let gave : Gave = record { outcome = c.in_ok-outcome.outcome; after = c.staged.new.content; error = step.error } in
+    let gave : Gave = record { outcome = c.in_ok-outcome.outcome; after = c.take_stage.new.content; error = step.error } in
     let left : MAX_STAGES - c.loop-used.used ≡ suc (MAX_STAGES - (c.loop-used.used + 1)) = omega arith in
     let last = counted_end c.args.net.now (MAX_STAGES - c.loop-used.used) (MAX_STAGES - (c.loop-used.used + 1))
     c.loop-used.place c.loop-used.content (choice_at c.args.choices.now) c.loop-used.taken gave _
@@ -47,7 +47,7 @@ pub returns-in-None-clause-left : goal.returns-in-None-clause-left
 returns-in-None-clause-left c =
     let whole = walk_of MAX_STAGES c.args.net.now (Some c.args.comes.place) c.args.comes.content (choice_at c.args.choices.now) 0 in
     let step : Gave = step_of c.args.net.now c.loop-used.place c.loop-used.content (choice_at c.args.choices.now c.loop-used.taken) in
-    let gave : Gave = record { outcome = c.in_ok-outcome.outcome; after = c.staged.new.content; error = step.error } in
+    let gave : Gave = record { outcome = c.in_ok-outcome.outcome; after = c.take_stage.new.content; error = step.error } in
     let left : MAX_STAGES - c.loop-used.used ≡ suc (MAX_STAGES - (c.loop-used.used + 1)) = omega arith in
     let last = counted_end c.args.net.now (MAX_STAGES - c.loop-used.used) (MAX_STAGES - (c.loop-used.used + 1))
     c.loop-used.place c.loop-used.content (choice_at c.args.choices.now) c.loop-used.taken gave _

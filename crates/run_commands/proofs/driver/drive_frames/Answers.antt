@@ -20,7 +20,8 @@ returns-in_err-put_first-clause-wrote g c =
     let frames = (g.N.Frames.seen c.args.first.now).frames in
     rw (p.1, p.2) (cut_short c.in_err-put_first.field-0.0 (first_pieces net entry frames)
     (scheduled_pieces net c.args.course.now.schedule.now (comings_of_frames net c.args.course.now.choices.now entry frames))
-    (pooled c.in_ok-pool.pool (g.O.Sink.seen c.args.out.now) (g.E.Sink.seen c.args.err.now)) _ c.in_ok-pool.ensures c.in_err-put_first.ensures)
+    (pooled c.in_ok-pool.pool (g.O.Sink.seen c.args.out.now) (g.E.Sink.seen c.args.err.now))
+    _ c.in_ok-pool.ensures c.in_err-put_first.ensures)
 
 pub returns-in_err-fault-clause-wrote : goal.returns-in_err-fault-clause-wrote
 returns-in_err-fault-clause-wrote g c =

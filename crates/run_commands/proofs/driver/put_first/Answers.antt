@@ -18,8 +18,10 @@ returns-in_err-line g c =
 pub returns-in_err-put_head : goal.returns-in_err-put_head
 returns-in_err-put_head g c =
     let p = err_from_is_err_and c.from_residual-in_err-put_head.result c.from_residual-in_err-put_head.ensures.1 in
-    let lines = flat_map (line_of_frame c.args.course.now.net.now (g.W.Enters.entry c.args.enters.now)) (g.N.Frames.seen c.args.frames.now).frames in
-    rw (p.1, p.2) (goes_longer c.in_err-put_head.field-0.0 (ForOut written_head_bytes ∷ []) (ForErr lines ∷ []) _ _ c.in_err-put_head.ensures)
+    let lines = flat_map (line_of_frame c.args.course.now.net.now (g.W.Enters.entry c.args.enters.now))
+    (g.N.Frames.seen c.args.frames.now).frames in
+    rw (p.1, p.2) (goes_longer c.in_err-put_head.field-0.0 (ForOut written_head_bytes ∷ [])
+    (ForErr lines ∷ []) _ _ c.in_err-put_head.ensures)
 
 pub returns-in_err-put_frames : goal.returns-in_err-put_frames
 returns-in_err-put_frames g c =

@@ -10,7 +10,8 @@ abbrev pub invariant-loop-used : goal.invariant-loop-used
 invariant-loop-used g l = record {
   place : IsPlace l.course.net.now l.place;
   taken : l.taken ≤ l.used;
-  progress : Progress l.number l.course.net.now (walk_of (MAX_STAGES - l.used) l.course.net.now (Some l.place) l.content (choice_at l.course.choices.now) l.taken)
+  progress : Progress l.number l.course.net.now
+      (walk_of (MAX_STAGES - l.used) l.course.net.now (Some l.place) l.content (choice_at l.course.choices.now) l.taken)
       (walk_of MAX_STAGES l.course.net.now (Some l.fn.comes.place) l.fn.comes.content (choice_at l.course.choices.now) 0)
       (pooled l.fn.pool (g.O.Sink.seen l.fn.out) (g.E.Sink.seen l.fn.err)) (pooled l.pool (g.O.Sink.seen l.out) (g.E.Sink.seen l.err));
 }

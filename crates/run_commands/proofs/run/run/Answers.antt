@@ -152,7 +152,8 @@ module _ (file name choices schedule : List ℕ) (f g : FilesSeen) (s t : Source
         before = packets_pieces net node choices schedule (reading_of packets).frames
 
         wanted : WantedOf (run_shape file name choices schedule) f.told s.left (ran net node choices schedule packets)
-        wanted = run-wants f.told s.left file name choices schedule (λ text. network_in text ≡ Ok net) (λ input. packets_in input ≡ Ok packets)
+        wanted = run-wants f.told s.left file name choices schedule (λ text. network_in text ≡ Ok net)
+            (λ input. packets_in input ≡ Ok packets)
             (ran net node choices schedule packets) judged.0 drawn.0 (λ text input is good. rw (is, found, good) refl)
 
         reads : ReadsWhole s t
@@ -163,12 +164,15 @@ module _ (file name choices schedule : List ℕ) (f g : FilesSeen) (s t : Source
         takes-how sink (Some how) = takes (At sink how) tt judged.1 (inr reads) reads
 
         -- the packets' pieces didn't go out whole
-        cut-by : (fault : Option Refusal) (failure : Failure) → WantedOf (run_shape file name choices schedule) f.told s.left (ended_by before fault)
+        cut-by : (fault : Option Refusal) (failure : Failure)
+            → WantedOf (run_shape file name choices schedule) f.told s.left (ended_by before fault)
             → WroteInGroups (ending_of_failure failure) before (sinks_of o e) (sinks_of p q)
             → Commands (run_shape file name choices schedule) (Err (halts.Failed failure)) (outside f s o e) (outside g t p q)
-        cut-by None failure w wrote = pieces_cut (run_shape file name choices schedule) before (outside f s o e) (outside g t p q) failure [] statuses.Done
+        cut-by None failure w wrote = pieces_cut (run_shape file name choices schedule) before (outside f s o e)
+            (outside g t p q) failure [] statuses.Done
             refl wrote w takes-how
-        cut-by (Some refusal) failure w wrote = pieces_cut (run_shape file name choices schedule) before (outside f s o e) (outside g t p q) failure
+        cut-by (Some refusal) failure w wrote =
+            pieces_cut (run_shape file name choices schedule) before (outside f s o e) (outside g t p q) failure
             (refusal_line refusal) statuses.Refused refl wrote w takes-how
 
         run_halted_at_pieces : (failure : Failure) → WroteInGroups (ending_of_failure failure) before (sinks_of o e) (sinks_of p q)
@@ -189,7 +193,8 @@ module _ (file name choices schedule : List ℕ) (f g : FilesSeen) (s t : Source
         -- something is, which is refused
         run_refused : (refusal : Refusal) → Some refusal ≡ fault_of (reading_of packets) → sinks_of p q ≡ gone before (sinks_of o e)
             → Commands (run_shape file name choices schedule) (Err (halts.Refused refusal)) (outside f s o e) (outside g t p q)
-        run_refused refusal more went = pieces_refused (run_shape file name choices schedule) before (outside f s o e) (outside g t p q) refusal went
+        run_refused refusal more went = pieces_refused (run_shape file name choices schedule) before (outside f s o e)
+            (outside g t p q) refusal went
             (subst (λ (fault : Option Refusal). WantedOf (run_shape file name choices schedule) f.told s.left (ended_by before fault))
             (sym more) wanted)
             (inr (inl refl)) (takes Never tt judged.1 (inr reads) reads)
@@ -202,7 +207,8 @@ drive-requires-clause-within g c = at_node-within c.in_ok-net.net c.in_ok-node.n
 pub returns-in_err-net : goal.returns-in_err-net
 returns-in_err-net g c =
     let p = err_from_is_err_and c.from_residual.result c.from_residual.ensures.1 in
-    rw (p.1, p.2) (run_halted_at_file c.args.file.now c.args.node.now c.args.choices.now c.args.schedule.now _ _ (g.S.Source.seen c.args.input.now)
+    rw (p.1, p.2) (run_halted_at_file c.args.words.now.file.now c.args.words.now.node.now
+    c.args.words.now.choices.items c.args.words.now.schedule.items _ _ (g.S.Source.seen c.args.input.now)
     (g.S.Source.seen c.args.input.now)
     (g.O.Sink.seen c.args.out.now) (g.E.Sink.seen c.args.err.now)
     c.in_err-net.field-0.0 c.in_err-net.ensures.judged)
@@ -210,7 +216,8 @@ returns-in_err-net g c =
 pub returns-in_err-node : goal.returns-in_err-node
 returns-in_err-node g c =
     let p = err_from_is_err_and c.from_residual-in_err-node.result c.from_residual-in_err-node.ensures.1 in
-    rw (p.1, p.2) (run_halted_at_node c.args.file.now c.args.node.now c.args.choices.now c.args.schedule.now _ _ (g.S.Source.seen c.args.input.now)
+    rw (p.1, p.2) (run_halted_at_node c.args.words.now.file.now c.args.words.now.node.now
+    c.args.words.now.choices.items c.args.words.now.schedule.items _ _ (g.S.Source.seen c.args.input.now)
     (g.S.Source.seen c.args.input.now)
     (g.O.Sink.seen c.args.out.now) (g.E.Sink.seen c.args.err.now)
     c.in_ok-net.net c.in_ok-net.ensures.judged c.in_err-node.field-0.0 (sym c.in_err-node.ensures.judged))
@@ -218,7 +225,8 @@ returns-in_err-node g c =
 pub returns-in_err-packets : goal.returns-in_err-packets
 returns-in_err-packets g c =
     let p = err_from_is_err_and c.from_residual-in_err-packets.result c.from_residual-in_err-packets.ensures.1 in
-    rw (p.1, p.2) (run_halted_at_input c.args.file.now c.args.node.now c.args.choices.now c.args.schedule.now _ _ _ _ (g.O.Sink.seen c.args.out.now)
+    rw (p.1, p.2) (run_halted_at_input c.args.words.now.file.now c.args.words.now.node.now
+    c.args.words.now.choices.items c.args.words.now.schedule.items _ _ _ _ (g.O.Sink.seen c.args.out.now)
     (g.E.Sink.seen c.args.err.now)
     c.in_ok-net.net c.in_ok-net.ensures.judged c.in_ok-node.node (sym c.in_ok-node.ensures.judged)
     c.in_err-packets.field-0.0 c.in_err-packets.ensures.judged)
@@ -226,22 +234,27 @@ returns-in_err-packets g c =
 pub returns-in_err-refusal : goal.returns-in_err-refusal
 returns-in_err-refusal g c =
     let p = err_from_is_err_and c.from_residual-in_err-refusal.result c.from_residual-in_err-refusal.ensures.1 in
-    rw (p.1, p.2) (run_halted_at_pieces c.args.file.now c.args.node.now c.args.choices.now c.args.schedule.now _ _ _ _ (g.O.Sink.seen c.args.out.now)
+    rw (p.1, p.2) (run_halted_at_pieces c.args.words.now.file.now c.args.words.now.node.now
+    c.args.words.now.choices.items c.args.words.now.schedule.items _ _ _ _ (g.O.Sink.seen c.args.out.now)
     (g.E.Sink.seen c.args.err.now)
     c.in_ok-net.net c.in_ok-net.ensures.judged c.in_ok-node.node (sym c.in_ok-node.ensures.judged) c.in_ok-packets.packets
     c.in_ok-packets.ensures.judged (g.O.Sink.seen c.drive.new.out) (g.E.Sink.seen c.drive.new.err)
-    c.in_err-refusal.field-0.0 c.in_err-refusal.ensures.wrote)
+    c.in_err-refusal.field-0.0 (rw (c.as_slice-choices.ensures.value, c.as_slice-schedule.ensures.value) at c.in_err-refusal.ensures.wrote))
 
 pub returns-in-Some : goal.returns-in-Some
-returns-in-Some g c = run_refused c.args.file.now c.args.node.now c.args.choices.now c.args.schedule.now _ _ _ _ (g.O.Sink.seen c.args.out.now)
+returns-in-Some g c = run_refused c.args.words.now.file.now c.args.words.now.node.now
+    c.args.words.now.choices.items c.args.words.now.schedule.items _ _ _ _ (g.O.Sink.seen c.args.out.now)
     (g.E.Sink.seen c.args.err.now)
     c.in_ok-net.net c.in_ok-net.ensures.judged c.in_ok-node.node (sym c.in_ok-node.ensures.judged) c.in_ok-packets.packets
     c.in_ok-packets.ensures.judged (g.O.Sink.seen c.drive.new.out) (g.E.Sink.seen c.drive.new.err)
-    c.in-Some.refusal (sym c.in-Some.is ∙ c.in_ok-refusal.ensures.fault) c.in_ok-refusal.ensures.wrote
+    c.in-Some.refusal (sym c.in-Some.is ∙ c.in_ok-refusal.ensures.fault)
+    (rw (c.as_slice-choices.ensures.value, c.as_slice-schedule.ensures.value) at c.in_ok-refusal.ensures.wrote)
 
 pub returns : goal.returns
-returns g c = run_done c.args.file.now c.args.node.now c.args.choices.now c.args.schedule.now _ _ _ _ (g.O.Sink.seen c.args.out.now)
+returns g c = run_done c.args.words.now.file.now c.args.words.now.node.now
+    c.args.words.now.choices.items c.args.words.now.schedule.items _ _ _ _ (g.O.Sink.seen c.args.out.now)
     (g.E.Sink.seen c.args.err.now)
     c.in_ok-net.net c.in_ok-net.ensures.judged c.in_ok-node.node (sym c.in_ok-node.ensures.judged) c.in_ok-packets.packets
     c.in_ok-packets.ensures.judged (g.O.Sink.seen c.drive.new.out) (g.E.Sink.seen c.drive.new.err)
-    _ (sym c.in-None.is ∙ c.in_ok-refusal.ensures.fault) refl refl c.in_ok-refusal.ensures.wrote
+    _ (sym c.in-None.is ∙ c.in_ok-refusal.ensures.fault) refl refl
+    (rw (c.as_slice-choices.ensures.value, c.as_slice-schedule.ensures.value) at c.in_ok-refusal.ensures.wrote)

@@ -9,9 +9,11 @@ turns-preserved g c =
     let turn : IsTurnOf c.turns.turns c.turns.flight c.in-Some.packet c.next.new.self = rw c.in-Some.is at c.next.ensures in
     let is : c.index-number.result.now ≡ frame_of c.args.entered.numbers.items c.in-Some.packet =
     frame-is c.args.entered.numbers.items c.in-Some.packet c.index-number.result.now turn.given.first
-    (turns_within c.args.course.now.net.now c.args.entered.numbers.items _ c.turns.turns c.next.new.self c.turns.flight _ _ c.turns.invariant
+    (turns_within c.args.course.now.net.now c.args.entered.numbers.items _ c.turns.turns c.next.new.self
+    c.turns.flight _ _ c.turns.invariant
     c.in-Some.packet turn) c.index-number.ensures in
-    turns_on c.args.course.now.net.now c.args.entered.numbers.items _ c.turns.turns c.next.new.self c.turns.flight _ _ c.turns.invariant
+    turns_on c.args.course.now.net.now c.args.entered.numbers.items _ c.turns.turns c.next.new.self
+    c.turns.flight _ _ c.turns.invariant
     c.in-Some.packet c.index-number.result.now turn is c.put_turn.new.flight _ c.in_ok-put_turn.ensures.turned
     c.in_ok-put_turn.ensures.wrote
 
@@ -20,9 +22,11 @@ returns-in_err-put_turn g c =
     let turn : IsTurnOf c.turns.turns c.turns.flight c.in-Some.packet c.next.new.self = rw c.in-Some.is at c.next.ensures in
     let is : c.index-number.result.now ≡ frame_of c.args.entered.numbers.items c.in-Some.packet =
     frame-is c.args.entered.numbers.items c.in-Some.packet c.index-number.result.now turn.given.first
-    (turns_within c.args.course.now.net.now c.args.entered.numbers.items _ c.turns.turns c.next.new.self c.turns.flight _ _ c.turns.invariant
+    (turns_within c.args.course.now.net.now c.args.entered.numbers.items _ c.turns.turns c.next.new.self
+    c.turns.flight _ _ c.turns.invariant
     c.in-Some.packet turn) c.index-number.ensures in
     let p = err_from_is_err_and c.from_residual.result c.from_residual.ensures.1 in
-    rw (p.1, p.2) (turns_cut c.args.course.now.net.now c.args.entered.numbers.items _ c.turns.turns c.next.new.self c.turns.flight _ _
+    rw (p.1, p.2) (turns_cut c.args.course.now.net.now c.args.entered.numbers.items _ c.turns.turns c.next.new.self
+    c.turns.flight _ _
     c.turns.invariant c.in-Some.packet c.index-number.result.now turn is c.in_err-put_turn.field-0.0 _
     c.in_err-put_turn.ensures.wrote)

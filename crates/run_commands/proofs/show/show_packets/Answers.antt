@@ -19,7 +19,8 @@ returns-in_err-fault-clause-wrote g c =
     let new = pooled c.put_frames.new.pool (g.O.Sink.seen c.put_frames.new.out) silent_seen in
     rw (p.1, p.2) (out_alone (frames_lines frames) old.sinks new.sinks (ending_of_failure c.in_err-fault.field-0.0)
     (cut_short c.in_err-fault.field-0.0 (ForOut (frames_lines frames) ∷ []) [] old new c.in_ok-pool.ensures
-    (outs_went frame_lines frames (ending_of_failure c.in_err-fault.field-0.0) old new (rw c.frames-frames.ensures at c.in_err-fault.ensures.wrote))))
+    (outs_went frame_lines frames (ending_of_failure c.in_err-fault.field-0.0) old new
+    (rw c.frames-frames.ensures at c.in_err-fault.ensures.wrote))))
 
 pub returns-in_err-pour-clause-wrote : goal.returns-in_err-pour-clause-wrote
 returns-in_err-pour-clause-wrote g c =

@@ -114,7 +114,8 @@ module _ (file trace : List ℕ) where
     of-first P h = subst (λ (files : FilesSeen). IfSome files.told P) judged.1 h
 
     wants-trace : (read : Result (List (List ℕ)) Refusal) (left : Option (List ℕ)) (output : Output)
-        → IfSome mid.told (λ held. IsSomeAnd (file_named held trace) (λ text. trace_in net text ≡ read)) → output ≡ after read (replayed net)
+        → IfSome mid.told (λ held. IsSomeAnd (file_named held trace) (λ text. trace_in net text ≡ read))
+        → output ≡ after read (replayed net)
         → WantedOf (replay_shape file trace) f.told left output
     wants-trace read left output h w = wants (Ok net) f.told left output judged.0
         (of-first (λ held. ReplayWants (Ok net) (file_named held trace) output)

@@ -31,7 +31,7 @@ loop-used-preserved g c =
     let choices = c.args.teller.now.choices.now in
     let later = pooled c.put_out.new.self (g.O.Sink.seen c.put_out.new.out) (g.E.Sink.seen c.put_out.new.err) in
     let step : Gave = step_of net c.loop-used.place c.loop-used.content (choice_at choices c.loop-used.taken) in
-    let gave : Gave = record { outcome = c.in_ok-outcome.outcome; after = c.staged.new.content; error = step.error } in
+    let gave : Gave = record { outcome = c.in_ok-outcome.outcome; after = c.take_stage.new.content; error = step.error } in
     let left : MAX_STAGES - c.loop-used.used ≡ suc (MAX_STAGES - (c.loop-used.used + 1)) = omega arith in
     let on = line_on net (MAX_STAGES - c.loop-used.used) (MAX_STAGES - (c.loop-used.used + 1))
     c.loop-used.place c.loop-used.content
@@ -43,7 +43,7 @@ loop-used-preserved g c =
       place = subst (λ (o : Option Place). IfSome o (IsPlace net)) (sym c.in-Some.ensures) c.in_ok-outcome.ensures.next;
       taken = omega (arith, c.decisions_of-taken.ensures.few, c.loop-used.invariant.taken);
       written = subst (λ (n : ℕ). Written net (Some c.in-Some.next)
-          (walk_of (MAX_STAGES - (c.loop-used.used + 1)) net (Some c.in-Some.next) c.staged.new.content
+          (walk_of (MAX_STAGES - (c.loop-used.used + 1)) net (Some c.in-Some.next) c.take_stage.new.content
           (choice_at choices) (c.loop-used.taken + n))
           (fed (walk_lines net (Some c.args.start)
           (walk_of MAX_STAGES net (Some c.args.start) c.args.content (choice_at choices) 0)))
@@ -69,7 +69,7 @@ returns-in_err-put_out g c =
     let choices = c.args.teller.now.choices.now in
     let later = pooled c.put_out.new.self (g.O.Sink.seen c.put_out.new.out) (g.E.Sink.seen c.put_out.new.err) in
     let step : Gave = step_of net c.loop-used.place c.loop-used.content (choice_at choices c.loop-used.taken) in
-    let gave : Gave = record { outcome = c.in_ok-outcome.outcome; after = c.staged.new.content; error = step.error } in
+    let gave : Gave = record { outcome = c.in_ok-outcome.outcome; after = c.take_stage.new.content; error = step.error } in
     let left : MAX_STAGES - c.loop-used.used ≡ suc (MAX_STAGES - (c.loop-used.used + 1)) = omega arith in
     let p = err_from_is_err_and c.from_residual-in_err-put_out.result c.from_residual-in_err-put_out.ensures.1 in
     rw (p.1, p.2) (line_cut net
@@ -84,7 +84,7 @@ returns-in-None g c =
     let choices = c.args.teller.now.choices.now in
     let later = pooled c.put_out.new.self (g.O.Sink.seen c.put_out.new.out) (g.E.Sink.seen c.put_out.new.err) in
     let step : Gave = step_of net c.loop-used.place c.loop-used.content (choice_at choices c.loop-used.taken) in
-    let gave : Gave = record { outcome = c.in_ok-outcome.outcome; after = c.staged.new.content; error = step.error } in
+    let gave : Gave = record { outcome = c.in_ok-outcome.outcome; after = c.take_stage.new.content; error = step.error } in
     let left : MAX_STAGES - c.loop-used.used ≡ suc (MAX_STAGES - (c.loop-used.used + 1)) = omega arith in
     line_end net (MAX_STAGES - c.loop-used.used) (MAX_STAGES - (c.loop-used.used + 1))
     c.loop-used.place c.loop-used.content

@@ -40,7 +40,8 @@ returns-in_err-put_end-in-None-clause-wrote g c =
     let t = c.args.teller.now in
     let read = reading_of c.args.packets.now in
     rw (p.1, p.2) (ended_then t.net.now (traced_of t.node t.choices.now read.frames)
-    (ending_of_failure c.in_err-put_end-in-None.field-0.0) (fault_of read) _ _ _ _ (sym (rw c.frames-frames.ensures at c.in_ok-fault.ensures.fault) ∙ c.in-None.is) c.in_ok-put_head.ensures
+    (ending_of_failure c.in_err-put_end-in-None.field-0.0) (fault_of read) _ _ _ _
+    (sym (rw c.frames-frames.ensures at c.in_ok-fault.ensures.fault) ∙ c.in-None.is) c.in_ok-put_head.ensures
     (wrote_frames Whole t.net.now t.node t.choices.now read.frames _ _
     (rw c.frames-frames.ensures at c.in_ok-fault.ensures.wrote)) c.in_err-put_end-in-None.ensures)
 

@@ -7,21 +7,24 @@ use Rattle.update_commands.proofs.update.update.Goals as goal
 pub returns-in_err-old : goal.returns-in_err-old
 returns-in_err-old g c =
     let p = err_from_is_err_and c.from_residual.result c.from_residual.ensures.1 in
-    rw (p.1, p.2) (halted_at_old c.args.words.0.now c.args.words.1.now c.args.words.2.now c.args.events.now _ _
+    rw (p.1, p.2) (halted_at_old c.args.words.now.old.now c.args.words.now.new.now c.args.words.now.intent.now
+    c.args.words.now.events.items _ _
     (g.S.Source.seen c.args.input.now) (g.O.Sink.seen c.args.out.now) (g.E.Sink.seen c.args.err.now)
     c.in_err-old.field-0.0 c.in_err-old.ensures.judged)
 
 pub returns-in_err-new : goal.returns-in_err-new
 returns-in_err-new g c =
     let p = err_from_is_err_and c.from_residual-in_err-new.result c.from_residual-in_err-new.ensures.1 in
-    rw (p.1, p.2) (halted_at_new c.args.words.0.now c.args.words.1.now c.args.words.2.now c.args.events.now _ _ _
+    rw (p.1, p.2) (halted_at_new c.args.words.now.old.now c.args.words.now.new.now c.args.words.now.intent.now
+    c.args.words.now.events.items _ _ _
     (g.S.Source.seen c.args.input.now) (g.O.Sink.seen c.args.out.now) (g.E.Sink.seen c.args.err.now)
     c.in_ok-old.old c.in_ok-old.ensures.judged c.in_err-new.field-0.0 c.in_err-new.ensures.judged)
 
 pub returns-in_err-both : goal.returns-in_err-both
 returns-in_err-both g c =
     let p = err_from_is_err_and c.from_residual-in_err-both.result c.from_residual-in_err-both.ensures.1 in
-    rw (p.1, p.2) (halted_at_intent c.args.words.0.now c.args.words.1.now c.args.words.2.now c.args.events.now _ _ _ _
+    rw (p.1, p.2) (halted_at_intent c.args.words.now.old.now c.args.words.now.new.now c.args.words.now.intent.now
+    c.args.words.now.events.items _ _ _ _
     (g.S.Source.seen c.args.input.now) (g.S.Source.seen c.args.input.now) (g.O.Sink.seen c.args.out.now) (g.E.Sink.seen c.args.err.now)
     c.in_ok-old.old c.in_ok-old.ensures.judged c.in_ok-new.new c.in_ok-new.ensures.judged
     c.in_err-both.field-0.0 c.in_err-both.ensures.judged)
@@ -29,14 +32,16 @@ returns-in_err-both g c =
 pub returns-in_err-start : goal.returns-in_err-start
 returns-in_err-start g c =
     let p = err_from_is_err_and c.from_residual-in_err-start.result c.from_residual-in_err-start.ensures.1 in
-    rw (p.1, p.2) (halted_at_start c.args.words.0.now c.args.words.1.now c.args.words.2.now c.args.events.now _ _ _ _
+    rw (p.1, p.2) (halted_at_start c.args.words.now.old.now c.args.words.now.new.now c.args.words.now.intent.now
+    c.args.words.now.events.items _ _ _ _
     (g.S.Source.seen c.args.input.now) (g.S.Source.seen c.args.input.now) (g.O.Sink.seen c.args.out.now) (g.E.Sink.seen c.args.err.now)
     c.in_ok-old.old c.in_ok-old.ensures.judged c.in_ok-new.new c.in_ok-new.ensures.judged c.in_ok-both.both c.in_ok-both.ensures.judged
     c.in_err-start.field-0.0 c.in_err-start.ensures)
 
 pub returns-in-NoList : goal.returns-in-NoList
 returns-in-NoList g c =
-    without_list c.args.words.0.now c.args.words.1.now c.args.words.2.now c.args.events.now _ _ _ _
+    without_list c.args.words.now.old.now c.args.words.now.new.now c.args.words.now.intent.now
+    c.args.words.now.events.items _ _ _ _
     (g.S.Source.seen c.args.input.now) (g.S.Source.seen c.args.input.now) (g.O.Sink.seen c.args.out.now) (g.E.Sink.seen c.args.err.now)
     c.in_ok-old.old c.in_ok-old.ensures.judged c.in_ok-new.new c.in_ok-new.ensures.judged c.in_ok-both.both c.in_ok-both.ensures.judged
     c.in-NoList.line _ (rw c.in-NoList.is at c.in_ok-start.ensures) refl refl
@@ -48,7 +53,8 @@ returns-in_err-packets g c =
     let new = c.in_ok-new.new in
     let both = c.in_ok-both.both in
     let sides = c.in-Lists.sides in
-    rw (p.1, p.2) (halted_at_input c.args.words.0.now c.args.words.1.now c.args.words.2.now c.args.events.now _ _ _ _ _ _
+    rw (p.1, p.2) (halted_at_input c.args.words.now.old.now c.args.words.now.new.now c.args.words.now.intent.now
+    c.args.words.now.events.items _ _ _ _ _ _
     (g.O.Sink.seen c.args.out.now) (g.E.Sink.seen c.args.err.now)
     old c.in_ok-old.ensures.judged new c.in_ok-new.ensures.judged both c.in_ok-both.ensures.judged
     c.in-Lists.plan (sides_at sides.old sides.new)
@@ -91,7 +97,8 @@ returns-in_err-refusal g c =
     let new = c.in_ok-new.new in
     let both = c.in_ok-both.both in
     let sides = c.in-Lists.sides in
-    rw (p.1, p.2) (halted_at_pieces c.args.words.0.now c.args.words.1.now c.args.words.2.now c.args.events.now _ _ _ _ _ _
+    rw (p.1, p.2) (halted_at_pieces c.args.words.now.old.now c.args.words.now.new.now c.args.words.now.intent.now
+    c.args.words.now.events.items _ _ _ _ _ _
     (g.O.Sink.seen c.args.out.now) (g.E.Sink.seen c.args.err.now)
     old c.in_ok-old.ensures.judged new c.in_ok-new.ensures.judged both c.in_ok-both.ensures.judged
     c.in-Lists.plan (sides_at sides.old sides.new)
@@ -99,7 +106,7 @@ returns-in_err-refusal g c =
     c.keeps_rules.ensures.network c.keeps_rules-2.ensures.network c.in_ok-old.ensures.whole c.in_ok-new.ensures.whole)
     c.in_ok-packets.packets c.in_ok-packets.ensures.judged
     (g.O.Sink.seen c.drive_update.new.out) (g.E.Sink.seen c.drive_update.new.err)
-    c.in_err-refusal.field-0.0 c.in_err-refusal.ensures.wrote)
+    c.in_err-refusal.field-0.0 (rw c.as_slice.ensures.value at c.in_err-refusal.ensures.wrote))
 
 pub returns-in-Some : goal.returns-in-Some
 returns-in-Some g c =
@@ -107,7 +114,8 @@ returns-in-Some g c =
     let new = c.in_ok-new.new in
     let both = c.in_ok-both.both in
     let sides = c.in-Lists.sides in
-    update_refused c.args.words.0.now c.args.words.1.now c.args.words.2.now c.args.events.now _ _ _ _ _ _
+    update_refused c.args.words.now.old.now c.args.words.now.new.now c.args.words.now.intent.now
+    c.args.words.now.events.items _ _ _ _ _ _
     (g.O.Sink.seen c.args.out.now) (g.E.Sink.seen c.args.err.now)
     old c.in_ok-old.ensures.judged new c.in_ok-new.ensures.judged both c.in_ok-both.ensures.judged
     c.in-Lists.plan (sides_at sides.old sides.new)
@@ -115,7 +123,7 @@ returns-in-Some g c =
     c.keeps_rules.ensures.network c.keeps_rules-2.ensures.network c.in_ok-old.ensures.whole c.in_ok-new.ensures.whole)
     c.in_ok-packets.packets c.in_ok-packets.ensures.judged
     (g.O.Sink.seen c.drive_update.new.out) (g.E.Sink.seen c.drive_update.new.err)
-    c.in-Some.refusal (sym c.in-Some.is ∙ c.in_ok-refusal.ensures.fault) c.in_ok-refusal.ensures.wrote
+    c.in-Some.refusal (sym c.in-Some.is ∙ c.in_ok-refusal.ensures.fault) (rw c.as_slice.ensures.value at c.in_ok-refusal.ensures.wrote)
 
 pub returns : goal.returns
 returns g c =
@@ -123,7 +131,8 @@ returns g c =
     let new = c.in_ok-new.new in
     let both = c.in_ok-both.both in
     let sides = c.in-Lists.sides in
-    update_done c.args.words.0.now c.args.words.1.now c.args.words.2.now c.args.events.now _ _ _ _ _ _
+    update_done c.args.words.now.old.now c.args.words.now.new.now c.args.words.now.intent.now
+    c.args.words.now.events.items _ _ _ _ _ _
     (g.O.Sink.seen c.args.out.now) (g.E.Sink.seen c.args.err.now)
     old c.in_ok-old.ensures.judged new c.in_ok-new.ensures.judged both c.in_ok-both.ensures.judged
     c.in-Lists.plan (sides_at sides.old sides.new)
@@ -131,4 +140,4 @@ returns g c =
     c.keeps_rules.ensures.network c.keeps_rules-2.ensures.network c.in_ok-old.ensures.whole c.in_ok-new.ensures.whole)
     c.in_ok-packets.packets c.in_ok-packets.ensures.judged
     (g.O.Sink.seen c.drive_update.new.out) (g.E.Sink.seen c.drive_update.new.err)
-    _ (sym c.in-None.is ∙ c.in_ok-refusal.ensures.fault) refl refl c.in_ok-refusal.ensures.wrote
+    _ (sym c.in-None.is ∙ c.in_ok-refusal.ensures.fault) refl refl (rw c.as_slice.ensures.value at c.in_ok-refusal.ensures.wrote)

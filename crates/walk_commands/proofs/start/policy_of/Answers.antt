@@ -8,4 +8,5 @@ use Rattle.walk_commands.proofs.start.policy_of.Goals as goal
 pub returns : goal.returns
 returns c =
     ap (λ (segments : List Addr). record (policy_of c.args.net.now c.args.intent.now c.args.compiled.now) { segments = segments })
-    (c.new.ensures ∙ addresses-of (list_values c.args.net.now c.args.compiled.now.list) c.in_ok-segments.segments.items c.in_ok-segments.ensures)
+    (c.new.ensures ∙ addresses-of (list_values c.args.net.now c.args.compiled.now.list)
+    c.in_ok-segments.segments.items c.in_ok-segments.ensures)

@@ -8,4 +8,4 @@ returns-in-Frame c = pieces_found c.args.self.now.pieces c.next.new.self (rw c.i
 pub returns-in-End : goal.returns-in-End
 returns-in-End c =
     let ended = pieces_ended c.args.self.now.pieces c.in-End.end (rw c.in-End.is at c.in_ok-next.ensures) in
-    (ended.0, c.fault_of_end.ensures ∙ ended.1)
+    (ended.0, c.refusal_of_capture_end.ensures ∙ ended.1)

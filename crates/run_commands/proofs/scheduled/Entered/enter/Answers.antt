@@ -1,4 +1,4 @@
-use Rattle.std.proofs.Common.{◌≡◌, ◌∙◌, ◌++◌, ◌∷◌, [], ℕ, List, ap}
+use Rattle.std.proofs.Common.{◌∙◌, ◌++◌, ◌∷◌, [], ℕ, List, ap}
 use Rattle.srv6_rules.specs.Packet.{Content}
 use Rattle.node_stage.specs.Fronted.{fronted}
 use Rattle.packet_walk.specs.Flight.{Flight, entered, entering}

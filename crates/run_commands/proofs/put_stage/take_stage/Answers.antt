@@ -3,7 +3,7 @@ use Rattle.walk_rules.specs.declared.place.Outcome.{Outcome}
 use Rattle.walk_rules.specs.Treatment.{Gave, step_of}
 use Rattle.trace_replay.specs.Numbered.{IsNumbered}
 use Rattle.run_commands.proofs.Writable.{in_ok, gave_writable, end_within}
-use Rattle.run_commands.proofs.put_walk.staged.Goals as goal
+use Rattle.run_commands.proofs.put_stage.take_stage.Goals as goal
 
 pub returns-clause-writable : goal.returns-clause-writable
 returns-clause-writable c =

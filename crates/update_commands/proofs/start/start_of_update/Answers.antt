@@ -1,6 +1,6 @@
 use Rattle.std.proofs.lemmas.Result.{err_from_is_err_and}
 use Rattle.update_commands.proofs.Steps.{new_none, old_none, plan_halts}
-use Rattle.update_commands.proofs.start.start_of.Goals as goal
+use Rattle.update_commands.proofs.start.start_of_update.Goals as goal
 
 pub returns-in_err-plan : goal.returns-in_err-plan
 returns-in_err-plan c =

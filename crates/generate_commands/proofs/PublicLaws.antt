@@ -1,0 +1,2 @@
+-- The lemmas that crates above may cite.
+pub use Rattle.generate_commands.proofs.OneOutput.{gen-one}
