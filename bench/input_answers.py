@@ -12,20 +12,24 @@ BIG_FILE = "2 TooBig 4194304"
 REFUSALS = {
     "descriptions": [BIG_FILE, "21 NotToml"] + [f"{number} {name} {TABLE}{more}" for number, name, more in SHAPES] + ["39 BadNode"],
     "intents": [BIG_FILE, "33 Text NotToml"] + [f"33 Text {name} {STEP}{more}" for number, name, more in SHAPES if number in (22, 23, 24, 25, 28, 29, 32)]
-    + [f"34 UnknownName {N}", f"35 Broken {N}", f"36 NoFunction {N}", "37 NotFunctionLast", f"38 DoubleLink {N}"],
+    + [f"34 UnknownName {N}", f"35 Broken {N}", f"36 NoFunction {N}", "37 NotFunctionLast", f"38 DoubleLink {N}", "46 LooseLimit 128"],
     "captures": ["2 TooBig 67108864", "11 BadMagic", "13 BadVersion", f"14 BadLink {N}", "15 CutHead", f"16 CutFrame {N}", "17 FrameLimit"]
     + [f"{number} Ng{name} {N}" for number, name in enumerate(("Block", "Magic", "Version", "Interface", "Cut", "OldBlock"), 49)],
     "certificates": [BIG_FILE, f"45 BadCert {N}"],
     "traces": [BIG_FILE, f"40 BadTrace {N}"],
+    "events": [],
 }
 NOT_FLAT = [f"41 Nested {PREFIX} {PREFIX}", f"42 ZeroCsid {PREFIX}", f"43 MixedBlock {PREFIX} {PREFIX}", f"44 Clash {PREFIX} {NAME} {NAME}"]
-JOINED = REFUSALS["intents"][-5:]
+JOINED = REFUSALS["intents"][-6:]
+ENTRY = rf"(?:route|sid|node) {N}"
+REFUSALS["changes"] = REFUSALS["descriptions"] + NOT_FLAT + JOINED + [f"47 Conflict {ENTRY} {ENTRY}", f"48 Differs (?:block|node|link|policy) {N}"]
 # A refusal of a capture that comes after what stands before it, where the others come first; the first block of a pcapng file has none.
 LATE = re.compile(r"refused (?:1[67]\b|(?:49|5[0-4]) Ng[A-Za-z]+ (?!1\n))")
 # What each kind must have met; a run of few inputs may miss some.
 MET = {
     "descriptions": [2, *range(21, 33), 39, 41, 42, 43, 44],
-    "intents": [2, 33, 34, 35, 36, 37, 38, "TooLong", "HopLimit", "NoList"],
+    "intents": [2, 33, 34, 35, 36, 37, 38, 46, "TooLong", "HopLimit", "NoList"],
+    "changes": [2, *range(21, 33), 41, 42, 43, 44, 47, 48, "NoList", "update:"], "events": ["usage", "update:"],
     "captures": [2, 11, 13, 14, 15, 16, 17, 49, 50, 51, 52, 53, 54],
     "certificates": [2, 45, "edge", "unlisted", "path", "tight"], "traces": [2, 40],
 }
@@ -40,8 +44,12 @@ def refusal_of(kind, command):
     return full("refused (?:" + "|".join(REFUSALS[kind] + joined) + ")\n")
 
 
-PACKETS = full(rf"(?:packet {N}: (?:not read, (?:ShortFrame|NotIp|WrongVersion)|left {NAME}|delivered at {NAME}|dropped [A-Z][A-Za-z]+ at {NAME}"
-               rf"|stopped after 10000 stages)\n)*")
+PACKET = (rf"packet {N}: (?:not read, (?:ShortFrame|NotIp|WrongVersion)|left {NAME}|delivered at {NAME}|dropped [A-Z][A-Za-z]+ at {NAME}"
+          rf"|stopped after 10000 stages)\n")
+PACKETS = full(rf"(?:{PACKET})*")
+EDIT = rf"edit (?:(?:add|remove) (?:route|sid) {N}|switch|busy {N})\n"
+MOVES = full(rf"(?:{PACKET}|{EDIT})*")
+USAGE = b"usage: srv6 compile|check|walk|run|trace|replay|show|gen|update\n"
 CERTIFICATE = rf"srv6 certificate 1\n(?:potential {N} [^\n]+\n)*(?:(?:path (?:new|stay) {PREFIX}\n)+|none\n)end\n"
 REPORT = full(rf"(?:# none\n|(?:# container [0-9a-f:]+\n)+# containers {N}\n# header {N}\n# need {N}\n)" + CERTIFICATE)
 NO_ANSWER = full(rf"no answer (?:NoList|TooLong {N}|HopLimit {N})\n")
@@ -49,7 +57,8 @@ LEAST = full(rf"least {N} {N}\n|none\n")
 BAD_LINE = full(rf"no {N} (?:edge|unlisted {N} (?:-|{PREFIX}(?: ?@ ?{NAME})?) {N}|path|tight)\n")
 ALL_RIGHT = full(rf"ok {N} {N}\n")
 WRONG = full(rf"no {N} [^\n]+\n")
-STATUSES = {"run": (0, 1), "walk": (0, 1, 3), "compile": (0, 1, 3), "check": (0, 1, 4), "trace": (0, 1), "replay": (0, 1, 4), "show": (0, 1)}
+STATUSES = {"run": (0, 1), "walk": (0, 1, 3), "compile": (0, 1, 3), "check": (0, 1, 4), "trace": (0, 1), "replay": (0, 1, 4), "show": (0, 1),
+            "update": (0, 1, 3)}
 HEAD = struct.pack("<IHHiIII", 0xA1B2C3D4, 2, 4, 0, 0, 262_144, 101)
 
 
@@ -68,7 +77,7 @@ def is_capture(out):
 
 def is_whole(command, out, is_end):
     """What `out` holds once the input was read to its end, or to a frame that is refused."""
-    if command in ("run", "walk"):
+    if command in ("run", "walk", "update"):
         return is_capture(out)
     if command == "trace":
         return out.startswith(b"srv6 trace 1\n") and out.endswith(b"end\n" if is_end else b"\n") and (is_end or not out.endswith(b"\nend\n"))
@@ -80,13 +89,15 @@ def judged(kind, command, status, out, err):
     if os.WIFSIGNALED(status):
         return f"signal {os.WTERMSIG(status)}", "it ended by a signal"
     status = os.WEXITSTATUS(status)
+    if status == 2 and kind == "events":
+        return "usage", None if (out, err) == (b"", USAGE) else "the line of the usage"
     if status not in STATUSES[command]:
         return f"status {status}", "the status"
     err, lines = err.decode("latin-1"), ""
-    if command in ("run", "walk"):
+    if command in ("run", "walk", "update"):
         begin = err.rfind("\n", 0, -1) + 1 if status in (1, 3) else len(err)
         lines, err = err[:begin], err[begin:]
-    if not PACKETS.match(lines):
+    if not (MOVES if command == "update" else PACKETS).match(lines):
         return f"status {status}", "the packets' lines"
     text = out.decode("latin-1")
     if status == 1:
@@ -119,6 +130,35 @@ def untrue(kind, command, text, status, out, sample):
         lines = text.count(b"\n") - 2
         if said != ["ok", str(text.count(b"\npacket ")), str(lines)]:
             return "the sums of a trace"
+    return None
+
+
+def moves_of(err):
+    """The numbers of the packets that have lines, sorted, and the edits that were done, in order."""
+    lines = err.decode("latin-1").splitlines()
+    return sorted(line.split(":")[0] for line in lines if line.startswith("packet ")), [line for line in lines if re.match("edit (add|remove|switch)", line)]
+
+
+def is_events(text):
+    """Whether a word is 1 to 65,536 numbers of 32 bits joined by commas."""
+    numbers = text.split(b",")
+    return len(numbers) <= 65_536 and all(re.fullmatch(rb"0|[1-9][0-9]{0,9}", number) and int(number) < 2**32 for number in numbers)
+
+
+def untrue_of_update(kind, text, status, err, sample):
+    """What `update` says of packets and edits that can't be so."""
+    if kind == "events" and (status == 0) != is_events(text):
+        return "events that are none, or a usage line though they are some"
+    if status != 0:
+        return None
+    packets, edits = moves_of(err)
+    if len(set(packets)) < len(packets) or len(set(edits)) < len(edits) or edits.count("edit switch") != 1:
+        return "a packet or an edit comes twice, or no switch"
+    order = [("add", "switch", "remove").index(edit.split()[1]) for edit in edits]
+    if order != sorted(order):
+        return "the order of the edits"
+    if kind == "events" and (packets, edits) != moves_of(sample):
+        return "other packets or edits than with other events"
     return None
 
 

@@ -13,15 +13,16 @@ WORDS = {
         segments traffic_class flow_label hop_limit behaviour flavours title links policy "plain" "next" "replace" "psp" "usp" "usd" "End"
         "End.X" "End.T" "End.DX6" "End.DX4" "End.DT6" "End.DT4" "End.DT46" "End.B6.Encaps" "End.B6.Encaps.Red" "A" "B" "ab" "bc1" "ce" "vpn"
         "fcbb:bb00:2::/48" "fcbb:bb00::/32" "::/0" "2001:db8::b" "10.0.0.0/8" = [ ] { } # , true 1.5 ["bc1","bc2"] ["psp"] [0,255] 1979-05-27""",
-    "intents": """[[step]] headend source inner mode hop_limit max_containers traffic_class flow_label step links function "ipv6" "ipv4" "full"
+    "intents": """[[step]] headend source inner mode hop_limit max_containers traffic_class flow_label step links function reach "ipv6" "ipv4" "full"
         "reduced" "A" "B" "D" "ab" "bc1" "bc2" "cd" "ce" "vpn" ["ab"] ["bc1","bc2"] "2001:db8::a" = [ ] { } # , false 1e3""",
     "certificates": """srv6 certificate 1 potential path new stay none end # - @ @B 0 1 4294967295 fcbb:bb00:2::/48 fcbb:bb00:e001::/48
         fcbb:bb00:4::/48 fcbb:bb00:f001::/48 ::/0""",
     "traces": """srv6 trace 1 packet again hand send local drop stages end table through 0 100 6 4 A B C D N ab bc1 bc2 cd ce - NoRoute HopLimit
         UpperLayer BadSegments Other Truncated fcbb:bb00:2::/48 60 ff""",
-    "captures": "",
+    "captures": "", "events": "0 1 2 3 4 , 0,0 1,1 4294967295 4294967296 00 01 -1 +1 1.0 a",
 }
 WORDS = {kind: words.split() for kind, words in WORDS.items()}
+WORDS["changes"] = WORDS["descriptions"]
 NUMBERS = [0, 1, 2, 3, 4, 16, 32, 48, 64, 65, 127, 128, 255, 256, 257, 4096, 65535, 65536, 1048575, 1048576,
            2**31 - 1, 2**31, 2**32 - 1, 2**32, 2**63 - 1, 2**63, 2**64, 10**40]
 
@@ -249,6 +250,24 @@ def block_changed(draw, text, kind, others):
     return text[:at] + struct.pack("<I", value) + text[at + 4:]
 
 
+def event_changed(draw, text, kind, others):
+    """A number of a list left out, doubled, moved, put in another's place, or joined by some others."""
+    numbers = text.split(b",")
+    here, there = draw.randrange(len(numbers)), draw.randrange(len(numbers) + 1)
+    how = draw.randrange(5)
+    if how == 0 and len(numbers) > 1:
+        del numbers[here]
+    elif how == 1:
+        numbers.insert(there, numbers[here])
+    elif how == 2:
+        numbers.insert(there, numbers.pop(here))
+    elif how == 3:
+        numbers[here] = str(draw.choice((0, 0, 1, 2, 3, 4, 5, draw.choice(NUMBERS)))).encode()
+    else:
+        numbers[there:there] = [str(draw.randrange(5)).encode() for _ in range(draw.choice((1, 3, 30)))]
+    return b",".join(numbers)
+
+
 # ---- one byte, one line, one number
 
 def one_byte(draw, text, kind, others):
@@ -280,8 +299,9 @@ ANY = [bytes_changed, bit_flipped, cut, taken_out, doubled, spliced]
 OF_TEXT = [lines_changed, number_changed, word_changed]
 OF_TOML = {
     kind: [tables_changed, entry_changed, list_changed, prefix_changed, value_changed, further]
-    for kind, further in (("descriptions", sid_added), ("intents", root_set))}
+    for kind, further in (("descriptions", sid_added), ("changes", sid_added), ("intents", root_set))}
 OF_CAPTURE = [bit_flipped, cut, head_changed] + 3 * [field_changed]
+OF_EVENTS = 12 * [event_changed] + [number_changed, word_changed, cut]
 
 
 def changed(draw, text, kind, others):
@@ -289,12 +309,12 @@ def changed(draw, text, kind, others):
     if draw.random() < 0.02:
         size = draw.choice((0, 1, 5, 24, 40, 100, 1000))
         return draw.randbytes(size) if draw.random() < 0.5 else bytes(draw.choice(b'abe019 \n"[]=./:#-') for _ in range(size))
-    ways = OF_CAPTURE if kind == "captures" else OF_TEXT
+    ways = OF_CAPTURE if kind == "captures" else OF_EVENTS if kind == "events" else OF_TEXT
     if kind in OF_TOML and draw.random() < 0.8:
         ways = OF_TOML[kind]
     elif text[:4] == b"\x0a\x0d\x0d\x0a" and draw.random() < 0.7:
         ways = [block_changed]
-    elif draw.random() < 0.4:
+    elif draw.random() < (0.1 if kind == "events" else 0.4):
         ways = ways + ANY
     for _ in range(draw.choice((1, 1, 1, 1, 2, 2, 3, 6))):
         text = draw.choice(ways)(draw, text, kind, others)
@@ -352,8 +372,19 @@ def of_another_length(draw, text, kind):
     return text.rstrip(b"\n") + b'\n\n[[sid]]\nnode = "%s"\nprefix = "%s"\nbehaviour = "End"\n' % (draw.choice(nodes), prefix)
 
 
+def reach_added(draw, text, kind):
+    """A step more before all others, which is to reach a node; or one in place of the first step, and what follows it as it was."""
+    first, *steps = TABLE_OF_TEXT.split(text)
+    return first + b'[[step]]\nreach = "%s"\n\n' % draw.choice((b"B", b"C")) + b"".join(steps[draw.randrange(2) if steps else 0:])
+
+
+def most_events(draw, text, kind):
+    """As many numbers as a word has room for, which is as many as there may be."""
+    return b",".join(draw.choice(b"0012349").to_bytes() for _ in range(65_536))
+
+
 OF_A_BLOCK = at_one_prefix, without_number, of_another_length
 AIMED = {
-    "descriptions": [filled, *OF_A_BLOCK], "intents": [filled], "captures": [filled, full_of_frames],
-    "certificates": [filled], "traces": [filled],
+    "descriptions": [filled, *OF_A_BLOCK], "changes": [filled, *OF_A_BLOCK], "intents": [filled, reach_added],
+    "captures": [filled, full_of_frames], "certificates": [filled], "traces": [filled], "events": [most_events],
 }
