@@ -112,7 +112,7 @@ def timed_capture(frames: Sequence[Timed]) -> Iterator[bytes]:
 
 @dataclass(frozen=True, slots=True)
 class Sent:
-    """A frame of a capture that `srv6 run` or `srv6 walk` wrote."""
+    """A frame of a capture that `srv6 run`, `walk` or `update` wrote."""
 
     frame: int  # its number, from 1
     packet: int  # the packet's number

@@ -32,7 +32,9 @@ description whole, those in the new one, which has the same nodes and links, in 
 
   srv6 walk OLD INTENT < INPUT > OLD-CAPTURE
   srv6 walk NEW INTENT < INPUT > NEW-CAPTURE
-  draw-walk --new NEW-CAPTURE OLD OLD-CAPTURE"""
+  draw-walk --new NEW-CAPTURE OLD OLD-CAPTURE
+
+What `srv6 update OLD NEW INTENT` writes is drawn over OLD or over NEW."""
 
 
 @dataclass(slots=True)
@@ -119,7 +121,7 @@ def main(words: Sequence[str]) -> int:
     """Runs the tool."""
     parser = Parser("draw-walk", DESCRIPTION)
     parser.add_argument("net", metavar="NET", help="a description")
-    parser.add_argument("capture", metavar="CAPTURE", help="what `srv6 run` or `walk` wrote")
+    parser.add_argument("capture", metavar="CAPTURE", help="a capture that `srv6` wrote")
     parser.add_argument(
         "packets", metavar="PACKET", nargs="*", type=positive, help="without numbers all are drawn"
     )

@@ -17,7 +17,7 @@ COMMENT, NAME, ABOUT, FLAGS, APPLICATION = 1, 2, 3, 2, 4  # options, by the bloc
 OUTBOUND = 2
 ERRORS = "ICMPv6 errors"
 DESCRIPTION = """\
-Writes a capture that `srv6 run` or `srv6 walk` wrote anew as pcapng, for Wireshark and tshark:
+Writes a capture that `srv6 run`, `walk` or `update` wrote anew as pcapng, for Wireshark and tshark:
 
   srv6 walk NET INTENT < INPUT | name-links NET > OUT.pcapng
 

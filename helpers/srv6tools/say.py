@@ -9,12 +9,13 @@ from collections.abc import Iterator, Sequence
 from dataclasses import dataclass, field
 
 from .command import Fault, Parser, Status, progress, run_tool
-from .err_lines import NoAnswer, PacketLine, Refusal, err_line_of
+from .err_lines import EditLine, NoAnswer, PacketLine, Refusal, err_line_of
 from .files import FILE_LIMIT
 from .program import the_program
 from .say_items import OF_THIS_KIND, TomlFile, explain_intent, explain_text, near
 from .say_others import (
     REASONS,
+    STOPPED,
     explain_certificate,
     explain_fault,
     explain_flatness,
@@ -25,7 +26,7 @@ from .say_others import (
     explain_verdict,
     is_swapped,
 )
-from .say_updates import explain_update, net_at_fault, net_without_answer
+from .say_updates import explain_edits, explain_update, net_at_fault, net_without_answer
 
 FORMS = {
     "run": "run NET NODE [CHOICES [SCHEDULE]] < INPUT > CAPTURE",
@@ -61,6 +62,8 @@ class Run:
     last: str = ""  # the last line on `err`
     verdict: str = ""  # what `check` and `replay` write
     drops: collections.Counter[tuple[str, str]] = field(default_factory=collections.Counter)
+    stopped: int = 0  # packets that used all their stages
+    edits: collections.Counter[str] = field(default_factory=collections.Counter)
 
     @property
     def command(self) -> str:
@@ -138,18 +141,24 @@ def _run(run: Run) -> None:
 
 def _take(run: Run, line: str) -> None:
     run.last = line
-    said = err_line_of(line)
-    if isinstance(said, PacketLine) and said.reason:
-        run.drops[said.reason, said.place or ""] += 1
+    match err_line_of(line):
+        case PacketLine(reason=str(reason), place=place):
+            run.drops[reason, place or ""] += 1
+        case PacketLine(outcome="stopped"):
+            run.stopped += 1
+        case EditLine(kind=kind):
+            run.edits[kind] += 1
 
 
 def _explained(run: Run) -> Iterator[str]:
     """What is to be said of a run."""
     for (reason, place), count in sorted(run.drops.items()):
         at = f" at {place}" if place else ""
-        times = "1 packet" if count == 1 else f"{count} packets"
         if reason in REASONS:
-            yield f"{reason}{at} ({times}): {REASONS[reason]}"
+            yield f"{reason}{at} ({_packets(count)}): {REASONS[reason]}"
+    if run.stopped:
+        yield f"stopped ({_packets(run.stopped)}): {STOPPED}"
+    yield from explain_edits(run.edits)
     said = err_line_of(run.last)
     match run.status:
         case Status.REFUSED if isinstance(said, Refusal):
@@ -168,6 +177,10 @@ def _explained(run: Run) -> Iterator[str]:
             yield "there wasn't enough memory"
         case status if status > 128:
             yield f"srv6 was ended by signal {status - 128}"
+
+
+def _packets(count: int) -> str:
+    return "1 packet" if count == 1 else f"{count} packets"
 
 
 def _net_and_intent(run: Run) -> tuple[str, str]:

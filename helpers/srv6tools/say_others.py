@@ -53,8 +53,13 @@ REASONS = {
     "InnerHop": "the inner packet's hop limit or TTL is at most 1, so the headend can't lower it",
     "MtuExceeded": "the packet is longer than the `mtu` of the link that was taken",
 }
+STOPPED = (
+    "it used 10,000 stages without an end, as where a policy's header is pushed again and again"
+)
 
 
+# Where the prefixes of a refusal are looked for, up to the first table that has one; else SIDs.
+_FIRST_OF = {"MixedBlock": ("sid", "block")}
 NG_BLOCKS = {
     49: "has lengths that don't fit",
     50: "is a section of neither byte order",
@@ -73,7 +78,7 @@ def explain_input(number: int, fields: Sequence[str]) -> Iterator[str]:
             yield f"{name} has more than {fields[0]} bytes; part it by `editcap -c 65536 IN OUT`"
         case 11:
             yield f"{name} begins with {_looks_like(start)}"
-            takes = "srv6 takes a classic capture, or one bare IPv6 packet"
+            takes = "srv6 takes a capture, classic or pcapng, or one bare IPv6 packet"
             yield CONVERT if start and start[:2] == GZIP else takes
         case 13:
             yield f"{name} is a capture of another version than 2.4"
@@ -118,7 +123,7 @@ def _start_of_input() -> bytes | None:
 
 def _looks_like(start: bytes | None) -> str:
     if start is None:
-        return "no magic of a classic capture"
+        return "no magic of a capture"
     if start[:2] == GZIP:
         return "a gzip head: it is compressed"
     if start[:4] in (b"\xa1\xb2\xcd\x34", b"\x34\xcd\xb2\xa1"):
@@ -128,7 +133,7 @@ def _looks_like(start: bytes | None) -> str:
         return f"{start[:4].hex()}, as a bare IPv4 packet: {make}"
     if start.isascii() and start.decode("ascii").isprintable():
         return f"the text {start.decode('ascii')!r}"
-    return f"{start[:4].hex()}, which is no magic of a classic capture"
+    return f"{start[:4].hex()}, which is no magic of a capture"
 
 
 def explain_node(net: TomlFile, word: str) -> Iterator[str]:
@@ -217,11 +222,13 @@ def explain_verdict(net: str, path: str, line: str, command: str) -> Iterator[st
 
 def explain_flatness(net: TomlFile, name: str, fields: Sequence[str]) -> Iterator[str]:
     """What 41 to 44 mean: the entries of the prefixes, with their lines."""
+    tables: dict[str, tuple[str, ...]] = {}  # of a prefix that may stand in several, all of them
     match name, fields:
         case "Nested", (outer, inner):
             yield f"{inner} lies inside the SID {outer}, so packets to it don't come to that SID;"
-            yield "compile, check and walk take only a SID of the same node there, with 16 bits more"
-            yield "(FORMATS.md, 'Networks that aren't flat'), no route and no address"
+            yield "compile, check, walk and update take only a SID of the same node there, with 16"
+            yield "bits more (FORMATS.md, 'Networks that aren't flat'), no route and no address"
+            tables = {inner: ("sid", "route", "node")}
         case "ZeroCsid", (sid,):
             yield f"the SID {sid} has only zeros behind its block:"
             yield "its CSID is 0, which ends a container"
@@ -231,29 +238,26 @@ def explain_flatness(net: TomlFile, name: str, fields: Sequence[str]) -> Iterato
         case "Clash", (sid, *nodes):
             yield f"two SIDs have the prefix {sid}, at {' and '.join(nodes)}, and differ in `csid`"
     for text in dict.fromkeys(field for field in fields if "/" in field):
-        for table, number, key in _entries_of(net, text, name == "MixedBlock"):
-            yield f"{net.path}: {net.where(table, number)}:"
-            yield from net.quote(table, number, key)
+        for table in tables.get(text, _FIRST_OF.get(name, ("sid",))):
+            key = "address" if table == "node" else "prefix"
+            found = _entries_of(net, table, key, text)
+            for number in found:
+                yield f"{net.path}: {net.where(table, number)}:"
+                yield from net.quote(table, number, key)
+            if found and text not in tables:
+                break
 
 
-def _entries_of(net: TomlFile, text: str, with_blocks: bool) -> Iterator[tuple[str, int, str]]:
-    """The SIDs of a prefix; else the routes, the nodes or the blocks of it, three of each at
-    most.
-    """
+def _entries_of(net: TomlFile, table: str, key: str, text: str) -> list[int]:
+    """The numbers of the items of a table that have a prefix, three at most."""
     prefix = prefix_of(text)
-    for table in ("sid", "block", "route", "node"):
-        if table == "block" and not with_blocks:
-            continue
-        key = "address" if table == "node" else "prefix"
-        found = []
-        for number, item in enumerate(net.items(table), 1):
-            with contextlib.suppress(*OF_THIS_KIND):
-                own = item[key] + "/128" if table == "node" else item[key]
-                if prefix_of(own) == prefix:
-                    found.append((table, number, key))
-        if found:
-            yield from found[:3]
-            return
+    found = []
+    for number, item in enumerate(net.items(table), 1):
+        with contextlib.suppress(*OF_THIS_KIND):
+            own = item[key] + "/128" if table == "node" else item[key]
+            if prefix_of(own) == prefix:
+                found.append(number)
+    return found[:3]
 
 
 def explain_fault(files: Sequence[str], has_input: bool) -> Iterator[str]:

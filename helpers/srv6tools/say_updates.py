@@ -1,8 +1,8 @@
-"""What refusals of an update mean: of which of its two descriptions they are, and what stands in
-the way of the way from one to the other.
+"""What the edits of an update mean, and what its refusals do: of which of its two descriptions
+they are, and what stands in the way of the way from one to the other.
 """
 
-from collections.abc import Iterator, Sequence
+from collections.abc import Iterator, Mapping, Sequence
 
 from .command import Status
 from .items import Prefix, address_of, prefix_of
@@ -11,6 +11,19 @@ from .say_items import TomlFile
 
 KEPT = "an update changes routes and SIDs alone; blocks, nodes, links and policies stay as they are"
 ORDER = "an update adds all that is new before it removes what is old, so both would stand there"
+EDITS = {
+    "add": "the entry is there from now on; its number is behind those of OLD, in the order of NEW",
+    "switch": "packets that enter from now on have the list of NEW",
+    "busy": "that packet entered before the switch and hasn't ended, so nothing is removed yet",
+    "remove": "the entry of OLD with this number is no longer there",
+}
+
+
+def explain_edits(edits: Mapping[str, int]) -> Iterator[str]:
+    """What each kind of line `edit ..` means that there was, with how often it came."""
+    for kind, why in EDITS.items():
+        if count := edits.get(kind, 0):
+            yield f"edit {kind} ({'once' if count == 1 else f'{count} times'}): {why}"
 
 
 def net_at_fault(old: str, new: str, intent: str, line: str) -> str:

@@ -16,6 +16,7 @@ from support import EXAMPLES, ToolCase, bad_captures, bad_tomls, needs_program, 
 M2 = (EXAMPLES / "m2.toml").read_text()
 INTENT = (EXAMPLES / "intent.toml").read_text()
 COMPRESSED = (EXAMPLES / "compressed.toml").read_text()
+NESTED = (EXAMPLES / "nested.toml").read_text()
 PACKET = (EXAMPLES / "srh.bin").read_bytes()
 HEAD = struct.pack("<IHHIII", 0xA1B2C3D4, 2, 4, 0, 0, 65535)
 RAW = HEAD + struct.pack("<I", 101)
@@ -122,6 +123,11 @@ FLATNESS = (
         "route 6, line",
     ),
     (
+        "41 Nested fcbb:bb00:4::/48 fcbb:bb00:4:f001::/64",
+        NESTED.replace("fcbb:bb00:4::/48", "fcbb:bb00:4:f001::/64", 1),
+        "route 2, line",
+    ),
+    (
         "42 ZeroCsid fcbb:bb00::/48",
         COMPRESSED + sid("fcbb:bb00::/48", more='csid = "next"\n'),
         "sid 5, line",
@@ -146,6 +152,7 @@ INPUTS = (
     ("15 CutHead", b"", "is empty"),
     ("15 CutHead", HEAD, "ends within its head"),
     ("16 CutFrame 2", RAW + FRAME + b"\0", "frame 2"),
+    ("17 FrameLimit", RAW + bytes(16) * 65536 + b"\0", "more than 65536 frames"),
 )
 
 USAGES = (
@@ -302,6 +309,17 @@ class Say(ToolCase):
         ran = run_tool("srv6-say", "run", "net", "B", SRV6=fake)
         self.assertEqual((ran.status, ran.out), (0, "out\n"))
         self.assertIn("packet 1: dropped NoRoute at B\nsrv6-say: NoRoute at B (1 packet)", ran.err)
+        edits = "edit add sid 5\nedit switch\nedit busy 1\nedit busy 1\nedit remove sid 2\n"
+        fake = self.fake_program(edits + "packet 1: stopped after 10000 stages\n")
+        ran = run_tool("srv6-say", "update", "old", "new", "intent", SRV6=fake)
+        said = [line for line in ran.err.splitlines() if line.startswith("srv6-say: ")]
+        for line, start in zip(
+            said,
+            ("stopped (1 packet): ", "edit add (once): ", "edit switch (once): ",
+             "edit busy (2 times): ", "edit remove (once): "),
+            strict=True,
+        ):  # fmt: skip
+            self.assertTrue(line.startswith("srv6-say: " + start), line)
         ran = run_tool("srv6-say", "show", SRV6=str(self.folder / "absent"))
         self.assertEqual(ran.status, 5)
         self.assertIn("can't be run", ran.err)
