@@ -19,7 +19,8 @@ judged-at p e f judged same is = let P : Endpoint → Type 0 = λ x. IsExposure 
 
 -- and of a packet in bytes, of the packet in bytes that are the same
 pub judged-in : (s : SidEntry) (allow one two : List ℕ) (judged : Exposure) → one ≡ two
-    → IsExposure (packet_at one) (at_sid s allow (packet_at one)) judged → IsExposure (packet_at two) (at_sid s allow (packet_at two)) judged
+    → IsExposure (packet_at one) (at_sid s allow (packet_at one)) judged
+    → IsExposure (packet_at two) (at_sid s allow (packet_at two)) judged
 judged-in s allow one two judged same is =
     let P : List ℕ → Type 0 = λ xs. IsExposure (packet_at xs) (at_sid s allow (packet_at xs)) judged in subst P same is
 

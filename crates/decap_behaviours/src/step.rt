@@ -25,9 +25,9 @@ use srv6_rules::SidEntry;
 /// After them `Hand` comes where the upper layer is a packet that the SID exposes: of IPv6 at
 /// End.DX6 and End.DT6, of IPv4 at End.DX4 and End.DT4, of either at End.DT46. The buffer is left
 /// with the bytes from that packet's first on, of which none is changed, and all before them are
-/// spare. `Local` comes for another
-/// upper layer that is allowed, and `Drop` for `UpperLayer` where it is not, at its first byte. But
-/// for `Hand` the bytes are as they were, and as many are spare. `On` never comes.
+/// spare. `Local` comes for another upper layer that is allowed, and `Drop` for `UpperLayer` where
+/// it is not, at its first byte. But for `Hand` the bytes are as they were, and as many are spare.
+/// `On` never comes.
 pub fn decap_step(sid: &SidEntry, allow: &[u8], buf: &mut PktBuf) -> EndOutcome
     requires ends { goes_on sid.now ≡ false }
     requires suits { SuitsCompression sid.now }

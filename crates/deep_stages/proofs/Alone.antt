@@ -1,5 +1,5 @@
 -- Where no SID binds a policy nothing is ever below a packet.
-use Rattle.std.proofs.Common.{◌≡◌, ℕ, zero, suc, ◌+◌, Bool, false, is_some, List, [], ◌∷◌, map, Option, Some, None, slice_get, refl, sym, ◌∙◌, ap}
+use Rattle.std.proofs.Common.{◌≡◌, ℕ, zero, suc, ◌+◌, false, is_some, List, [], ◌∷◌, map, Option, Some, None, slice_get, refl, sym, ◌∙◌, ap}
 use Rattle.srv6_rules.specs.declared.sid.Behaviour.{Behaviour}
 use Rattle.srv6_rules.specs.declared.sid.SidEntry.{SidEntry}
 use Rattle.srv6_rules.specs.Behaviours.{behaviour_policy}
@@ -10,7 +10,7 @@ use Rattle.walk_rules.specs.declared.place.Place.{Place}
 use Rattle.walk_rules.specs.Way.{Way, Away, Over, Own, Into, way_of}
 use Rattle.walk_rules.specs.Treatment.{allow_of, onward_at_sid, treated_at_sid, treated_in, treated, free_step_of}
 use Rattle.walk_rules.specs.Walk.{Stage, next_place, decisions, walk_by, free_walk_of}
-use Rattle.deep_stages.specs.Stages.{DeepGave, NothingBinds, over, policy_at, is_binding, deep_onward, deep_at_sid, deep_in, deep_treated, deep_step}
+use Rattle.deep_stages.specs.Stages.{DeepGave, NothingBinds, over, policy_at, deep_onward, deep_at_sid, deep_in, deep_treated, deep_step}
 use Rattle.deep_stages.specs.Walks.{DeepStage, alone, deep_walk}
 
 module _ (net : Network) (node n : ℕ) (p : Packet) where

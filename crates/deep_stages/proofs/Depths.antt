@@ -1,5 +1,5 @@
 -- The depth that is counted by outcomes is the number of packets below.
-use Rattle.std.proofs.Common.{◌≡◌, ℕ, zero, suc, ◌+◌, ◌-◌, Bool, true, false, ◌&&◌, nat_le, if◌then◌else◌, is_some, List, [], ◌∷◌, length, Option, Some, None, slice_get, refl, sym, ◌∙◌, ap, subst, arith}
+use Rattle.std.proofs.Common.{◌≡◌, ℕ, zero, suc, ◌+◌, Bool, true, false, ◌&&◌, nat_le, if◌then◌else◌, is_some, List, [], ◌∷◌, length, Option, Some, None, slice_get, refl, ap, subst, arith}
 use Rattle.srv6_rules.specs.declared.sid.Behaviour.{Behaviour}
 use Rattle.srv6_rules.specs.declared.sid.SidEntry.{SidEntry}
 use Rattle.srv6_rules.specs.Behaviours.{behaviour_policy}
@@ -10,7 +10,7 @@ use Rattle.net_model.specs.declared.parts.NamedPolicy.{NamedPolicy}
 use Rattle.net_model.specs.Network.{Network}
 use Rattle.walk_rules.specs.declared.place.Place.{Place}
 use Rattle.walk_rules.specs.Way.{Way, Away, Over, Own, Into, way_of}
-use Rattle.walk_rules.specs.Treatment.{Gave, allow_of, treated_at_address, treated, treated4, free_step_of}
+use Rattle.walk_rules.specs.Treatment.{Gave, allow_of, treated_at_address, treated4}
 use Rattle.walk_rules.specs.Walk.{next_place, decisions}
 use Rattle.deep_stages.specs.Stages.{DeepGave, over, policy_at, is_binding, deep_bound, deep_onward, deep_at_sid, deep_in, deep_treated, deep_step}
 use Rattle.deep_stages.specs.Walks.{DeepStage, AreDepths, deep_walk, depth_after}

@@ -1,12 +1,12 @@
 -- A walk over bytes follows the walk over values up to the packet's own hand-over.
-use Rattle.std.proofs.Common.{◌≡◌, ℕ, zero, suc, ◌+◌, Bool, true, List, [], ◌∷◌, length, map, take, Option, Some, None, refl, sym, ◌∙◌, ap, subst}
+use Rattle.std.proofs.Common.{◌≡◌, ℕ, zero, suc, ◌+◌, List, [], ◌∷◌, length, map, take, Option, Some, None, refl, ◌∙◌, ap, subst}
 use Rattle.srv6_rules.specs.Packet.{Packet, Content, IsContent}
 use Rattle.net_model.specs.Keeps.{Keeps}
 use Rattle.net_model.specs.Network.{Network}
 use Rattle.walk_rules.specs.declared.place.Place.{Place}
 use Rattle.walk_rules.specs.declared.place.Outcome.{Outcome}
 use Rattle.walk_rules.specs.declared.place.Outcome.TheVariants as outcomes
-use Rattle.walk_rules.specs.Treatment.{Gave, goes, free_step_of}
+use Rattle.walk_rules.specs.Treatment.{Gave, free_step_of}
 use Rattle.walk_rules.specs.Walk.{Stage, next_place, decisions, walk_by, free_walk_of}
 use Rattle.walk_rules.proofs.Contents.{free-content}
 use Rattle.deep_stages.specs.Stages.{DeepGave, deep_step}
@@ -51,5 +51,6 @@ walk-follows (suc more) net (Some place) content below pick taken keeps layers o
     ∷ take (length tail) (free_walk_of more net (next_place net place g.outcome) g.after pick (taken + decisions g.outcome))) gives.0
     ∙ ap (λ (xs : List Stage). in_bytes s ∷ xs)
     (begins-behind deep.outcome below
-    (free_walk_of more net (next_place net place deep.outcome) (spelled_content deep.after deep.below) pick (taken + decisions deep.outcome))
+    (free_walk_of more net (next_place net place deep.outcome) (spelled_content deep.after deep.below) pick
+    (taken + decisions deep.outcome))
     later rest small.2)

@@ -6,7 +6,6 @@ use Rattle.srv6_rules.specs.declared.sid.Family.TheVariants.{V6 as Ipv6}
 use Rattle.srv6_rules.specs.declared.sid.Reason.TheVariants as reasons
 use Rattle.srv6_rules.specs.declared.sid.SidEntry.{SidEntry}
 use Rattle.srv6_rules.specs.Behaviours.{behaviour_policy, behaviour_reduces}
-use Rattle.srv6_rules.specs.CompressedSteps.{SuitsCompression}
 use Rattle.srv6_rules.specs.Packet.{Packet, Content, V6, V4, Unreadable, IsSpellable, IsContent, spelling, read_as}
 use Rattle.srv6_rules.specs.Packet4.{Packet4, ttl, destination4}
 use Rattle.srv6_rules.specs.Endpoint.{Endpoint, Onward, Exposed, Delivered, Refused, at_sid, at_address}
@@ -17,7 +16,6 @@ use Rattle.net_model.specs.Keeps.{Keeps}
 use Rattle.net_model.specs.Network.{Network}
 use Rattle.net_model.proofs.PublicLaws.{sid-suits}
 use Rattle.walk_rules.specs.declared.place.Place.{Place}
-use Rattle.walk_rules.specs.declared.place.Outcome.{Outcome}
 use Rattle.walk_rules.specs.declared.place.Outcome.TheVariants as outcomes
 use Rattle.walk_rules.specs.Way.{Way, Away, Over, Own, Into, way_of}
 use Rattle.walk_rules.specs.Treatment.{Gave, allow_of, dropped, goes, lowered, onward_from, exposed_from, pushed_at_sid, bound_at_sid, onward_at_sid, treated_at_address, treated_at_sid, treated_in, treated, treated4, free_step_of, member_of}
@@ -41,13 +39,15 @@ module _ (net : Network) (node n : ℕ) (b : Behaviour) (p r : Packet) where
         let reduces : Bool = behaviour_reduces b in
         let made : Packet = outer_by named.policy reduces Ipv6 (spelling (spelled q below)) in
         let same = policy-spelled named.policy reduces q below in
-        let short : length made.payload ≤ most_payload = subst (λ (x : Packet). length x.payload ≤ most_payload) (sym same) (fits (omega arith)) in (
+        let short : length made.payload ≤ most_payload = subst (λ (x : Packet). length x.payload ≤ most_payload) (sym same)
+        (fits (omega arith)) in (
           ap (pushed_at_sid net node n b r) (made-fits made short)
               ∙ ap (λ x. goes (outcomes.Again n (onward_from n b)) (V6 x)) same,
           (header-policy named.policy reduces, ok, layers),
         )
 
-    as-bound : (o : Option NamedPolicy) → AsValues below (deep_bound net node n b p q below o) (bound_at_sid net node n b r (spelled q below) o)
+    as-bound : (o : Option NamedPolicy) → AsValues below (deep_bound net node n b p q below o)
+        (bound_at_sid net node n b r (spelled q below) o)
     as-bound None further fits = cc
     as-bound (Some named) further fits = as-pushed named further fits
 
@@ -69,8 +69,10 @@ module _ (net : Network) (node n : ℕ) (b : Behaviour) (p r : Packet) where
   as-read : (family : Family) (bytes : List ℕ)
       → AsValues [] (over [] (goes (outcomes.Hand n (exposed_from n b) family) (read_as family bytes)))
       (treated_at_sid net node n b r (Exposed family bytes))
-  as-read family bytes further fits =
-      (ap (goes (outcomes.Hand n (exposed_from n b) family)) (sym (content-alone (read_as family bytes))), layers-alone (read_as family bytes))
+  as-read family bytes further fits = (
+    ap (goes (outcomes.Hand n (exposed_from n b) family)) (sym (content-alone (read_as family bytes))),
+    layers-alone (read_as family bytes),
+  )
 
   as-endpoint : (below : List Packet) (e real : Endpoint) → Follows below e real → AreLayers p below
       → ((q : Packet) → real ≡ Onward q → IsSpellable q)
@@ -144,7 +146,8 @@ pub as-values : (net : Network) (place : Place) (content : Content) (below : Lis
     → AreLayersOf content below → IsContent (spelled_content content below)
     → AsValues below (deep_step net place content below choice) (free_step_of net place (spelled_content content below) choice)
 as-values net place (V6 p) below choice keeps layers ok =
-    subst (λ d. AsValues below (deep_step net place (V6 p) below choice) (treated net place.node (way_of net place d) (spelled p below) choice))
+    subst (λ d. AsValues below (deep_step net place (V6 p) below choice)
+    (treated net place.node (way_of net place d) (spelled p below) choice))
     (sym (spelled-destination p below)) (as-way net place.node keeps p below layers ok (way_of net place p.destination) choice)
 as-values net place (V4 p) below choice keeps layers ok =
     as-way4 net place.node (way_of net place (destination4 p)) p below choice layers

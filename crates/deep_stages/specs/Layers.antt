@@ -1,5 +1,5 @@
 -- Headers and the packets that they carry as the bytes of one packet (RFC 8986 sections 4.13 and 4.14, RFC 8200 section 3).
-use Rattle.std.specs.Prelude.{◌≡◌, ℕ, ◌<◌, ◌≤◌, Bool, true, false, List, [], ◌∷◌, ◌++◌, length, Option}
+use Rattle.std.specs.Prelude.{◌≡◌, ◌<◌, ◌≤◌, Bool, true, false, List, [], ◌∷◌, ◌++◌, length, Option}
 use Rattle.srv6_rules.specs.Packet.{Packet, Content, V6, V4, Unreadable, IsSpellable, spelling}
 use Rattle.srv6_rules.specs.Policies.{most_payload}
 use Rattle.srv6_rules.specs.Srh.{Srh}

@@ -11,8 +11,9 @@ ghost use Rattle.deep_stages.specs.Layers.{AreLayersOf, AreSmall, PushFits, goes
 ghost use Rattle.deep_stages.specs.Stages.{NothingBinds, deep_step, over};
 ghost use Rattle.deep_stages.specs.Walks.{AreDepths, alone, deep_walk, depth_after, through_own};
 
-/// In a network without a binding SID a stage of a packet that carries none is the stage of today,
-/// where no link has an MTU, and so are all stages of its walk: nothing is ever below (own rule).
+/// In a network without a binding SID a stage of a packet that carries none is the stage of a
+/// packet alone, where no link has an MTU, and so are all stages of its walk: nothing is ever below
+/// (own rule).
 pub fn without_binding_sids_nothing_is_below()
     ensures stage { (net : Network) (place : Place) (content : Content) (choice : ℕ) →
         NothingBinds net →
@@ -36,11 +37,11 @@ pub fn a_depth_is_the_packets_below()
         AreDepths net (length below) (deep_walk fuel net place content below pick taken) }
 {}
 
-/// Where a stage takes nothing away, and a header that it pushes can state its payload's length, the
-/// node does to the bytes of a header and of the packets below it what it does to these as values:
-/// the outcome is the same, no error is sent, and what stands there after is spelled by what the
-/// values spell; its headers are again such headers (RFC 8986 sections 4.13 and 4.14, RFC 8200
-/// section 4).
+/// Where a stage takes nothing away, and a header that it pushes can state its payload's length,
+/// the node does to the bytes of a header and of the packets below it what it does to these as
+/// values: the outcome is the same, no error is sent, and what stands there after is spelled by
+/// what the values spell; its headers are again such headers (RFC 8986 sections 4.13 and 4.14, RFC
+/// 8200 section 4).
 pub fn bytes_go_as_values_do()
     ensures gives { (net : Network) (place : Place) (content : Content) (below : List Packet) →
         (choice : ℕ) → Keeps net →

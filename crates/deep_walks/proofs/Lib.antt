@@ -1,4 +1,5 @@
 pub mod Options
+pub mod Lefts
 pub mod Walks
 pub mod Tunnels
 pub mod Counts

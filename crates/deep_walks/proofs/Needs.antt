@@ -151,7 +151,8 @@ module _ {L E T N P H X F : Type 0} (w : World L E T N P H X) (forms : Forms w F
       let low = lowered-parts lower look ts hop k e some h in
       let p = go-parts (at low.left) sid ts k e low.ends in
       let need = ih k few p.later place form low.left p.rest low.some p.ends in
-      lowered-need lower look ts e (go-need at sid ts p.later e p.rest p.first p.whole (λ i x. OwnEnds p.later place form i x) need (λ i x on. on) (λ i x on. on))
+      lowered-need lower look ts e (go-need at sid ts p.later e p.rest p.first p.whole (λ i x. OwnEnds p.later place form i x) need
+      (λ i x on. on) (λ i x on. on))
   need_by n k (Pushing lower sid place new form) ts hop e few ih some h =
       let look : ℕ → Look L N P H X = λ i. Pushes sid place new (forms.packet form i) in
       let at : ℕ → Deep P H = λ i. pushed_at place new (forms.packet form i) in

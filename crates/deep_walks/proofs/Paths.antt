@@ -155,7 +155,8 @@ module _ {L E T N P H X : Type 0} (w : World L E T N P H X) where
         bared = f.bared;
       }
   down_by n k (Executes sid place own) ts e few ih h none =
-      let a = map_parts (end_after (sid ∷ [])) (option_and_then (λ us. own_end k us (open_at place own)) (left_by w.events ts (w.executed sid))) e h in
+      let a = map_parts (end_after (sid ∷ [])) (option_and_then (λ us. own_end k us (open_at place own))
+      (left_by w.events ts (w.executed sid))) e h in
       let b = then_parts (λ us. own_end k us (open_at place own)) (left_by w.events ts (w.executed sid)) a.0 a.1 in
       let f = ih k few b.0 place own a.0 b.2 (ap (λ (x : End T N (Bared P X)). x.left) a.2 ∙ none) in
       record {
@@ -171,7 +172,8 @@ module _ {L E T N P H X : Type 0} (w : World L E T N P H X) where
       let a = map_parts (end_after (sid ∷ [])) (option_and_then (λ us. own_end k us next) (left_by w.events ts (w.executed sid))) e h in
       let b = then_parts (λ us. own_end k us next) (left_by w.events ts (w.executed sid)) a.0 a.1 in
       let s = behind-fewer w (own_bottom w) k b.0 place new own a.0 b.2 in
-      let f = ih s.m (omega (arith, few, s.fewer)) s.start.left s.start.result own a.0 s.on (ap (λ (x : End T N (Bared P X)). x.left) a.2 ∙ none) in
+      let f = ih s.m (omega (arith, few, s.fewer)) s.start.left s.start.result own a.0 s.on
+      (ap (λ (x : End T N (Bared P X)). x.left) a.2 ∙ none) in
       record {
         count = f.count;
         path = path_after (sid ∷ []) f.path;
@@ -223,7 +225,8 @@ module _ {L E T N P H X : Type 0} (w : World L E T N P H X) where
   finish-parts sids place inside (t ∷ ts) path h = cc
 
   ride_by : (more n : ℕ) (look : Look L N P H X) (ts : List T) (e : End T N (Met P H X)) (path : Path N P X)
-      → ((ts : List T) (place : P) (own : H) (path : Path N P X) → legs_of w more ts place own ≡ Some path → OwnEnds ts place own (path_end path))
+      → ((ts : List T) (place : P) (own : H) (path : Path N P X) → legs_of w more ts place own ≡ Some path
+      → OwnEnds ts place own (path_end path))
       → ((ts : List T) (place : P) (own : H) → met_end n ts (open_at place own) ≡ Some e → OwnEnds ts place own (path_end path))
       → end_by w.events (met_end n) (met_by w look) ts ≡ Some e → leg_after more e ≡ Some path → OwnBy ts look (path_end path)
   ride_by more n (Crosses first rest to own) [] e path later ih h legs = cc
@@ -257,8 +260,10 @@ module _ {L E T N P H X : Type 0} (w : World L E T N P H X) where
   ride_by more n Loses ts e path later ih h legs = cc
 
   ride-up : (more : ℕ)
-      → ((ts : List T) (place : P) (own : H) (path : Path N P X) → legs_of w more ts place own ≡ Some path → OwnEnds ts place own (path_end path))
-      → (n : ℕ) (ts : List T) (place : P) (own : H) (e : End T N (Met P H X)) (path : Path N P X) → met_end n ts (open_at place own) ≡ Some e
+      → ((ts : List T) (place : P) (own : H) (path : Path N P X) → legs_of w more ts place own ≡ Some path
+      → OwnEnds ts place own (path_end path))
+      → (n : ℕ) (ts : List T) (place : P) (own : H) (e : End T N (Met P H X)) (path : Path N P X) → met_end n ts (open_at place own)
+      ≡ Some e
       → leg_after more e ≡ Some path → OwnEnds ts place own (path_end path)
   unfolding end_of
   ride-up more later zero ts place own e path h legs = cc

@@ -240,7 +240,8 @@ module _ {L E T N P H X : Type 0} (w : World L E T N P H X) where
   LaterFirst n = (ts : List T) (s : Deep P H) (e : End T N (Bared P X)) → own_end n ts s ≡ Some e → FirstEnd n ts s e
 
   over-first : (n : ℕ) (e : End T N (Bared P X)) → LaterFirst n → (first : L) (rest : List L) (to : L → Option P) (at : P → Deep P H)
-      → (ts : List T) → end_by w.events (own_end n) (Fork first rest (arrives to at)) ts ≡ Some e → FirstBy n ts (Fork first rest (arrives to at)) e
+      → (ts : List T) → end_by w.events (own_end n) (Fork first rest (arrives to at)) ts ≡ Some e
+      → FirstBy n ts (Fork first rest (arrives to at)) e
   over-first n e ih first rest to at [] h = cc
   over-first n e ih first rest to at (t ∷ ts) h =
       let a = if_parts (all_in w.events t (first ∷ rest)) (option_and_then (own_end n ts) (arrives to at first)) e h in
@@ -260,7 +261,8 @@ module _ {L E T N P H X : Type 0} (w : World L E T N P H X) where
       → end_by w.events (own_end n) (own_by w look) ts ≡ Some e → FirstBy n ts (met_by w look) e
   own-first n e ih (Crosses first rest to own) ts h = over-first n e ih first rest to (λ place. open_at place own) ts h
   own-first n e ih (Executes sid place own) ts h =
-      let a = map_parts (end_after (sid ∷ [])) (option_and_then (λ us. own_end n us (open_at place own)) (left_by w.events ts (w.executed sid))) e h in
+      let a = map_parts (end_after (sid ∷ [])) (option_and_then (λ us. own_end n us (open_at place own))
+      (left_by w.events ts (w.executed sid))) e h in
       let b = then_parts (λ us. own_end n us (open_at place own)) (left_by w.events ts (w.executed sid)) a.0 a.1 in
       record {
         first = end_with (sid ∷ []) (Onward place own) b.0;

@@ -111,7 +111,8 @@ module _ {L E T N P H X R : Type 0} (w : World L E T N P H X) (bottom : P → H 
       → EndsWith w.events (deep_move w bottom) end.left (open_at end.result own) e → OnBy ts above own used look e
   join_by k (Crosses first rest to head) above own used [] end e ih h few on = cc
   join_by k (Crosses first rest to head) above own used (t ∷ ts) end e ih h few on =
-      let a = if_parts (all_in w.events t (first ∷ rest)) (option_and_then (inside_end k ts) (arrives to (inside_at head above) first)) end h in
+      let a = if_parts (all_in w.events t (first ∷ rest)) (option_and_then (inside_end k ts)
+      (arrives to (inside_at head above) first)) end h in
       let b = arrives-parts (inside_end k ts) to (inside_at head above) first end a.1 in
       let r = ih ts b.0 head above (suc used) b.2 (omega (arith, few)) in
       (r.0, if_from a.0 (arrives-from (deep_end r.0 ts) to (deep_at head (above ++ own ∷ []) (suc used)) b.1 r.1))
@@ -121,8 +122,11 @@ module _ {L E T N P H X R : Type 0} (w : World L E T N P H X) (bottom : P → H 
       (r.0, quiet-from w.events (deep_end r.0) (w.executed sid) (deep_at head (above ++ own ∷ []) (suc used) place) ts a.0 e a.1 r.1)
   join_by k (Pushes sid place new head) above own used ts end e ih h few on =
       let a = quiet-parts w.events (inside_end k) (w.executed sid) (inside_at new (head ∷ above) place) ts end h in
-      let r = ih a.0 place new (head ∷ above) (suc used) a.2 (omega (arith, few)) in
-      (r.0, quiet-from w.events (deep_end r.0) (w.executed sid) (deep_at new (head ∷ (above ++ own ∷ [])) (suc used) place) ts a.0 e a.1 r.1)
+      let r = ih a.0 place new (head ∷ above) (suc used) a.2 (omega (arith, few)) in (
+        r.0,
+        quiet-from w.events (deep_end r.0) (w.executed sid) (deep_at new (head ∷ (above ++ own ∷ []))
+            (suc used) place) ts a.0 e a.1 r.1,
+      )
   join_by k (Exposes sid place inside) [] own used ts end e ih h few on =
       let a = map_parts (end_with [] place) (left_by w.events ts (w.executed sid)) end h in
       let back : deep_end on.0 a.0 (open_at place own) ≡ Some e =

@@ -1,73 +1,13 @@
 -- What holds for all choices is one walk, and the one walk is what each choice comes to.
-use Rattle.std.proofs.Common.{◌≡◌, ℕ, zero, suc, ◌+◌, ◌%◌, ◌<◌, ◌≤◌, Bool, true, List, [], ◌∷◌, ◌++◌, length, Option, Some, None, refl, sym, ap, ◌∙◌, subst, arith, mod-eq_of_lt}
+use Rattle.std.proofs.Common.{◌≡◌, ℕ, zero, suc, ◌+◌, ◌%◌, ◌<◌, ◌≤◌, true, List, [], ◌∷◌, ◌++◌, length, Option, Some, None, refl, sym, ap, ◌∙◌, subst, arith, mod-eq_of_lt}
 use Rattle.std.specs.Prelude.{◌↔◌, slice_index}
-use Rattle.std.specs.List.{list_all, AllByRecursion}
+use Rattle.std.specs.List.{AllByRecursion}
 use Rattle.std.specs.Option.{option_map, option_and_then}
-use Rattle.std.proofs.lemmas.Bool.{and_parts, and_from}
 use Rattle.std.proofs.lemmas.Option.{same_Some}
 use Rattle.deep_walks.specs.Moves.{Events, Move, Fork, Go, Done, Fail, Got, End, Walking, is_in, all_in, advance, left_by, link_at, link_of, got_after, got_over, got_by, got_of, end_after, end_with, end_by, end_of, LeadsOn, Joined, AllJoined}
 use Rattle.deep_walks.specs.Choices.{choice_at, Reaches, ForAllRows, ForAllChoices, OneWalk, SameEnd}
 use Rattle.deep_walks.proofs.Options.{then_parts, then_from, map_parts, map_from, if_parts, if_from}
-
--- ---- links of a set
-
--- what all links of a set pass, the one at each place does
-pub link-passes : {L : Type 0} (p : L → Bool) (first : L) (rest : List L) (n : ℕ) → list_all p (first ∷ rest) ≡ true
-    → p (link_at first rest n) ≡ true
-link-passes p first rest zero h = (and_parts _ _ h).0
-link-passes p first [] (suc n) h = (and_parts _ _ h).0
-link-passes p first (next ∷ rest) (suc n) h = link-passes p next rest n (and_parts _ _ h).1
-
--- and the other way round
-pub links-pass : {L : Type 0} (p : L → Bool) (first : L) (rest : List L) → ((n : ℕ) → n ≤ length rest → p (link_at first rest n) ≡ true)
-    → list_all p (first ∷ rest) ≡ true
-links-pass p first [] h = and_from _ _ (h 0 (omega arith)) refl
-links-pass p first (next ∷ rest) h = and_from _ _ (h 0 (omega arith)) (links-pass p next rest (λ n few. h (suc n) (omega arith)))
-
--- ---- steps and events
-
-module _ {L E T : Type 0} (events : Events L E T) where
-  pub left-parts : (told more : List E) (ts us : List T) → left_by events ts (told ++ more) ≡ Some us
-      → (vs : List T) × (left_by events ts told ≡ Some vs) × (left_by events vs more ≡ Some us)
-  left-parts [] more ts us h = (ts, refl, h)
-  left-parts (e ∷ es) more ts us h =
-      let first = then_parts (λ vs. left_by events vs (es ++ more)) (advance events ts e) us h in
-      let rest = left-parts es more first.0 us first.2 in
-      (rest.0, then_from (λ vs. left_by events vs es) first.1 rest.1, rest.2)
-
-  pub left-from : (told more : List E) (ts vs us : List T) → left_by events ts told ≡ Some vs → left_by events vs more ≡ Some us
-      → left_by events ts (told ++ more) ≡ Some us
-  left-from [] more ts vs us h k = subst (λ ws. left_by events ws more ≡ Some us) (sym (same_Some _ _ h)) k
-  left-from (e ∷ es) more ts vs us h k =
-      let first = then_parts (λ ws. left_by events ws es) (advance events ts e) vs h in
-      then_from (λ ws. left_by events ws (es ++ more)) first.1 (left-from es more first.0 vs us first.2 k)
-
-  advance-short : (ts us : List T) (e : E) → advance events ts e ≡ Some us → length us ≤ length ts
-  advance-short [] us e h = cc
-  advance-short (t ∷ ts) us e h =
-      let same : ts ≡ us = same_Some _ _ (if_parts (events.meets t e) (Some ts) us h).1 in
-      subst (λ ws. length ws ≤ suc (length ts)) same (omega arith)
-
-  pub left-short : (told : List E) (ts us : List T) → left_by events ts told ≡ Some us → length us ≤ length ts
-  left-short [] ts us h = subst (λ ws. length ws ≤ length ts) (same_Some _ _ h) (omega arith)
-  left-short (e ∷ es) ts us h =
-      let first = then_parts (λ ws. left_by events ws es) (advance events ts e) us h in
-      let a : length first.0 ≤ length ts = advance-short ts first.0 e first.1 in
-      let b : length us ≤ length first.0 = left-short es first.0 us first.2 in
-      omega (arith, a, b)
-
-  -- what holds of each step holds of those that are left
-  advance-all : (P : T → Type 0) (ts us : List T) (e : E) → advance events ts e ≡ Some us → AllByRecursion P ts → AllByRecursion P us
-  advance-all P [] us e h all = cc
-  advance-all P (t ∷ ts) us e h all =
-      subst (λ ws. AllByRecursion P ws) (same_Some _ _ (if_parts (events.meets t e) (Some ts) us h).1) all.1
-
-  pub left-all : (P : T → Type 0) (told : List E) (ts us : List T) → left_by events ts told ≡ Some us → AllByRecursion P ts
-      → AllByRecursion P us
-  left-all P [] ts us h all = subst (λ ws. AllByRecursion P ws) (same_Some _ _ h) all
-  left-all P (e ∷ es) ts us h all =
-      let first = then_parts (λ ws. left_by events ws es) (advance events ts e) us h in
-      left-all P es first.0 us first.2 (advance-all P ts first.0 e first.1 all)
+use Rattle.deep_walks.proofs.Lefts.{link-passes, links-pass, left-parts, left-from, left-short, left-all}
 
 module _ {L E N T S R : Type 0} (events : Events L E T) (move : S → Move L E N S R) where
   -- ---- more moves change nothing
@@ -254,7 +194,8 @@ module _ {L E N T S R : Type 0} (events : Events L E T) (move : S → Move L E N
       none-some : (left : List T) → None ≡ Some left → ⊥
       none-some left h = cc
 
-  record GoParts (go : Walking E N S R) (told : List E) (sids : List N) (next : S) (ts : List T) (pick : ℕ → ℕ) (taken : ℕ) (got : Got E N R)
+  record GoParts (go : Walking E N S R) (told : List E) (sids : List N) (next : S) (ts : List T) (pick : ℕ → ℕ) (taken : ℕ)
+      (got : Got E N R)
       (left : List T) : Type 0 where
     rest : Got E N R
     gives : go next pick taken ≡ Some rest
@@ -295,7 +236,8 @@ module _ {L E N T S R : Type 0} (events : Events L E T) (move : S → Move L E N
       let p = over-parts go to (link_of first rest (pick a)) t ts pick a got left h along in
       let r = ih ts p.next (suc a) (suc b) p.rest left (rows-later (length ts) pick qick a b same) p.gives p.along in
       subst (λ (c : ℕ). got_over events go to (link_of first rest c) qick b ≡ Some got) (rows-first (length ts) pick qick a b same)
-      (map_from (got_after (events.crossed (link_of first rest (pick a)) ∷ []) []) (then_from (λ next. go next qick (suc b)) p.leads r) p.whole)
+      (map_from (got_after (events.crossed (link_of first rest (pick a)) ∷ []) [])
+      (then_from (λ next. go next qick (suc b)) p.leads r) p.whole)
   rows-agree_by go (Go told sids next) ts pick qick a b got left ih same h along =
       let p = go-parts go told sids next ts pick a got left h along in
       let fewer : length p.later ≤ length ts = left-short events told ts p.later p.first in
@@ -341,7 +283,8 @@ module _ {L E N T S R : Type 0} (events : Events L E T) (move : S → Move L E N
         fuel = r.fuel;
         got = r.got;
         left = r.left;
-        gives = rows-agree r.fuel ts s (choice_at row) pick 0 0 r.got r.left (λ d few. row-agrees pick count d (omega arith)) r.gives r.along;
+        gives = rows-agree r.fuel ts s (choice_at row) pick 0 0 r.got r.left
+            (λ d few. row-agrees pick count d (omega arith)) r.gives r.along;
         along = r.along;
       }
 

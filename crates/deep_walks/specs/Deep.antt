@@ -5,8 +5,8 @@ use Rattle.std.specs.Option.{option_map}
 use Rattle.deep_walks.specs.Moves.{Events, Move, Fork, Go, Done, Fail, End, is_in, end_of}
 
 -- what a node does at a place with the packet on top, whatever is below it: it sends it over a link of a set, which is not empty, to where
--- that link leads, and how it is then; it executes a SID on it, and the packet stays at a place; so too, and then a header is pushed on
--- it, the first of the two here; it executes a SID that takes the header off and shows what is inside, at a place; or it keeps it or drops it
+-- that link leads, and how it is then; it executes a SID on it, and the packet stays at a place; so too, and then a header is pushed on it,
+-- the first of the two here; it executes a SID that takes the header off and shows what is inside, at a place; or it keeps it or drops it
 pub data Look (L N P H X : Type 0) : Type 0 where
   Crosses : L → List L → (L → Option P) → H → Look L N P H X
   Executes : N → P → H → Look L N P H X
@@ -28,8 +28,8 @@ arrives to at link = option_map at (to link)
 
 -- ---- whole packets
 
--- a place, the packet on top there, those below it, from the top down, and the stages since the own packet, the last of all, was pushed under
--- a header, the push among them; where no packet is below, the one on top is the own one, and no stage is counted
+-- a place, the packet on top there, those below it, from the top down, and the stages since the own packet, the last of all, was pushed
+-- under a header, the push among them; where no packet is below, the one on top is the own one, and no stage is counted
 pub record Deep (P H : Type 0) : Type 0 where
   pub place : P
   pub head : H

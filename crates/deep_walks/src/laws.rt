@@ -44,9 +44,9 @@ pub fn a_pushed_header_walks_alone<L, E, T, N, P, H, X, R>()
         ↔ BehindHeader w bottom ts place new own e }
 {}
 
-/// Where links of a step lead to one place, a packet with nothing below comes to its next execution,
-/// along a beginning of the steps and for all choices, exactly where there is a ride; and all choices
-/// then come to the execution at the ride's end, with its steps left (own rule).
+/// Where links of a step lead to one place, a packet with nothing below comes to its next
+/// execution, along a beginning of the steps and for all choices, exactly where there is a ride;
+/// and all choices then come to the execution at the ride's end, with its steps left (own rule).
 pub fn a_ride_is_for_all_choices<L, E, T, N, P, H, X>()
     ensures all { (w : World L E T N P H X) (ts : List T) (place : P) (own : H) → AreJoined w ts →
         ForAllChoices w.events (met_move w) ts (open_at place own)
@@ -57,9 +57,9 @@ pub fn a_ride_is_for_all_choices<L, E, T, N, P, H, X>()
         SameEnd e r }
 {}
 
-/// A walk up to the own hand-over is the walk to the first execution on the own packet, or the one to
-/// where that packet is on top, and what is left of it from there: under choices, whatever number of
-/// moves is left; and along steps (own rule).
+/// A walk up to the own hand-over is the walk to the first execution on the own packet, or the one
+/// to where that packet is on top, and what is left of it from there: under choices, whatever
+/// number of moves is left; and along steps (own rule).
 pub fn a_walk_goes_on_behind_its_first_execution<L, E, T, N, P, H, X>()
     ensures on { (w : World L E T N P H X) (n : ℕ) (s : Deep P H) (pick : ℕ → ℕ) (taken : ℕ) →
         (g : Got E N (Met P H X)) → got_of w.events (met_move w) n s pick taken ≡ Some g →
@@ -77,10 +77,10 @@ pub fn a_walk_goes_on_behind_its_first_execution<L, E, T, N, P, H, X>()
         × RestEnds w first.left first.sids first.result e }
 {}
 
-/// Where links of a step lead to one place, a packet right below a header that was just pushed comes
-/// to an execution of its own, along a beginning of the steps and for all choices, exactly where the
-/// header walks alone to a place and the packet rides from there; and all choices then come to the
-/// same execution with the same steps left (own rule).
+/// Where links of a step lead to one place, a packet right below a header that was just pushed
+/// comes to an execution of its own, along a beginning of the steps and for all choices, exactly
+/// where the header walks alone to a place and the packet rides from there; and all choices then
+/// come to the same execution with the same steps left (own rule).
 pub fn a_leg_behind_a_header_is_for_all_choices<L, E, T, N, P, H, X>()
     ensures all { (w : World L E T N P H X) (ts : List T) (place : P) (new own : H) →
         AreJoined w ts →
@@ -93,8 +93,8 @@ pub fn a_leg_behind_a_header_is_for_all_choices<L, E, T, N, P, H, X>()
 {}
 
 /// Where links of a step lead to one place, a packet is bared with no step left, for all choices,
-/// exactly where there is a path of legs and a finish along the steps; and each choice then executes
-/// the SIDs of the path on the own packet, and bares it where the path does (own rule).
+/// exactly where there is a path of legs and a finish along the steps; and each choice then
+/// executes the SIDs of the path on the own packet, and bares it where the path does (own rule).
 pub fn a_packet_hands_over_exactly_along_a_path<L, E, T, N, P, H, X>()
     ensures has { (w : World L E T N P H X) (ts : List T) (place : P) (own : H) →
         AreJoined w ts → AlwaysHands w ts place own →

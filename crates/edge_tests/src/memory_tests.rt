@@ -91,7 +91,7 @@ fn a_sink_in_memory_is_poured_into(rt: HostRuntime) -> Result<(), Fail> {
 
 #[test]
 fn a_sure_sink_is_written(rt: HostRuntime) -> Result<(), Fail> {
-    let mut sink = SureSink::new(rt.alloc())?;
+    let mut sink = SureSink::new(rt.alloc());
     assert_eq!(rt; write_some(&mut sink, b"abc"), Ok(3));
     assert_eq!(rt; sink.held(), b"abc".as_slice());
     Ok(())

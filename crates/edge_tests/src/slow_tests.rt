@@ -25,7 +25,7 @@ fn one_byte_a_call(rt: HostRuntime) -> Result<(), Fail> {
     assert_eq!(rt; read_some(&mut source, &mut piece), Ok(1));
     assert_eq!(rt; piece, [98, 0, 0]);
     assert_eq!(rt; read_some(&mut source, &mut piece), Ok(0));
-    let mut sink = SlowSink::new(SureSink::new(rt.alloc())?);
+    let mut sink = SlowSink::new(SureSink::new(rt.alloc()));
     assert_eq!(rt; write_some(&mut sink, b"abc"), Some(1));
     assert_eq!(rt; sink.sink().held(), b"a".as_slice());
     Ok(())
@@ -36,7 +36,7 @@ fn slow_ends_lose_nothing(rt: HostRuntime) -> Result<(), Fail> {
     let mut source = SlowSource::new(SureSource::new(rt.alloc(), b"abcdef")?);
     let all = draw(rt.alloc(), &mut source, 6)?;
     assert_eq!(rt; all.as_slice(), b"abcdef".as_slice());
-    let mut sink = SlowSink::new(SureSink::new(rt.alloc())?);
+    let mut sink = SlowSink::new(SureSink::new(rt.alloc()));
     assert_eq!(rt; pour(&mut sink, b"abcdef"), Ok(()));
     assert_eq!(rt; sink.sink().held(), b"abcdef".as_slice());
     Ok(())

@@ -1,5 +1,5 @@
 -- How long a packet would be after the step of a SID that goes on.
-use Rattle.std.proofs.Common.{◌≡◌, ◌≢◌, ◌⊎◌, inl, inr, ℕ, ◌+◌, ◌-◌, ◌≤◌, Bool, true, false, ◌==◌, ◌&&◌, not, nat_le, if◌then◌else◌, List, length, take, drop, refl, sym, ap, subst, ◌∙◌, arith, length-drop}
+use Rattle.std.proofs.Common.{◌≡◌, ◌≢◌, ◌⊎◌, inl, inr, ℕ, ◌+◌, ◌-◌, ◌≤◌, Bool, true, false, ◌==◌, ◌&&◌, not, if◌then◌else◌, List, length, refl, sym, ap, subst, ◌∙◌, arith, length-drop}
 use Rattle.std.specs.Prelude.{Option, Some, None, IfSome}
 use Rattle.std.proofs.lemmas.List.{length-set, length-take-le}
 use Rattle.srv6_rules.specs.declared.sid.Csid.{Csid}
@@ -13,7 +13,7 @@ use Rattle.srv6_rules.specs.Behaviours.{goes_on}
 use Rattle.srv6_rules.specs.Chain.{ChainPlace, Header, from_place, segments_left, without}
 use Rattle.srv6_rules.proofs.PublicLaws.{known-whole, whole-steps}
 use Rattle.srv6_rules.specs.CompressedSteps.{ReplaceStep, Moved, AtEnd, Dropped, SuitsCompression, compression_of, is_replace, moved, replace_step, shifted}
-use Rattle.srv6_rules.specs.Endpoint.{Endpoint, Onward, Exposed, Delivered, Refused, after_step, as_in, at_segment_routing, by_replace_step, leaves_none, next_csid, next_segment, outcome_without}
+use Rattle.srv6_rules.specs.Endpoint.{Endpoint, Onward, Exposed, Delivered, Refused, after_step, as_in, at_segment_routing, by_replace_step, leaves_none, next_segment, outcome_without}
 use Rattle.replace_csid.specs.Replacing.{WouldMove, step_at}
 use Rattle.endpoint_chain.specs.Outcomes.{HoldsAlone}
 use Rattle.end_behaviours.specs.Finding.{LiesAt, header_of, is_last}

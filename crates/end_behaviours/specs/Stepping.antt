@@ -21,7 +21,7 @@ IsSegmentStep p at srh (judgements.Advance left destination) =
     (next_segment p at srh ≡ Onward (moved p at (move_to left destination.value))) × ((srh.segments_left ≡ left + 1) × (1 < p.hop_limit))
 IsSegmentStep p at srh (judgements.Refuse fault) = (next_segment p at srh ≡ Refused fault.reason fault.at) × (fault.at ≤ MAX_PACKET_LEN)
 
--- what is left of a packet that goes on or is handed over reaches to a place
+-- what is left of a packet that goes on or is delivered reaches to a place
 abbrev pub Reaches : ℕ → List ℕ → EndOutcome → Type 0
 Reaches at bytes On = at ≤ length bytes
 Reaches at bytes (Hand family) = Unit {0}

@@ -54,7 +54,8 @@ fn whole_end(sid: &SidEntry, bytes: &[u8], place: ChainPlace, len: usize) -> Opt
         (header_of (packet_at bytes.now) (place_view place) len) ≡ false }
     ensures { let h = header_of (packet_at bytes.now) (place_view place) len in
         IsEnd sid.now (packet_at bytes.now) h
-        (after_step sid.now h (next_segment (packet_at bytes.now) place.at (srh_of h.bytes))) result }
+        (after_step sid.now h (next_segment (packet_at bytes.now) place.at
+        (srh_of h.bytes))) result }
 {
     match judge_bytes(bytes, place, len) {
         SegmentStep::Advance { left, .. } => Some(left == 0),
@@ -169,9 +170,9 @@ fn len_from(sid: &SidEntry, allow: &[u8], bytes: &[u8], start: ChainPlace) -> Op
     }
 }
 
-/// How many bytes the packet would have after `end_step` where that would answer `On`, and none where
-/// it would not. No byte is changed, and no memory is taken: a node can know so before the step
-/// whether a header in front of the packet would make it too long (own rule).
+/// How many bytes the packet would have after `end_step` where that would answer `On`, and none
+/// where it would not. No byte is changed, and no memory is taken: a node can know so before the
+/// step whether a header in front of the packet would make it too long (own rule).
 pub fn onward_len(sid: &SidEntry, allow: &[u8], bytes: &[u8]) -> Option<usize>
     requires goes_on { goes_on sid.now ≡ true }
     requires suits { SuitsCompression sid.now }

@@ -61,7 +61,7 @@ fn step_from(sid: &SidEntry, allow: &[u8], buf: &mut PktBuf, start: ChainPlace) 
 /// is left then. `Hand` comes where the upper layer is an IPv6 or IPv4 packet and the SID has USD:
 /// the bytes are those of the packet inside, and all before them become spare. `Local` comes where
 /// the upper layer is one of `allow`. With USP each segment routing header at its end that stands
-/// in front is taken out, but only where the packet goes on or is handed over. Where a header is
+/// in front is taken out, but only where the packet goes on or is delivered. Where a header is
 /// taken out, the payload length is as much lower, and the field that named the header names what
 /// stood after it. `Drop` has the reason, and the place of the fault in bytes from the first of
 /// the packet as it came, 0 where the reason has none; no byte changes then. But for `Hand` as many

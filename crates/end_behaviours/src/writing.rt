@@ -163,7 +163,7 @@ pub(crate) fn step_over(
     }
 }
 
-/// Takes the header of so many bytes at a place out of a packet that goes on or is handed over;
+/// Takes the header of so many bytes at a place out of a packet that goes on or is delivered;
 /// what is exposed has none of the headers in front of it, and what is dropped stays as it is.
 pub(crate) fn take_out_of(outcome: EndOutcome, buf: &mut PktBuf, place: ChainPlace, len: usize)
     requires remains { Remains (place.at + len) buf.old.bytes outcome }

@@ -35,7 +35,8 @@ edit-next_header p x =
     ∙ after
 
 -- the payload length, in front of another payload
-edit-payload_len : (p : Packet) (ys : List ℕ) → with_payload_len (length ys) (header_spelling p ++ ys) ≡ spelling (record p { payload = ys })
+edit-payload_len : (p : Packet) (ys : List ℕ) → with_payload_len (length ys) (header_spelling p ++ ys)
+    ≡ spelling (record p { payload = ys })
 unfolding header_spelling
 edit-payload_len p ys =
     let four : List ℕ = four_bytes (first_word p.traffic_class p.flow_label) in

@@ -98,7 +98,8 @@ no_shorter net n m a node table s t flat at_n at_m own shown t_a of first best =
       | inl shorter ↦
           let nest : IsNest net t s = flat.nested.sids t s (contains_from_get net.sids m t at_m) (contains_from_get net.sids n s at_n)
           (shorter, Holds_nested t.prefix s.prefix a (omega arith) t_a own.held) in
-          let there = entry_is_there net node table families.V6 s.prefix (hits.Sid n) (s, at_n, sym nest.node ∙ of, refl, first, refl) shown in
+          let there = entry_is_there net node table families.V6 s.prefix (hits.Sid n)
+          (s, at_n, sym nest.node ∙ of, refl, first, refl) shown in
           (best.no_better (record { hit = hits.Sid n; prefix = s.prefix }) there own.held).0
       | inr longer ↦ longer
     ]
@@ -117,7 +118,8 @@ shown_prefix net n m s t node table a rules flat at_n own shown hit at_m =
     subst (λ (q : PrefixValue). IsBestEntry (entries_of net node table families.V6) a (record { hit = hits.Sid m; prefix = q })) prefix
     best in
     let short = no_longer net node table n a s (record { hit = hits.Sid m; prefix = t.prefix }) flat at_n own mine.is_there mine.holds in
-    let long = no_shorter net n m a node table s t flat at_n at_m own shown mine.holds (ap (λ (v : SidEntry). v.node) same ∙ of) first mine in
+    let long = no_shorter net n m a node table s t flat at_n at_m own shown mine.holds
+    (ap (λ (v : SidEntry). v.node) same ∙ of) first mine in
     let len : s.prefix.len ≡ t.prefix.len = omega (arith, short, long) in
     same_prefix_value s.prefix t.prefix
     (same_value s.prefix t.prefix a (keeps.sid n s at_n).prefix (keeps.sid m t at_m).prefix len own.held mine.holds) len

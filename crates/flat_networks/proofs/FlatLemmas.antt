@@ -1,6 +1,6 @@
 -- What flatness means.
-use Rattle.std.proofs.Common.{◌≡◌, ℕ, Bool, true, List, [], ◌∷◌, ◌++◌, map, Option, Some, None, Result, Ok, Err, ◌↔◌, refl, sym, ap, ◌∙◌, subst, inl, inr}
-use Rattle.std.specs.List.{slice_get, filter, Contains}
+use Rattle.std.proofs.Common.{◌≡◌, Bool, true, List, [], ◌∷◌, map, Result, Ok, Err, ◌↔◌, refl, sym, ap, ◌∙◌, subst, inl, inr}
+use Rattle.std.specs.List.{filter, Contains}
 use Rattle.std.specs.Option.{option_map}
 use Rattle.std.specs.Result.{IsOk}
 use Rattle.std.proofs.lemmas.Bool.{cases_Bool, both_ways}
@@ -165,7 +165,8 @@ mixed_judges net whole nested zero (inr (b, s, first, e)) =
       its_prefix = refl;
     })
 
-zero_judges : (net : Network) → net.hidden ≡ [] → NoneNested net → AreJudged is_zero_in IsZeroIn zero_csid zero_is net.sids net.blocks (no_zero net)
+zero_judges : (net : Network) → net.hidden ≡ [] → NoneNested net → AreJudged is_zero_in IsZeroIn zero_csid zero_is net.sids net.blocks
+    (no_zero net)
     → IsJudged net (or_later (no_zero net) (or_later (no_mixed net) (no_clash net)))
 zero_judges net whole nested (inl (none, e)) =
     subst (IsJudged net) (sym (ap (λ r. or_later r (or_later (no_mixed net) (no_clash net))) e))
@@ -186,7 +187,8 @@ nested_judges net whole (inr (s, inner, first, e)) =
     (record { sid = s; entry = inner; first = first; its_prefix = refl; inner_prefix = refl })
 
 pub flatness_judges : (net : Network) → net.hidden ≡ [] → IsJudged net (flatness_of net)
-flatness_judges net whole = nested_judges net whole (are_judged (is_nested net) (IsNested net) nested (nested_is net) net.sids (inner_entries net))
+flatness_judges net whole = nested_judges net whole (are_judged (is_nested net) (IsNested net) nested (nested_is net) net.sids
+    (inner_entries net))
 
 -- what is refused is not flat
 ok_where_flat : (net : Network) (r : Result (Unit {0}) NotFlat) → IsJudged net r → IsOk r ↔ IsFlat net

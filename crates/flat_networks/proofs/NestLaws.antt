@@ -1,12 +1,12 @@
 -- SIDs nested in another SID.
-use Rattle.std.proofs.Common.{◌≡◌, ℕ, ◌+◌, Option, Some, refl, sym, ap, ◌∙◌, subst, arith}
-use Rattle.std.specs.List.{slice_get, Contains}
+use Rattle.std.proofs.Common.{◌≡◌, ℕ, Some, sym, ap, ◌∙◌, arith}
+use Rattle.std.specs.List.{slice_get}
 use Rattle.std.proofs.lemmas.Option.{same_Some}
-use Rattle.v6_addr.specs.Address.{PrefixValue, IsInside}
+use Rattle.v6_addr.specs.Address.{IsInside}
 use Rattle.srv6_rules.specs.declared.sid.SidEntry.{SidEntry}
 use Rattle.net_model.specs.declared.parts.Block.{Block}
 use Rattle.net_model.specs.Network.{Network}
-use Rattle.net_model.specs.Rules.{IsNetwork, block_of, block_len_of}
+use Rattle.net_model.specs.Rules.{IsNetwork, block_len_of}
 use Rattle.net_model.proofs.PublicLaws.{keeps_from_network, contains_from_get}
 use Rattle.flat_networks.specs.Nests.{IsNest}
 use Rattle.flat_networks.specs.Flat.{IsFlat}

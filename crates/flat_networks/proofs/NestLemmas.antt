@@ -9,6 +9,7 @@ use Rattle.v6_addr.proofs.PublicLaws.{is_inside_is}
 use Rattle.srv6_rules.specs.declared.sid.Csid.{Csid}
 use Rattle.srv6_rules.specs.declared.sid.Csid.TheVariants as csids
 use Rattle.srv6_rules.specs.declared.sid.SidEntry.{SidEntry}
+use Rattle.srv6_rules.specs.CompressedSteps.{is_next}
 use Rattle.net_model.specs.declared.parts.Block.{Block}
 use Rattle.net_model.specs.declared.parts.BlockKind.{BlockKind}
 use Rattle.net_model.specs.declared.parts.BlockKind.TheVariants as kinds
@@ -18,7 +19,7 @@ use Rattle.net_model.specs.Network.{Network, network_of}
 use Rattle.net_model.specs.Rules.{block_of}
 use Rattle.net_model.proofs.PublicLaws.{same_prefix_value}
 use Rattle.flat_networks.specs.Nests.{unit_at, IsAlone, IsNest}
-use Rattle.flat_networks.specs.NestTests.{is_next, same_kind, same_block, is_on, is_alone, are_units, is_nest_in, is_nest}
+use Rattle.flat_networks.specs.NestTests.{same_kind, same_block, is_on, is_alone, are_units, is_nest_in, is_nest}
 
 -- ---- SIDs and blocks
 

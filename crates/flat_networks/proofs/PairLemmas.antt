@@ -1,6 +1,6 @@
 -- The first pair of an outer and an inner item.
 use Rattle.std.proofs.Common.{◌≡◌, ◌⊎◌, ℕ, zero, suc, ◌<◌, Bool, true, List, [], ◌∷◌, Option, Some, None, Result, Ok, Err, ◌↔◌, refl, sym, subst, arith, inl, inr}
-use Rattle.std.specs.List.{slice_get, find, Contains}
+use Rattle.std.specs.List.{find, Contains}
 use Rattle.std.proofs.lemmas.Bool.{both_ways}
 use Rattle.std.proofs.lemmas.Option.{same_Some}
 use Rattle.net_model.proofs.PublicLaws.{find_first, find_none, get_from_contains, contains_from_get}

@@ -1,7 +1,7 @@
 -- What the tests of pairs mean.
-use Rattle.std.proofs.Common.{◌≡◌, ◌≢◌, ◌<◌, ◌≤◌, Bool, true, not, List, ◌↔◌, refl, sym, ap, ◌∙◌, subst, arith, inl, inr}
+use Rattle.std.proofs.Common.{◌≡◌, ◌≢◌, ◌<◌, ◌≤◌, true, List, ◌↔◌, refl, sym, ap, ◌∙◌, subst, arith, inl, inr}
 use Rattle.std.specs.List.{slice_get}
-use Rattle.std.proofs.lemmas.Bool.{cases_Bool, and_parts, and_from, or_cases, or_left, or_right, cases_lt, not-true, not_from_false, leb-true, le-leb, eqb-true, eqb-false, eq-eqb, false_from_ne_true, both_ways}
+use Rattle.std.proofs.lemmas.Bool.{cases_Bool, and_parts, and_from, or_cases, or_left, or_right, cases_lt, not-true, leb-true, le-leb, eqb-true, eqb-false, eq-eqb, both_ways}
 use Rattle.std.proofs.lemmas.Option.{same_Some}
 use Rattle.v6_addr.specs.Address.{PrefixValue, Holds}
 use Rattle.v6_addr.proofs.PublicLaws.{is_inside_is, holds_address_is, Holds_nested, Holds_own_value}

@@ -1,28 +1,27 @@
 -- The first entry inside a SID, and that where a table of the SIDs' prefixes has none around an entry, no pair is nested.
-use Rattle.std.proofs.Common.{◌≡◌, ℕ, zero, suc, ◌+◌, ◌≤◌, Bool, true, false, not, ◌&&◌, length, inl, inr, List, [], ◌∷◌, ◌++◌, map, find, Option, Some, None, Result, Ok, Err, refl, sym, ap, ◌∙◌, subst, arith}
+use Rattle.std.proofs.Common.{◌≡◌, ℕ, ◌+◌, ◌≤◌, Bool, true, false, length, inl, inr, List, [], ◌∷◌, ◌++◌, map, find, Option, Some, None, Result, Ok, Err, refl, sym, ap, ◌∙◌, subst, arith}
 use Rattle.std.specs.List.{slice_get, filter, Contains, list_any}
 use Rattle.std.specs.Option.{option_or, option_map}
 use Rattle.std.proofs.lemmas.Bool.{cases_Bool, cases_lt, both_ways, and_from, not_from_false}
-use Rattle.std.proofs.lemmas.Option.{none-some, same_Some, slice_get_within}
+use Rattle.std.proofs.lemmas.Option.{same_Some, slice_get_within}
 use Rattle.std.proofs.lemmas.List.Folds.{find-append}
 use Rattle.v6_addr.specs.Address.{PrefixValue, IsInside}
 use Rattle.v6_addr.proofs.PublicLaws.{is_inside_is}
 use Rattle.srv6_rules.specs.declared.sid.SidEntry.{SidEntry}
-use Rattle.prefix_table.specs.Table.{HasPrefix, HasAround}
+use Rattle.prefix_table.specs.Table.{HasAround}
 use Rattle.net_model.specs.declared.parts.Node.{Node}
 use Rattle.net_model.specs.declared.parts.Route.{Route}
 use Rattle.net_model.specs.Network.{Network}
-use Rattle.net_model.proofs.PublicLaws.{get_from_contains, contains_from_get, contains_none, contains_cases, same_family-from}
+use Rattle.net_model.proofs.PublicLaws.{get_from_contains, contains_none, contains_cases, same_family-from}
 use Rattle.flat_networks.specs.declared.not_flat.NotFlat.{NotFlat}
 use Rattle.flat_networks.specs.declared.not_flat.NotFlat.TheVariants.{Nested}
-use Rattle.flat_networks.specs.Nests.{IsNest}
 use Rattle.flat_networks.specs.NestTests.{is_nest}
 use Rattle.flat_networks.specs.Flat.{InnerEntry, OfSid, OfRoute, OfAddress, entry_prefix, address_prefix, is_ipv6_route, inner_entries, IsNested, NoneNested, is_nested, nested, pair_or, first_pair, no_nested}
 use Rattle.flat_networks.specs.Search.{sid_prefix, route_prefix, is_nested_sid, is_wrongly_in, first_inside, first_nested, first_refused, FirstAre, HaveTheirPrefixes, NoneAround, NestsWell, AllNestWell, Unless}
 use Rattle.flat_networks.proofs.PairLemmas.{are_judged}
 use Rattle.flat_networks.proofs.PairMeanings.{nested_is}
 use Rattle.flat_networks.proofs.NestLemmas.{nest_is}
-use Rattle.flat_networks.proofs.FlatLemmas.{filtered_from, contains_filtered, some_nested}
+use Rattle.flat_networks.proofs.FlatLemmas.{contains_filtered, some_nested}
 
 -- ---- the first entry
 
@@ -171,7 +170,8 @@ module _ {T : Type 0} (net : Network) (table : List (PrefixValue × T)) (all : H
 -- the same by what three searches answer
 found_none : {T : Type 0} (net : Network) (table : List (PrefixValue × T)) (route address sid : Bool) → HaveTheirPrefixes net.sids table
     → Unless route (NoneAround table route_prefix (filter is_ipv6_route net.routes))
-    → Unless address (NoneAround table address_prefix net.nodes) → Unless sid (AllNestWell net net.sids) → route ≡ false → address ≡ false → sid ≡ false → NoneNested net
+    → Unless address (NoneAround table address_prefix net.nodes) → Unless sid (AllNestWell net net.sids) → route ≡ false → address ≡ false
+    → sid ≡ false → NoneNested net
 found_none net table true address sid all r a s e f g = absurd (let h : true ≡ false = e in cc)
 found_none net table false true sid all r a s e f g = absurd (let h : true ≡ false = f in cc)
 found_none net table false false true all r a s e f g = absurd (let h : true ≡ false = g in cc)

@@ -8,6 +8,7 @@ use Rattle.srv6_rules.specs.declared.sid.Family.TheVariants as families
 use Rattle.srv6_rules.specs.declared.sid.SidEntry.{SidEntry}
 use Rattle.srv6_rules.specs.Behaviours.{goes_on}
 use Rattle.srv6_rules.specs.Compressed.{csid_of}
+use Rattle.srv6_rules.specs.CompressedSteps.{is_next}
 use Rattle.net_model.specs.declared.limits.TheConstants.{BLOCK_UNIT}
 use Rattle.net_model.specs.declared.parts.Block.{Block}
 use Rattle.net_model.specs.declared.parts.BlockKind.{BlockKind}
@@ -19,7 +20,7 @@ use Rattle.flat_networks.specs.declared.not_flat.NotFlat.TheVariants.{Nested, Ze
 use Rattle.net_model.specs.Network.{Network}
 use Rattle.net_model.specs.Rules.{same_family, same_prefix}
 use Rattle.flat_networks.specs.Nests.{IsNest}
-use Rattle.flat_networks.specs.NestTests.{is_next, is_nest}
+use Rattle.flat_networks.specs.NestTests.{is_nest}
 
 -- ---- what a flat network has none of: pairs of an outer and an inner item
 
@@ -165,8 +166,8 @@ pub record IsFirstClash (net : Network) (prefix : PrefixValue) (first_node secon
   pub its_node : earlier.node ≡ first_node
   pub other_node : later.node ≡ second_node
 
--- of a network of which nothing is hidden: a flat one is accepted; another is refused with its first nested pair, else with its first CSID 0, else with its first block
--- that a SID does not fit, else with its first clash
+-- of a network of which nothing is hidden: a flat one is accepted; another is refused with its first nested pair, else with its first CSID
+-- 0, else with its first block that a SID does not fit, else with its first clash
 abbrev pub IsJudged : Network → Result (Unit {0}) NotFlat → Type 0
 IsJudged net (Ok accepted) = IsFlat net
 IsJudged net (Err (Nested outer inner)) = IsFirstNested net outer inner

@@ -1,20 +1,14 @@
 -- Nested SIDs as tests.
-use Rattle.std.specs.Prelude.{ℕ, ◌+◌, Bool, true, false, ◌==◌, ◌&&◌, not, nat_le, count_by, List, Option, Some, None}
+use Rattle.std.specs.Prelude.{◌+◌, Bool, true, false, ◌==◌, ◌&&◌, not, nat_le, count_by, List, Option, Some, None}
 use Rattle.v6_addr.specs.Address.{PrefixValue, is_inside}
-use Rattle.srv6_rules.specs.declared.sid.Csid.{Csid}
-use Rattle.srv6_rules.specs.declared.sid.Csid.TheVariants as csids
 use Rattle.srv6_rules.specs.declared.sid.SidEntry.{SidEntry}
+use Rattle.srv6_rules.specs.CompressedSteps.{is_next}
 use Rattle.net_model.specs.declared.parts.Block.{Block}
 use Rattle.net_model.specs.declared.parts.BlockKind.{BlockKind}
 use Rattle.net_model.specs.declared.parts.BlockKind.TheVariants as kinds
 use Rattle.net_model.specs.Network.{Network}
 use Rattle.net_model.specs.Rules.{same_prefix, block_of}
 use Rattle.flat_networks.specs.Nests.{unit_at}
-
-abbrev pub is_next : Csid → Bool
-is_next csids.Plain = false
-is_next csids.Next = true
-is_next csids.Replace = false
 
 abbrev pub same_kind : BlockKind → BlockKind → Bool
 same_kind kinds.Next kinds.Next = true

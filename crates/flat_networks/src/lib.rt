@@ -6,7 +6,8 @@
 //! inside it, with a length that suits it and a CSID other than 0; and SIDs on one prefix that make
 //! the next segment the destination are compressed alike. Where memory is refused the answer is the
 //! same, and takes longer. `are_nest` tells a nest, and `units_nested_in` what may not come
-//! directly after a SID in a container. The laws about the definitions are the contracts of empty functions.
+//! directly after a SID in a container. The laws about the definitions are the contracts of empty
+//! functions.
 #![tactic(auto)]
 
 mod flatness;

@@ -11,7 +11,7 @@ ghost use Rattle.flat_networks.specs.Search.{sid_prefix, route_prefix, first_ins
 use crate::nests::is_nest;
 use crate::not_flat::NotFlat;
 use base::NoMemory;
-use net_model::{NetParts, Node, Route, same_family, whole};
+use net_model::{NetParts, Node, Route, address_prefix, same_family};
 use prefix_table::{Table, TableFault};
 use srv6_rules::{Family, SidEntry};
 use std::alloc::Global;
@@ -50,7 +50,7 @@ fn first_address_inside(outer: &Prefix, nodes: &[Node]) -> Option<Prefix>
 {
     nodes
         .iter()
-        .map(|n| whole(n.address))
+        .map(|n| address_prefix(n.address))
         .find(|p| p.inside(outer))
 }
 
@@ -176,7 +176,7 @@ fn has_address_inside(table: &Table<()>, nodes: &[Node]) -> bool
     ensures { Unless result (NoneAround table.now address_prefix nodes.now) }
 {
     for n in nodes {
-        if table.has_around(whole(n.address)) {
+        if table.has_around(address_prefix(n.address)) {
             return true;
         }
     }

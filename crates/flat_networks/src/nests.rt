@@ -3,10 +3,11 @@
 ghost use Rattle.std.specs.Prelude.{◌≡◌, ◌↔◌, ◌+◌, ◌<◌, ◌≤◌, Some, OnOk, IfOk, IsTrue, length, slice_get};
 ghost use Rattle.v6_addr.specs.Address.{IsInside};
 ghost use Rattle.srv6_rules.specs.declared.sid.SidEntry.{SidEntry};
+ghost use Rattle.srv6_rules.specs.CompressedSteps.{is_next};
 ghost use Rattle.net_model.specs.Network.{network_of};
 ghost use Rattle.flat_networks.specs.Flat.{IsFlat};
 ghost use Rattle.flat_networks.specs.Nests.{unit_at, IsNest};
-ghost use Rattle.flat_networks.specs.NestTests.{is_next, same_kind, same_block, is_alone, are_units, is_nest};
+ghost use Rattle.flat_networks.specs.NestTests.{same_kind, same_block, is_alone, are_units, is_nest};
 ghost use Rattle.flat_networks.specs.Units.{GetsUnit, AreNestedUnits};
 
 use base::NoMemory;
@@ -104,9 +105,9 @@ fn push_unit(units: &mut Vec<u16>, outer: &SidEntry, inner: &SidEntry) -> Result
     Ok(())
 }
 
-/// The units of the SIDs nested in the SID with a number, in the order of the description: the 16
-/// bits after the SID's. A SID may come directly after it in a container where its first 16 bits
-/// after the block's, which then stand there, are none of them (own rule).
+/// The units of the SIDs nested in the SID with a number, in any order: the 16 bits after the
+/// SID's. A SID may come directly after it in a container where its first 16 bits after the
+/// block's, which then stand there, are none of them (own rule).
 pub fn units_nested_in(alloc: Global, net: &Net, sid: u32) -> Result<Vec<u16>, NoMemory>
     requires flat { IsFlat net.now }
     requires there { sid < length net.now.sids }

@@ -4,7 +4,7 @@ use Rattle.std.specs.Prelude.{if◌then◌else◌}
 use Rattle.std.proofs.lemmas.List.{length-drop}
 use Rattle.srv6_rules.specs.Packet.{Packet, header_len, spelling}
 use Rattle.srv6_rules.specs.Chain as chains
-use Rattle.srv6_rules.specs.Chain.{Header, is_whole, extension_bytes, behind_in, start_of, chain_of, chain_at, from_place}
+use Rattle.srv6_rules.specs.Chain.{extension_bytes, behind_in, start_of, chain_of, chain_at, from_place}
 use Rattle.srv6_rules.proofs.PublicLaws.{chain_of-start, length-spelling, spelled-from}
 use Rattle.ip6_headers.specs.Stepping.{IsHeader}
 use Rattle.header_lines.specs.Lines.{bad_chain_line, chain_lines, header_lines, upper_line}

@@ -2,7 +2,7 @@
 
 use ip6_headers::{
     BadChain, ChainPlace, ChainStep, Fault, Ip4View, Ip6Edit, Ip6View, ReadFault, chain_start,
-    chain_step, halves, lower_ttl, options, read_fault4, two_at,
+    chain_step, lower_ttl, options, read_fault4, two_at,
 };
 use srv6_rules::Reason;
 use std::process::Abort;
@@ -156,11 +156,6 @@ fn edits(rt: HostRuntime) -> Result<(), Fail> {
         edit.set_next_header(43);
         edit.set_hop_limit(1);
         edit.set_destination(Addr { value: 2 });
-    }
-    {
-        let (header, rest) = halves(&mut bytes);
-        assert_eq!(rt; header.len(), 40);
-        assert_eq!(rt; rest.len(), 18);
     }
     let packet = Ip6View::read(&bytes).expect(&rt, "a packet");
     assert_eq!(rt; packet.payload_len(), 8);

@@ -51,8 +51,8 @@ fn scanned(table: &Table<u8>, a: Addr) -> Option<(u8, u8)> {
     found
 }
 
-/// Prefixes of nine lengths, from none of an address's bits to all of them, in no order of lengths: a
-/// look-up finds what a look at each entry finds.
+/// Prefixes of nine lengths, from none of an address's bits to all of them, in no order of lengths:
+/// a look-up finds what a look at each entry finds.
 #[test]
 fn look_ups_find_what_scans_find(rt: HostRuntime) -> Result<(), Fail> {
     let mut table = Table::new(rt.alloc());

@@ -1,12 +1,8 @@
 //! Headers byte by byte.
 
-ghost use Rattle.std.specs.Prelude.{◌≡◌, true, slice_set};
-ghost use Rattle.srv6_rules.specs.Chain.{is_whole};
-
 use ip6_headers::Fault;
-use srh_codec::{SrhEdit, SrhParts, SrhView, tlvs, write_srh};
+use srh_codec::{SrhParts, SrhView, tlvs, write_srh};
 use srv6_rules::Reason;
-use srv6_rules::numbers::{ROUTING, SEGMENTS_LEFT_AT};
 use std::test::Fail;
 use v6_addr::Addr;
 
@@ -36,15 +32,6 @@ const ENTRIES: [Addr; 2] = [
     },
 ];
 
-/// A whole header with other Segments Left.
-fn with_segments_left(bytes: &mut [u8], segments_left: u8)
-    requires { is_whole ROUTING bytes.old ≡ true }
-    ensures { bytes.new ≡ slice_set bytes.old SEGMENTS_LEFT_AT segments_left }
-{
-    let mut edit = SrhEdit::over(bytes);
-    edit.set_segments_left(segments_left);
-}
-
 #[test]
 fn header_is_read(rt: HostRuntime) -> Result<(), Fail> {
     let srh = SrhView::read(&HEADER)?;
@@ -66,16 +53,6 @@ fn cut_header_is_refused(rt: HostRuntime) {
     for len in 0..HEADER.len() {
         assert!(rt; SrhView::read(&HEADER[..len]).is_err());
     }
-}
-
-#[test]
-fn segments_left_is_written(rt: HostRuntime) -> Result<(), Fail> {
-    let mut bytes = HEADER;
-    with_segments_left(&mut bytes, 0);
-    let srh = SrhView::read(&bytes)?;
-    assert_eq!(rt; srh.segments_left(), 0);
-    assert_eq!(rt; srh.last_entry(), 1);
-    Ok(())
 }
 
 #[test]

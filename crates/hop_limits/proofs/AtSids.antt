@@ -1,5 +1,5 @@
 -- What comes of packets at a SID that differ in their hop limit alone.
-use Rattle.std.proofs.Common.{◌≡◌, ℕ, ◌+◌, ◌-◌, Bool, true, false, ◌==◌, ◌&&◌, not, nat_le, if◌then◌else◌, List, [], ◌∷◌, Option, Some, None, refl}
+use Rattle.std.proofs.Common.{◌≡◌, ℕ, ◌+◌, Bool, true, false, ◌==◌, ◌&&◌, not, nat_le, if◌then◌else◌, List, [], ◌∷◌, Option, Some, None, refl}
 use Rattle.srv6_rules.specs.declared.sid.Reason.TheVariants as reasons
 use Rattle.srv6_rules.specs.declared.sid.SidEntry.{SidEntry}
 use Rattle.srv6_rules.specs.Behaviours.{goes_on, exposes, family_inside}
@@ -7,8 +7,8 @@ use Rattle.srv6_rules.specs.CompressedSteps.{compression_of, is_replace, shifted
 use Rattle.srv6_rules.specs.Packet.{Packet}
 use Rattle.srv6_rules.specs.Srh.{Srh, srh_of, segments_left_at, routing_type_at}
 use Rattle.srv6_rules.specs.Areas.{Fault, options_fault, tlvs_fault}
-use Rattle.srv6_rules.specs.Chain.{Header, ChainPlace, ChainEnd, Upper, Cut, hop_by_hop, fragment, destination_options, is_first, segments_left, is_segment_routing, from_place, chain_of}
-use Rattle.srv6_rules.specs.Endpoint.{Endpoint, Onward, Delivered, Refused, at_sid, at_header, at_sid_routing, at_whole_segments, at_packed_segments, by_replace_step, at_end, over_headers, upper_layer, unless_fault, next_segment, next_csid, has_bad_segments, advanced, outcome_without, leaves_none, is_allowed, shifts_at, is_options}
+use Rattle.srv6_rules.specs.Chain.{Header, ChainEnd, Upper, Cut, hop_by_hop, fragment, destination_options, is_first, segments_left, is_segment_routing, from_place, chain_of}
+use Rattle.srv6_rules.specs.Endpoint.{Endpoint, Onward, Refused, at_sid, at_header, at_sid_routing, at_whole_segments, at_packed_segments, by_replace_step, at_end, over_headers, unless_fault, next_segment, next_csid, has_bad_segments, advanced, outcome_without, leaves_none, is_allowed, shifts_at, is_options}
 use Rattle.hop_limits.specs.HopLimits.{Course, Takes, at_hop}
 use Rattle.hop_limits.proofs.Alike.{Alike, alike-if, alike-same, alike-refused, alike-shown, alike-delivered, alike-unless, alike-above, alike-low, alike-out}
 

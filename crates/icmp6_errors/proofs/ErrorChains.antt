@@ -3,7 +3,7 @@ use Rattle.std.proofs.Common.{◌≡◌, ℕ, ◌+◌, ◌≤◌, true, false, n
 use Rattle.std.proofs.lemmas.List.{length-drop}
 use Rattle.srv6_rules.specs.Packet.{Packet, header_len, spelling}
 use Rattle.srv6_rules.specs.Chain as chains
-use Rattle.srv6_rules.specs.Chain.{is_extension, extension_bytes, behind_in, start_of, chain_at, from_place}
+use Rattle.srv6_rules.specs.Chain.{extension_bytes, behind_in, start_of, chain_at, from_place}
 use Rattle.srv6_rules.specs.Errors.{is_error_message, is_error_type, is_later_fragment, leads_to_error}
 use Rattle.srv6_rules.proofs.PublicLaws.{length-spelling, spelled-from, error-start, error-behind}
 use Rattle.ip6_headers.specs.Stepping.{IsHeader}

@@ -18,7 +18,7 @@ use srv6_rules::numbers::{
 };
 use v6_addr::Addr;
 
-/// Room for an ICMPv6 error, which is at most 1,280 bytes long (RFC 4443 section 3).
+/// Room for an ICMPv6 error, which is at most 1,280 bytes long (RFC 4443 section 2.4 (c)).
 pub type IcmpSlot = ArrayVec<u8, MIN_MTU>;
 
 /// Appends bytes.
@@ -64,8 +64,8 @@ fn write_error(packet: &Ip6View<'_>, kind: &IcmpKind, from: Addr, out: &mut Icmp
 /// dropped it; what the slot held is gone. The packet begins at the first byte, and what stands
 /// after its end is neither looked at nor quoted. Answers false, with an empty slot, exactly where
 /// no error is made: where the packet's source is unspecified or multicast, where its destination
-/// is multicast (but for an unknown option), or where it is itself an ICMPv6 error or a redirect
-/// (RFC 4443 section 2.4). It takes no memory.
+/// is multicast (but for Packet Too Big and an unknown option), or where it is itself an ICMPv6
+/// error or a redirect (RFC 4443 section 2.4). It takes no memory.
 pub fn error_for(packet: &[u8], kind: &IcmpKind, from: Addr, out: &mut IcmpSlot) -> bool
     requires { content_of packet.now ≡ V6 (packet_at packet.now) }
     ensures made { result ≡ is_some (error_packet (packet_at packet.now) kind.now from.value) }

@@ -44,7 +44,8 @@ both : (a b : Bool) → a ≡ true → b ≡ true → (a && b) ≡ true
 both a b e f = rw (e, f) refl
 
 keeps_all : (net : Network) (d : DescribedIntent) (headend : ℕ) (steps : List Step) → InRange d → headend < length net.nodes
-    → Walks net headend d.steps steps → ends_in_function steps ≡ true → is_within_loose_limit net steps ≡ true → IsIntent net (intent_with d headend steps)
+    → Walks net headend d.steps steps → ends_in_function steps ≡ true → is_within_loose_limit net steps ≡ true
+    → IsIntent net (intent_with d headend steps)
 unfolding is_intent
 keeps_all net d headend steps range within walk last few =
     let some : 1 ≤ length steps = omega (arith, range.some_steps, walk.count) in

@@ -7,3 +7,4 @@ pub mod GivenLemmas
 pub mod RangeLemmas
 pub mod JudgingLemmas
 pub mod NoFaultLemmas
+pub mod PublicLaws

@@ -42,7 +42,8 @@ step_by : (net : Network) (k : ℕ) (d : DescribedStep) → Holds (λ s. step_by
 step_by net k (described.Links names) =
     let fact = λ (s : Step). step_by_names net (described.Links names) ≡ Some s in
     after fact (each_of (link_at net k) names) _ (λ set e.
-    tested fact (are_distinct same_number set) (Links set) (faults.AtStep k kinds.DoubleLink) (λ once. rw ((links_by net k names).given set e) refl))
+    tested fact (are_distinct same_number set) (Links set) (faults.AtStep k kinds.DoubleLink)
+    (λ once. rw ((links_by net k names).given set e) refl))
 step_by net k (described.Function title) =
     let fact = λ (s : Step). step_by_names net (described.Function title) ≡ Some s in
     after fact (or_fault (faults.AtStep k kinds.NoFunction) (function_numbered title net)) _ (λ sid e.
@@ -69,7 +70,10 @@ judged_by net d =
     after fact (steps_from net 1 headend d.steps) _ (λ steps f.
     tested_on fact (ends_in_function steps) _ faults.NotFunctionLast (λ last.
     tested fact (is_within_loose_limit net steps) (intent_with d headend steps) faults.LooseLimit (λ few.
-    rw (found (faults.AtStep 0 kinds.UnknownName) (node_numbered d.headend net.nodes) headend e, (steps_by net 1 headend d.steps).given steps f) refl))))
+    rw (
+      found (faults.AtStep 0 kinds.UnknownName) (node_numbered d.headend net.nodes) headend e,
+      (steps_by net 1 headend d.steps).given steps f,
+    ) refl))))
 
 -- ---- what keeps the rules is given
 

@@ -137,6 +137,7 @@ said_holds root =
     })))))))))))
 
 pub said_in_range : (text : List ℕ) (d : DescribedIntent) → intent_in text ≡ Ok d → InRange d
-said_in_range text d h = (after InRange (or_fault (fault_at intent_place kinds.NotToml) (document_of text)) _ (λ root e. said_holds root)).given d h
+said_in_range text d h = (after InRange (or_fault (fault_at intent_place kinds.NotToml) (document_of text)) _
+    (λ root e. said_holds root)).given d h
 
 pub ruleset ranges = (said_in_range)

@@ -11,8 +11,8 @@ pub enum Step {
     Links(LinkSet),
     /// The SID with this number, which has a title, is executed.
     Function(u32),
-    /// Any links are crossed, up to the first arrival at the node with this number; the walk doesn't
-    /// stand there before.
+    /// Any links are crossed, up to the first arrival at the node with this number; the walk
+    /// doesn't stand there before.
     Reach(u32),
 }
 
@@ -38,6 +38,6 @@ pub struct Intent {
     pub traffic_class: u8,
     /// The flow label of the outer header, 20 bits.
     pub flow_label: u32,
-    /// What is crossed, in order.
+    /// What is crossed, executed and reached, in order.
     pub steps: Steps,
 }

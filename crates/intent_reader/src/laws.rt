@@ -26,7 +26,7 @@ pub fn intents_have_walks()
 {}
 
 /// A step that leads from a node to a node crosses links all of which lead from the one to the
-/// other, or is a function at the node, where the walk stays (own rule).
+/// other, is a function at the node, where the walk stays, or is to reach the other (own rule).
 pub fn steps_lead_on()
     ensures { (net : Network) (node : ℕ) (s : Step) (next : ℕ) → node_after net node s ≡ Some next
         → Steps net node s next }

@@ -1,4 +1,5 @@
-//! Path intents: the links and functions that packets are to cross, in order.
+//! Path intents: the links that packets are to cross, the functions that are to be executed on them
+//! and the nodes that they are to reach, in order.
 //!
 //! An intent is TOML over a network, whose keys `net_words` tells. `read_intent` gives it with the
 //! numbers of nodes, links and SIDs in place of their names, or its first fault in one written

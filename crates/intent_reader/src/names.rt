@@ -22,7 +22,8 @@ use text_faults::OrNoMemory;
 
 /// The number of a node that a step names; the headend counts as step 0.
 pub(crate) fn node_at(net: &Net, step: u32, name: &Name) -> Result<u32, IntentFault>
-    ensures { result ≡ or_fault (faults.AtStep step kinds.UnknownName) (node_numbered name.now net.now.nodes) }
+    ensures { result ≡ or_fault (faults.AtStep step kinds.UnknownName)
+        (node_numbered name.now net.now.nodes) }
 {
     match net.node_named(name.as_bytes()) {
         Some(node) => Ok(node),

@@ -71,16 +71,16 @@ fn judged(
 /// The intent that a text gives in a network, or its first fault (own rules).
 ///
 /// First comes `Text`, with the fault of the text itself: that it is not TOML, or the first fault
-/// of an intent's keys and values as `net_words::read_intent_words` gives it. Then `UnknownName` at step
-/// 0, where no node has the headend's name. Then the steps in their order: the first stands at the
-/// headend, and each later one where the one before it ended, a step of links at their common end,
-/// a function where it stands, and a reach at its node. Of a step comes `UnknownName` where no link
-/// has one of its names or no node has the name to be reached; `DoubleLink` where a link stands
-/// twice in it; `Broken` where its links do not start where it stands, end apart or leave the
-/// network, or where it stands at the node to be reached; `NoFunction` where no SID has its title,
-/// or the SID is not where the step stands. Then comes `NotFunctionLast`, and last `LooseLimit`, where a
-/// step is to reach a node and the network has more than 128 SIDs. `NoMemory` may come at any time, and
-/// says nothing about the text.
+/// of an intent's keys and values as `net_words::read_intent_words` gives it. Then `UnknownName` at
+/// step 0, where no node has the headend's name. Then the steps in their order: the first stands at
+/// the headend, and each later one where the one before it ended, a step of links at their common
+/// end, a function where it stands, and a reach at its node. Of a step comes `UnknownName` where no
+/// link has one of its names or no node has the name to be reached; `DoubleLink` where a link
+/// stands twice in it; `Broken` where its links do not start where it stands, end apart or leave
+/// the network, or where it stands at the node to be reached; `NoFunction` where no SID has its
+/// title, or the SID is not where the step stands. Then comes `NotFunctionLast`, and last
+/// `LooseLimit`, where a step is to reach a node and the network has more than 128 SIDs. `NoMemory`
+/// may come at any time, and says nothing about the text.
 #[tactic(auto, using(crate::proofs::JudgingLemmas::kept_intents))]
 pub fn read_intent(alloc: Global, text: &[u8], net: &Net) -> Result<Intent, OrNoMemory<IntentFault>>
     ensures reads { Gives (λ i. i) result (intent_of_text net.now text.now) }

@@ -170,7 +170,8 @@ pub(crate) fn is_within_loose_limit(net: &Net, steps: &[Step]) -> bool
 
 /// Whether an intent keeps all rules in a network (own rules): its headend is there, its numbers
 /// are in their ranges, it has 1 to 48 steps, each of which starts where the one before it ended,
-/// and the last is a function; and where a step is to reach a node, the network has at most 128 SIDs.
+/// and the last is a function; and where a step is to reach a node, the network has at most 128
+/// SIDs.
 #[tactic(auto, unfolding(crate::specs::Rules::is_intent))]
 pub fn is_intent(net: &Net, intent: &Intent) -> bool
     ensures { result ≡ is_intent net.now intent.now }

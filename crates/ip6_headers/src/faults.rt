@@ -5,7 +5,8 @@ use srv6_rules::Reason;
 /// Why bytes do not read as a packet of a family (RFC 8200 section 3, RFC 791 section 3.1).
 #[derive(Clone, Copy, Debug, PartialEq, Eq)]
 pub enum ReadFault {
-    /// Fewer bytes than a header has, or than it states.
+    /// Fewer bytes than a header has, or than it states; or lengths of IPv4 that do not fit one
+    /// another.
     Truncated,
     /// The first half byte is not the family's version, 6 or 4.
     BadVersion,

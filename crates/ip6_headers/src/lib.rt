@@ -13,7 +13,6 @@ mod faults;
 mod ip4;
 mod laws;
 mod numbers;
-mod parts;
 mod view;
 
 pub use areas::{Fault, item_len, options};
@@ -23,5 +22,4 @@ pub use faults::ReadFault;
 pub use ip4::{Ip4View, lower_ttl, read_fault4};
 pub use laws::edit_changes_its_field;
 pub use numbers::{address_at, four_at, two_at};
-pub use parts::halves;
 pub use view::{Ip6View, read_fault};

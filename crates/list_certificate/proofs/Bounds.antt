@@ -1,5 +1,5 @@
--- The least costs that a listing has are of 32 bits: its states are few, and along a least path a cost falls by at most 1000 a move, so that
--- it needs as many states as it has thousands.
+-- The least costs that a listing has are of 32 bits: its states are few, and along a least path a cost falls by at most 1000 a move, so
+-- that it needs as many states as it has thousands.
 use Rattle.std.proofs.Common.{◌≡◌, ℕ, zero, suc, ◌+◌, ◌*◌, ◌/◌, ◌^◌, ◌<◌, ◌≤◌, inl, inr, Bool, true, false, cond, eqb, ◌==◌, List, [], ◌∷◌, length, map, Contains, Option, Some, None, get_or, slice_get, option_map, refl, sym, ◌∙◌, ap, subst, arith}
 use Rattle.std.specs.List.{list_any}
 use Rattle.std.proofs.lemmas.Bool.{false≢true, cases_lt, eqb-true, eq-eqb, ne_eqb, or_left, or_right, or_cases}
@@ -259,7 +259,10 @@ cost-one false hops = omega arith
 pub containers-few : (v : LegsValue) → KeepsLaws v → (qs : List Potential) → IsListing v qs → (q : Potential) → Contains qs q
     → q.cost.containers < 2 ^ 32
 containers-few v laws qs is q among =
-    number-few v laws (λ (c : Cost). c.containers) (record { adds = λ a b. refl; small = λ stays hops h. cost-one stays hops }) qs is q among
+    number-few v laws (λ (c : Cost). c.containers) (record {
+      adds = λ a b. refl;
+      small = λ stays hops h. cost-one stays hops;
+    }) qs is q among
 
 pub hops-few : (v : LegsValue) → KeepsLaws v → (qs : List Potential) → IsListing v qs → (q : Potential) → Contains qs q
     → q.cost.hops < 2 ^ 32

@@ -90,9 +90,11 @@ top-by Replace s = omega (arith, div-le_self 128 (s.prefix.len - s.lbl))
 
 pub room-few : (v : LegsValue) (position : ℕ) (via : Option ℕ) (room : ℕ) → IsStateBy v position via room → room ≤ 128
 room-few v position None room is = omega (arith, is.1)
-room-few v position (Some n) room is = let top : top_room (v.shape n) ≤ 128 = top-by (v.shape n).csid (v.shape n) in omega (arith, is.3, top)
+room-few v position (Some n) room is = let top : top_room (v.shape n) ≤ 128 =
+    top-by (v.shape n).csid (v.shape n) in omega (arith, is.3, top)
 
-pub position-few : (v : LegsValue) → KeepsLaws v → (position : ℕ) (via : Option ℕ) (room : ℕ) → IsStateBy v position via room → position ≤ 48
+pub position-few : (v : LegsValue) → KeepsLaws v → (position : ℕ) (via : Option ℕ) (room : ℕ) → IsStateBy v position via room
+    → position ≤ 48
 position-few v laws position None room is = omega (arith, is.0)
 position-few v laws position (Some n) room is = omega (arith, is.0, laws.steps)
 

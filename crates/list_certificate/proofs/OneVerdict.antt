@@ -181,7 +181,8 @@ breaks-by v laws s (a ∷ before) bad behind t (b ∷ front) worse rest u e h k 
     breaks-by v laws h.0.to before bad behind t front worse rest u others h.2
     (subst (λ (x : Edge). Leads v x.to (steps_of front) u) edges k.2) f g
 
-pub breaks-same : (v : LegsValue) → KeepsLaws v → (s : State) (lines : List PathLine) (a b : ℕ) → BreaksAt v s lines a → BreaksAt v s lines b
+pub breaks-same : (v : LegsValue) → KeepsLaws v → (s : State) (lines : List PathLine) (a b : ℕ) → BreaksAt v s lines a
+    → BreaksAt v s lines b
     → a ≡ b
 breaks-same v laws s lines a b h k =
     h.line_is

@@ -34,7 +34,10 @@ edge-stands v laws s step to n room leg cost is_s prefix is_leg at is_room is_co
     let e : Edge = record { to = record { position = to; via = Some n; room = room }; cost = cost } in
     let made : edge_of v s m ≡ Some (edge_by m room leg) = edge-made v s m room leg is_room is_leg in
     let same : edge_by m room leg ≡ e =
-    ap (λ (x : ℕ). let y : Edge = record { to = record { position = x; via = Some n; room = room }; cost = move_cost step.stays leg.hops } in y) at
+    ap (λ (x : ℕ). let y : Edge = record {
+      to = record { position = x; via = Some n; room = room };
+      cost = move_cost step.stays leg.hops;
+    } in y) at
     ∙ ap (λ (x : Cost). let y : Edge = record { to = record { position = to; via = Some n; room = room }; cost = x } in y) (sym is_cost) in
     let edge : edge_of v s m ≡ Some e = made ∙ ap (λ (x : Edge). Some x) same in
     let is_step : step_of v m ≡ step =
@@ -228,7 +231,8 @@ drop-size (x ∷ xs) (suc n) h =
     let rest = drop-size xs n (omega (arith, h)) in
     omega (arith, rest)
 
-pub breaks-inner : (v : LegsValue) (lines : List PathLine) (k : ℕ) (l : PathLine) (state : State) (spent : Spent) → slice_get lines k ≡ Some l
+pub breaks-inner : (v : LegsValue) (lines : List PathLine) (k : ℕ) (l : PathLine) (state : State) (spent : Spent) → slice_get lines k
+    ≡ Some l
     → k + 1 < length lines
     → Walking v lines k state spent → IsEdgeOf v state l.step None → BreaksAt v start lines l.line
 breaks-inner v lines k l state spent e h so none =
@@ -244,7 +248,8 @@ breaks-inner v lines k l state spent e h so none =
       line_is = refl;
     }
 
-pub breaks-last : (v : LegsValue) (lines : List PathLine) (k : ℕ) (l : PathLine) (state : State) (spent : Spent) → slice_get lines k ≡ Some l
+pub breaks-last : (v : LegsValue) (lines : List PathLine) (k : ℕ) (l : PathLine) (state : State) (spent : Spent) → slice_get lines k
+    ≡ Some l
     → k + 1 ≡ length lines
     → Walking v lines k state spent → IsLastOf v state l.step None → BreaksAt v start lines l.line
 breaks-last v lines k l state spent e h so none =

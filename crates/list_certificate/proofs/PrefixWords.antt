@@ -14,7 +14,8 @@ use Rattle.v6_addr.proofs.RoundTrip.{prefix_read_back}
 use Rattle.list_certificate.proofs.Marks.{is_mark, IsWord, no-mark}
 
 digit-plain : (c : ℕ) → digit_value c < 16 → is_mark c ≡ false
-digit-plain c digit = no-mark c (other 10 (λ h. absurd (omega (arith, h)))) (other 32 (λ h. absurd (omega (arith, h)))) (other 64 (λ h. absurd (omega (arith, h))))
+digit-plain c digit = no-mark c (other 10 (λ h. absurd (omega (arith, h)))) (other 32 (λ h. absurd (omega (arith, h))))
+    (other 64 (λ h. absurd (omega (arith, h))))
   where
     other : (mark : ℕ) → (digit_value mark < 16 → ⊥) → c ≡ mark → ⊥
     other mark absent e = absent (subst (λ (n : ℕ). digit_value n < 16) e digit)

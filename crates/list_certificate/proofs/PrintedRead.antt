@@ -83,7 +83,8 @@ module _ (net : Network) (v : LegsValue) where
       let is = All-head IsComment c cs all in
       let same : n + 1 + length cs ≡ n + length (c ∷ cs) = omega arith in
       ap (λ (text : List ℕ). reads net v (slice_split is_feed text) n nothing_read) (line-on c (lines_text cs) rest)
-      ∙ reads-item c (lines_text cs ++ rest) n nothing_read nothing_read items.Comment (comment-feed c is) (comment-item c is) (with-comment n)
+      ∙ reads-item c (lines_text cs ++ rest) n nothing_read nothing_read items.Comment (comment-feed c is) (comment-item c is)
+      (with-comment n)
       ∙ comments-read cs rest (n + 1) (All-tail IsComment c cs all)
       ∙ ap (λ (x : ℕ). reads net v (slice_split is_feed rest) x nothing_read) same
 
@@ -182,7 +183,8 @@ module _ (net : Network) (v : LegsValue) where
       ≡ Ok (record { head = head; potentials = ls; path = path_lines n path; none = none_line n path; end = n + way_count path })
   unfolding none_text
   way-read [] head n ls all =
-      reads-item (codes "none") end_text n (read_so stages.AfterHead head ls [] None) (read_so stages.BeforeEnd head ls [] (Some n)) items.NoPath
+      reads-item (codes "none") end_text n (read_so stages.AfterHead head ls [] None)
+      (read_so stages.BeforeEnd head ls [] (Some n)) items.NoPath
       (plain-lacks 10 (codes "none") refl) none-item (with-none head n ls)
       ∙ end-read (n + 1) (read_so stages.BeforeEnd head ls [] (Some n))
       (record { stage = stages.AtEnd; head = head; potentials = ls; path = []; none = Some n; end = n + 1 })
@@ -283,7 +285,8 @@ module _ (net : Network) (v : LegsValue) (rules : IsNetwork net) (laws : KeepsLa
       (with-listed head n ls q follow.0)
       ∙ potentials-read qs rest head (n + 1) (ls ++ line ∷ []) (All-tail (IsReadable v) q qs all) (next-by v ls q n qs follow.1)
       ∙ ap (λ (x : ℕ).
-      reads net v (slice_split is_feed rest) x (read_so net v stages.AfterHead head ((ls ++ line ∷ []) ++ potential_lines (n + 1) qs) [] None)) same
+      reads net v (slice_split is_feed rest) x (read_so net v stages.AfterHead head ((ls ++ line ∷ []) ++ potential_lines (n + 1) qs)
+      [] None)) same
       ∙ ap (λ (xs : List PotentialLine).
       reads net v (slice_split is_feed rest) (n + length (q ∷ qs)) (read_so net v stages.AfterHead head xs [] None))
       (append_assoc ls (line ∷ []) (potential_lines (n + 1) qs))
@@ -348,7 +351,8 @@ module _ (net : Network) (v : LegsValue) (rules : IsNetwork net) (laws : KeepsLa
       (follow-from v s.potentials is.potentials.order)
       ∙ way-read net v s.path head (first + length s.potentials) (potential_lines first s.potentials) (path-prefixes s.path is.path)
 
-pub what-is-read : (net : Network) (v : LegsValue) (comments : List (List ℕ)) (s : Solution) → IsNetwork net → KeepsLaws v → IsNetworkOf net v
+pub what-is-read : (net : Network) (v : LegsValue) (comments : List (List ℕ)) (s : Solution) → IsNetwork net → KeepsLaws v
+    → IsNetworkOf net v
     → IsSolution v s
     → All IsComment comments
     → read_of net v (lines_text comments ++ spelled net s) ≡ Ok (certificate_of (1 + length comments) s)

@@ -150,7 +150,8 @@ module _ (v : LegsValue) (laws : KeepsLaws v) (lines : List PotentialLine) where
             sid-found-by position sids count n s within sids_are e found so t is_t of.0 t.via refl of.1 before;
       }
 
-  sids-all-by : (position : ℕ) (sids : List ℕ) (count : ℕ) → sids ≡ v.sids_at position → length sids ≤ count → SidsPass v lines position sids count
+  sids-all-by : (position : ℕ) (sids : List ℕ) (count : ℕ) → sids ≡ v.sids_at position → length sids ≤ count
+      → SidsPass v lines position sids count
       → (t : State) → IsState v t → t.position ≡ position → (o : Option ℕ) → t.via ≡ o → IsSome o → PassesUnlisted v lines t
   sids-all-by position sids count sids_are h so t is_t at None f some = absurd (false≢true some)
   sids-all-by position sids count sids_are h so t is_t at (Some k) f some =
@@ -159,7 +160,8 @@ module _ (v : LegsValue) (laws : KeepsLaws v) (lines : List PotentialLine) where
       let place = place-in sids k here in
       so place.0 k (omega (arith, place.1, h)) place.2 t is_t (at, f)
 
-  pub sids-all : (position : ℕ) (sids : List ℕ) (count : ℕ) → sids ≡ v.sids_at position → length sids ≤ count → SidsPass v lines position sids count
+  pub sids-all : (position : ℕ) (sids : List ℕ) (count : ℕ) → sids ≡ v.sids_at position → length sids ≤ count
+      → SidsPass v lines position sids count
       → FirstFailure v lines (OfPosition position) None
   sids-all position sids count sids_are h so t is_t of = sids-all-by position sids count sids_are h so t is_t of.0 t.via refl of.1
 
@@ -170,7 +172,8 @@ module _ (v : LegsValue) (laws : KeepsLaws v) (lines : List PotentialLine) where
       ∙ ap (λ (x : Option ℕ). let y : State = record { position = t.position; via = x; room = 0 } in y) (sym e)
       ∙ ap (λ (x : ℕ). let y : State = record { position = t.position; via = t.via; room = x } in y) (sym is.1)
 
-  position-found-by : (count : ℕ) (s : State) → PassesUnlisted v lines start → FirstFailing v lines (OfPosition count) s → PositionsPass v lines count
+  position-found-by : (count : ℕ) (s : State) → PassesUnlisted v lines start → FirstFailing v lines (OfPosition count) s
+      → PositionsPass v lines count
       → (t : State) → IsState v t → (o p : Option ℕ) → t.via ≡ o → s.via ≡ p → IsSome p → IsBefore v t s
       → PassesUnlisted v lines t
   position-found-by count s begin found so t is_t None p f g some before = subst (PassesUnlisted v lines) (start-is t is_t f) begin

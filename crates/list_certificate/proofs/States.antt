@@ -47,9 +47,11 @@ sid-same v laws position n m within is_n is_m e =
       | inl same ↦ same_Some n m (sym a.2 ∙ ap (slice_get (v.sids_at position)) same ∙ b.2)
       | inr o ↦
           elim o as (λ w. n ≡ m) [
-            | inl less ↦ absurd (not-before-same (sid_key v n) (sid_key v m) e (sids-rise v (v.sids_at position) a.0 b.0 n m order less a.2 b.2))
+            | inl less ↦ absurd (not-before-same (sid_key v n) (sid_key v m) e
+                (sids-rise v (v.sids_at position) a.0 b.0 n m order less a.2 b.2))
             | inr more ↦
-                absurd (not-before-same (sid_key v m) (sid_key v n) (sym e) (sids-rise v (v.sids_at position) b.0 a.0 m n order more b.2 a.2))
+                absurd (not-before-same (sid_key v m) (sid_key v n) (sym e)
+                (sids-rise v (v.sids_at position) b.0 a.0 m n order more b.2 a.2))
           ]
     ]
 

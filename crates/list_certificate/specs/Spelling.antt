@@ -1,4 +1,5 @@
--- The text of the certificate of a solution (own rule). Numbers are decimal; each line ends with a line feed, 10; 32 is the space, 64 is `@`.
+-- The text of the certificate of a solution (own rule). Numbers are decimal; each line ends with a line feed, 10; 32 is the space, 64 is
+-- `@`.
 use Rattle.std.specs.Prelude.{ℕ, Bool, if◌then◌else◌, count_by, nat_lt, List, [], ◌∷◌, ◌++◌, length, codes, flat_map, slice_get, Option, Some, None, ◌<◌}
 use Rattle.std.specs.Fmt.{decimal}
 use Rattle.v6_addr.specs.Address.{PrefixValue}

@@ -177,7 +177,8 @@ IsShapeOf v s from = from ≡ option_map v.shape s.via
 
 -- the first line whose state does not pass, by its number; with none each state passes
 abbrev pub LinesPass : LegsValue → List PotentialLine → ℕ → Type 0
-LinesPass v lines count = (i : ℕ) (l : PotentialLine) → i < count → slice_get lines i ≡ Some l → IsGoodAt v (potential_at lines) l.potential.state
+LinesPass v lines count = (i : ℕ) (l : PotentialLine) → i < count → slice_get lines i ≡ Some l
+    → IsGoodAt v (potential_at lines) l.potential.state
 
 pub record FirstBadLine (v : LegsValue) (lines : List PotentialLine) (line : ℕ) : Type 0 where
   pub place : ℕ

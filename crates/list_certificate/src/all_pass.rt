@@ -64,7 +64,8 @@ fn pass_legs_to<L: Legs>(legs: &L, lines: &[PotentialLine], cell: &Cell, to: u32
     requires cell { tests.IsCell (L.seen legs.now) lines.now cell.now }
     requires middle { IsTrue cell.now.shape.middle }
     requires within { to ≤ (L.seen legs.now).steps }
-    ensures { tests.Assures (tests.CellPassesLegsTo (L.seen legs.now) lines.now cell.now to) result }
+    ensures { tests.Assures (tests.CellPassesLegsTo
+        (L.seen legs.now) lines.now cell.now to) result }
 {
     legs.steps();
     for n in legs.sids_at(to) {

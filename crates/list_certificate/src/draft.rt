@@ -135,7 +135,8 @@ fn is_next<L: Legs>(net: &Net, legs: &L, lines: &[PotentialLine], state: State) 
 
 /// with a line before the head
 fn before_head(draft: Draft, line: u32, item: Item) -> Option<Draft>
-    ensures { reading.read_values result ≡ reading.before_head (reading.read_value draft) line item }
+    ensures { reading.read_values result ≡ reading.before_head
+        (reading.read_value draft) line item }
 {
     match item {
         Item::Comment => Some(draft),

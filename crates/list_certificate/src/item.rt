@@ -210,7 +210,8 @@ fn step_of(text: &[u8]) -> Option<PathStep>
 /// a line of more than one word, but for the head
 fn item_by<L: Legs>(net: &Net, legs: &L, line: &[u8]) -> Item
     requires { reading.IsNetworkOf net.now (L.seen legs.now) }
-    ensures value { result ≡ reading.item_by net.now (L.seen legs.now) (reading.cut_at 32 line.now) }
+    ensures value { result ≡ reading.item_by net.now (L.seen legs.now)
+        (reading.cut_at 32 line.now) }
     ensures state { reading.IsItem (L.seen legs.now) result }
 {
     let Some(parts) = cut(line, b' ') else {

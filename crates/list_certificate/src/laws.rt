@@ -25,7 +25,8 @@ pub fn a_certificate_that_is_least_is_least()
 /// state that is not listed, and the least cost are determined by the legs and the certificate.
 /// (own rule)
 pub fn a_certificate_has_one_verdict()
-    ensures { (v : LegsValue) (c : Cert) (a b : Verdict) → KeepsLaws v → IsCert v c → IsVerdict v c a
+    ensures { (v : LegsValue) (c : Cert) (a b : Verdict) → KeepsLaws v → IsCert v c
+        → IsVerdict v c a
         → IsVerdict v c b → a ≡ b }
 {}
 

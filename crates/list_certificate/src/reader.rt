@@ -15,7 +15,8 @@ use std::alloc::Global;
 
 /// the certificate of what was read, where nothing follows its end
 fn finished(draft: Draft, line: u32, last: &[u8]) -> Result<Cert, CertFault>
-    ensures { reading.GivesCertificate result (reading.ended (reading.read_value draft) line last.now) }
+    ensures { reading.GivesCertificate result (reading.ended
+        (reading.read_value draft) line last.now) }
 {
     match draft.stage {
         Progress::AtEnd if last.is_empty() => Ok(Cert {
@@ -43,7 +44,8 @@ fn finished(draft: Draft, line: u32, last: &[u8]) -> Result<Cert, CertFault>
 pub fn read<L: Legs>(alloc: Global, net: &Net, legs: &L, text: &[u8]) -> Result<Cert, CertFault>
     requires net { reading.IsNetworkOf net.now (L.seen legs.now) }
     requires few { length text.now ≤ MAX_TEXT_BYTES }
-    ensures value { reading.GivesCertificate result (reading.read_of net.now (L.seen legs.now) text.now) }
+    ensures value { reading.GivesCertificate result
+        (reading.read_of net.now (L.seen legs.now) text.now) }
     ensures cert { IfOk result (IsCert (L.seen legs.now)) }
 {
     let mut draft = Draft::new(alloc);

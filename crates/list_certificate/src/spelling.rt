@@ -77,7 +77,8 @@ fn append_placed(
 /// the name of its node after it. Only want of memory is an error. (own rule)
 pub fn append_state(net: &Net, state: State, out: &mut String) -> Result<(), AllocError>
     requires { IsKnown net.now state }
-    ensures { OnOk result (string_bytes out.new ≡ string_bytes out.old ++ state_text net.now state) }
+    ensures { OnOk result (string_bytes out.new
+        ≡ string_bytes out.old ++ state_text net.now state) }
 {
     match state.via {
         None => append_start(out),

@@ -53,7 +53,8 @@ not-before p q ps qs h rest =
     ]
 
 -- edges from one cell
-same-cell : (v : LegsValue) (cells : List Cell) (a b : CellEdge) (is_a : IsCellEdge v cells a) (is_b : IsCellEdge v cells b) → a.from ≡ b.from
+same-cell : (v : LegsValue) (cells : List Cell) (a b : CellEdge) (is_a : IsCellEdge v cells a) (is_b : IsCellEdge v cells b) → a.from
+    ≡ b.from
     → is_a.cell ≡ is_b.cell
 same-cell v cells a b is_a is_b e = some-same is_a.cell is_b.cell (sym is_a.from ∙ ap (slice_get cells) e ∙ is_b.from)
 
@@ -64,7 +65,8 @@ comes-by v cells cell sid hops None h =
 comes-by v cells cell sid hops (Some to) h =
     or_left (is_some (v.leg cell.position cell.via sid)) (is_some (v.finish cell.position cell.via sid)) (ap is_some h.2)
 
-pub sids-same : (v : LegsValue) → KeepsLaws v → (cells : List Cell) (a b : CellEdge) → IsCellEdge v cells a → IsCellEdge v cells b → a.from ≡ b.from
+pub sids-same : (v : LegsValue) → KeepsLaws v → (cells : List Cell) (a b : CellEdge) → IsCellEdge v cells a → IsCellEdge v cells b → a.from
+    ≡ b.from
     → (v.shape a.sid).prefix ≡ (v.shape b.sid).prefix → a.sid ≡ b.sid
 sids-same v laws cells a b is_a is_b from e =
     let cell = same-cell v cells a b is_a is_b from in

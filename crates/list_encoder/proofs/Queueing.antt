@@ -83,7 +83,8 @@ module _ (v : LegsValue) (cells : List Cell) (groups : Groups) (t0 t : Costs) (w
           is_edge = edge_fact.0;
           sound = so.sound;
           front = front-next;
-          early = let from = edge_fact.2 in let long = so.long in let same = length-set done k.place true in omega (arith, from, long, same);
+          early = let from = edge_fact.2 in let long = so.long in let same =
+              length-set done k.place true in omega (arith, from, long, same);
           rest_is = ap (λ (o : Option ℕ). rest_at t o (k.place % 8)) edge_fact.1 ∙ (ap (at t) place-is ∙ open-first.has);
           settled = subst (λ (o : Option ℕ). IsSettledAt (set done k.place true) o (k.place % 8)) (sym edge_fact.1)
               (ap (is_done (set done k.place true)) place-is ∙ done-same done k.place open-first.early);

@@ -110,7 +110,8 @@ room-open v stays via sid room from next is_from is_next free =
     ∙ sym (ap (λ (b : Bool). if b then None else room_behind stays (option_map v.shape via) room (v.shape sid)) free)
 
 pub leaves : (v : LegsValue) (cells : List Cell) (edge : CellEdge) (stays : Bool) (room : ℕ) (from : Option Shape) (next : Shape)
-    (p : Option ℕ) → IsShapeOf v cells edge.from from → next ≡ v.shape edge.sid → IsFree v cells edge stays → p ≡ room_behind stays from room next
+    (p : Option ℕ) → IsShapeOf v cells edge.from from → next ≡ v.shape edge.sid → IsFree v cells edge stays → p
+    ≡ room_behind stays from room next
     → LeavesRoom v cells edge stays room p
 leaves v cells edge stays room from next p is_from is_next free e cell here =
     e ∙ room-open v stays cell.via edge.sid room from next (is_from cell here) is_next (free cell here)
@@ -153,7 +154,8 @@ edge-barred v cells edge stays told is e barred cell room left here h =
 
 -- a barred edge lowers nothing
 pub rooms-barred : (v : LegsValue) (cells : List Cell) (edge : CellEdge) (stays told : Bool) (low high : ℕ) (t : Costs)
-    → IsCellEdge v cells edge → told ≡ (stays && bars v (get_or cells edge.from (record { position = 0; via = None })).via edge.sid) → told ≡ true → IsSound v cells t
+    → IsCellEdge v cells edge → told ≡ (stays && bars v (get_or cells edge.from (record { position = 0; via = None })).via edge.sid) → told
+    ≡ true → IsSound v cells t
     → RoomsRelaxed v cells edge stays low high t t false
 rooms-barred v cells edge stays told low high t is e barred sound =
     record {

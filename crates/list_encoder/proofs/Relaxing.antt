@@ -43,7 +43,8 @@ pub record EndsSoFar (v : LegsValue) (cells : List Cell) (k : ℕ) (before after
     Type 0 where
   pub sound : IsSound v cells after
   pub passed : Passed (k + 1) before after changed
-  pub holds : (edge : CellEdge) (i : ℕ) → edge.from ≡ k → edge.to ≡ None → IsCellEdge v cells edge → i < count → slice_get sids i ≡ Some edge.sid
+  pub holds : (edge : CellEdge) (i : ℕ) → edge.from ≡ k → edge.to ≡ None → IsCellEdge v cells edge → i < count → slice_get sids i
+      ≡ Some edge.sid
       → Holds v cells after edge
 
 pub ends-skip : (v : LegsValue) (cells : List Cell) (k : ℕ) (t0 t : Costs) (sids : List ℕ) (count sid : ℕ) (changed : Bool) (cell : Cell)
@@ -112,7 +113,8 @@ pub at-far : (P Q : Type 0) (to later : ℕ) → later ≤ to → MatchBool (nat
 at-far P Q to later h m = subst (λ (b : Bool). MatchBool b P Q) (le-ltb to later h) m
 
 -- what is known of a leg stays so in a later table, with more edges listed
-pub leg-stays : (v : LegsValue) (cells : List Cell) (k later to : ℕ) (t t1 : Costs) (edges more : List CellEdge) (edge : CellEdge) → k < later
+pub leg-stays : (v : LegsValue) (cells : List Cell) (k later to : ℕ) (t t1 : Costs) (edges more : List CellEdge) (edge : CellEdge)
+    → k < later
     → ((i : ℕ) → Under (at t1 i) (at t i)) → ((i : ℕ) → 8 * later ≤ i → at t1 i ≡ at t i) → Keeps edges more → edge.to ≡ Some to
     → MatchBool (nat_lt to later) (Contains edges edge) (Holds v cells t edge)
     → MatchBool (nat_lt to later) (Contains more edge) (Holds v cells t1 edge)
@@ -204,7 +206,8 @@ module _ (v : LegsValue) (cells : List Cell) (k first later end : ℕ) (t0 t : C
       }
 
 -- the first cells of a position
-pub record GatheredSoFar (v : LegsValue) (cells : List Cell) (first later k : ℕ) (before after : Costs) (edges : List CellEdge) : Type 0 where
+pub record GatheredSoFar (v : LegsValue) (cells : List Cell) (first later k : ℕ) (before after : Costs)
+    (edges : List CellEdge) : Type 0 where
   pub sound : IsSound v cells after
   pub falls : (i : ℕ) → Under (at after i) (at before i)
   pub above : (i : ℕ) → 8 * later ≤ i → at after i ≡ at before i

@@ -118,10 +118,6 @@ passed-then cell a b c x y h k =
     either-smaller true false f g l m e = subst (λ (s : Costs). total s < total a) (sym (g refl)) (l refl)
     either-smaller true true f g l m e = let p = l refl in let q = m refl in omega (arith, p, q)
 
-pub passed-wider : (cell more : ℕ) (a b : Costs) (x : Bool) → cell ≤ more → Passed cell a b x → Passed more a b x
-passed-wider cell more a b x h p =
-    record { falls = p.falls; later = λ i l. p.later i (omega (arith, h, l)); same = p.same; smaller = p.smaller }
-
 -- places of a table
 same-place : (j k r s : ℕ) → r < 8 → s < 8 → 8 * j + r ≡ 8 * k + s → (j ≡ k) × (r ≡ s)
 same-place j k r s h l e = (omega (arith, h, l, e), omega (arith, h, l, e))
@@ -172,7 +168,8 @@ module _ (v : LegsValue) (laws : KeepsLaws v) (cells : List Cell) where
       let p : 8 * to + left < 8 * length cells = place-within to left (length cells) w l in
       omega (arith, p, long)
 
-  pub edge-range : (t : Costs) (edge : CellEdge) (left : ℕ) → IsSound v cells t → IsCellEdge v cells edge → left < 8 → AreInRange t edge.to left
+  pub edge-range : (t : Costs) (edge : CellEdge) (left : ℕ) → IsSound v cells t → IsCellEdge v cells edge → left < 8
+      → AreInRange t edge.to left
   edge-range t edge left sound is h = to-range t is.cell edge.sid edge.hops left edge.to sound.long is.leads h
 
   rest-bounded : (t : Costs) (to : Option ℕ) (left : ℕ) (d : Cost) → IsSound v cells t → left < 8 → rest_at t to left ≡ Some d
@@ -182,7 +179,8 @@ module _ (v : LegsValue) (laws : KeepsLaws v) (cells : List Cell) where
       subst (λ (x : Cost). IsBounded (filled t) left x) same (bounded-nothing (filled t) left)
   rest-bounded t (Some to) left d sound h e = sound.bounded to left d h e
 
-  bounded-behind : (n left room hops : ℕ) (stays : Bool) (d : Cost) (o : Option ℕ) (edge : CellEdge) → IsCellEdge v cells edge → edge.hops ≡ hops
+  bounded-behind : (n left room hops : ℕ) (stays : Bool) (d : Cost) (o : Option ℕ) (edge : CellEdge) → IsCellEdge v cells edge → edge.hops
+      ≡ hops
       → room < 8
       → room_to v o room (move_by edge stays) ≡ Some left → IsBounded n left d
       → IsBounded (n + 1) room (plus (move_cost stays hops) d)
@@ -297,7 +295,8 @@ module _ (v : LegsValue) (laws : KeepsLaws v) (cells : List Cell) where
       omega (arith, bound, many, sound.long, few)
 
   -- lowering a room of an edge's first cell by what is left after the edge
-  module _ (are : AreCells v cells) (t : Costs) (edge : CellEdge) (stays : Bool) (room : ℕ) (o : Option ℕ) (left : ℕ) (is : IsCellEdge v cells edge)
+  module _ (are : AreCells v cells) (t : Costs) (edge : CellEdge) (stays : Bool) (room : ℕ) (o : Option ℕ) (left : ℕ)
+      (is : IsCellEdge v cells edge)
       (sound : IsSound v cells t) (low : room < 8) (leaves : LeavesRoom v cells edge stays room o) (some : o ≡ Some left) where
     pub room-is : room_to v is.cell.via room (move_by edge stays) ≡ Some left
     room-is = sym (leaves is.cell is.from) ∙ some

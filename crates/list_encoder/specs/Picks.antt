@@ -78,7 +78,8 @@ pub record PicksEnds (v : LegsValue) (cells : List Cell) (t : Costs) (spot : Spo
 -- of all legs from the cell
 pub record PicksLegs (v : LegsValue) (cells : List Cell) (t : Costs) (spot : Spot) (best : Option Pick) : Type 0 where
   pub found : IsPickOrNone v cells t spot best
-  pub covers : (edge : CellEdge) (to : ℕ) → edge.from ≡ spot.place → edge.to ≡ Some to → IsCellEdge v cells edge → CoversEdge v t spot best edge
+  pub covers : (edge : CellEdge) (to : ℕ) → edge.from ≡ spot.place → edge.to ≡ Some to → IsCellEdge v cells edge
+      → CoversEdge v t spot best edge
 
 -- of all edges from the cell
 pub record PicksFirst (v : LegsValue) (cells : List Cell) (t : Costs) (spot : Spot) (best : Option Pick) : Type 0 where

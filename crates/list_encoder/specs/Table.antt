@@ -112,7 +112,8 @@ pub record Relaxed (v : LegsValue) (cells : List Cell) (edge : CellEdge) (before
   pub passed : Passed (edge.from + 1) before after changed
   pub holds : EdgeHolds v cells edge before after
 
-pub record RoomRelaxed (v : LegsValue) (cells : List Cell) (edge : CellEdge) (before after : Costs) (stays : Bool) (room : ℕ) (left : Option ℕ)
+pub record RoomRelaxed (v : LegsValue) (cells : List Cell) (edge : CellEdge) (before after : Costs) (stays : Bool) (room : ℕ)
+    (left : Option ℕ)
     (changed : Bool) : Type 0 where
   pub sound : IsSound v cells after
   pub passed : Passed (edge.from + 1) before after changed

@@ -8,6 +8,7 @@
 #![tactic(auto)]
 
 mod cells;
+pub mod figures;
 mod grouped;
 mod listing;
 mod lowering;

@@ -178,8 +178,8 @@ pub fn edge_into<L: Legs>(legs: &L, cells: &[Cell], from: usize, to: usize) -> O
     })
 }
 
-/// the costs of a cell are lowered by the legs from it to later positions; those within its position
-/// are put after the others in the list
+/// the costs of a cell are lowered by the legs from it to later positions; those within its
+/// position are put after the others in the list
 fn relax_legs<L: Legs>(
     legs: &L,
     cells: &[Cell],

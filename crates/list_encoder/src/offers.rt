@@ -59,8 +59,8 @@ fn offer_room<L: Legs>(
 }
 
 /// some room of an edge's first cell may leave the offer's room; where it can't stay in the
-/// container with the most room that there may be, it can't with less, and it opens a container with
-/// some room in front as it does with any other
+/// container with the most room that there may be, it can't with less, and it opens a container
+/// with some room in front as it does with any other
 fn may_lead(offer: &Offer, from: &Option<Shape>, next: &Shape) -> bool
     requires { IsShape next.now }
     ensures { (room : ℕ) → room < 8 → room_behind offer.now.stays from.now room next.now

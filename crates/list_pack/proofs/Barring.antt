@@ -16,11 +16,6 @@ pub room-kept : (v : LegsValue) (via : Option ℕ) (room : ℕ) (m : Move) (q : 
 room-kept v via room m q e =
     (unbarred (m.stays && bars v via m.sid) (room_behind m.stays (option_map v.shape via) room (v.shape m.sid)) q e).1
 
--- no SID is barred from a new container
-pub room-new : (v : LegsValue) (via : Option ℕ) (room n : ℕ)
-    → room_to v via room (record { stays = false; sid = n }) ≡ room_behind false (option_map v.shape via) room (v.shape n)
-room-new v via room n = refl
-
 -- nor one that may stay
 pub room-stays : (v : LegsValue) (via n room : ℕ) → v.stays via n ≡ true
     → room_to v (Some via) room (record { stays = true; sid = n }) ≡ room_behind true (Some (v.shape via)) room (v.shape n)

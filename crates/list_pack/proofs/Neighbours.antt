@@ -1,7 +1,7 @@
 -- The tests of the rule on nested SIDs and what they mean.
-use Rattle.std.proofs.Common.{◌≡◌, ◌≢◌, ℕ, suc, ◌+◌, ◌-◌, ◌<◌, ◌≤◌, inl, inr, Bool, true, false, ◌==◌, ◌&&◌, List, [], ◌∷◌, length, drop, All, Option, Some, get_or, slice_get, Contains, refl, sym, ◌∙◌, ap, subst, arith}
+use Rattle.std.proofs.Common.{◌≡◌, ℕ, ◌+◌, ◌-◌, ◌<◌, ◌≤◌, inl, inr, Bool, true, false, ◌==◌, List, [], ◌∷◌, length, drop, All, Some, get_or, slice_get, Contains, sym, ◌∙◌, ap, subst, arith}
 use Rattle.std.specs.Prelude.{◌↔◌, IsTrue}
-use Rattle.std.proofs.lemmas.Bool.{cases_lt, and_parts, and_from, eqb-true, eq-eqb}
+use Rattle.std.proofs.lemmas.Bool.{cases_lt, eqb-true, eq-eqb}
 use Rattle.std.proofs.lemmas.Option.{same_Some, slice_get-get_or, slice_get_within}
 use Rattle.v6_addr.specs.Address.{PrefixValue}
 use Rattle.srv6_rules.specs.declared.sid.SidEntry.{SidEntry}
@@ -59,9 +59,6 @@ bars-is net next outer inner at b nest at_is b_is = (
       b_is ∙ eq-eqb _ _
       (ap (λ (n : ℕ). unit_at next n) less ∙ bars.same ∙ ap (λ (n : ℕ). unit_at inner.prefix n) (sym lbl)),
 )
-
-pub bars-room : (net : Network) (outer inner : SidEntry) → IsNest net outer inner → 32 ≤ inner.prefix.len
-bars-room net outer inner nest = omega (arith, nest.inner_len)
 
 -- ---- the SIDs on a prefix
 

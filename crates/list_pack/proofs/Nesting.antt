@@ -1,5 +1,5 @@
 -- The rule on nested SIDs, in the list of a path and after a REPLACE SID.
-use Rattle.std.proofs.Common.{◌≡◌, ℕ, ◌<◌, Bool, true, false, List, [], ◌∷◌, length, map, All, Option, Some, None, refl, sym, ◌∙◌, ap, subst}
+use Rattle.std.proofs.Common.{◌≡◌, ℕ, true, false, List, [], ◌∷◌, map, All, Option, Some, None, refl, sym, ◌∙◌, ap}
 use Rattle.std.specs.List.{slice_get}
 use Rattle.std.proofs.lemmas.Option.{slice_get-get_or}
 use Rattle.std.proofs.lemmas.List.Elements.{All-nil, All-cons}
@@ -10,12 +10,11 @@ use Rattle.srv6_rules.specs.declared.sid.SidEntry.{SidEntry}
 use Rattle.net_model.specs.Network.{Network}
 use Rattle.flat_networks.specs.Nests.{MayFollow}
 use Rattle.list_places.specs.Lists.{SidBlock}
-use Rattle.list_pack.specs.declared.types.Container.{Container}
 use Rattle.list_pack.specs.Value.{LegsValue, KeepsLaws}
 use Rattle.list_pack.specs.Costs.{Move, room_to}
 use Rattle.list_pack.specs.Paths.{sids_of_moves, may_move, SuitsLists}
 use Rattle.list_pack.specs.PathLists.{container_as, staying, asked_after, list_from}
-use Rattle.list_pack.specs.SidLists.{list_sid, prefix_csid, FollowOn, FollowIn, KeepsNests}
+use Rattle.list_pack.specs.SidLists.{list_sid, FollowOn, KeepsNests}
 use Rattle.list_pack.proofs.Barring.{room-free}
 use Rattle.list_pack.proofs.Hops.{HopsFrom, hops-here, hops-next, room-parts}
 use Rattle.list_pack.proofs.PathsToLists.{by-stays, steps_by}

@@ -31,10 +31,6 @@ next-fits : (lbl a b la lb room : ℕ) → la ≡ lbl + 16 * a → lb ≡ lbl + 
     → room - b ≤ (128 - lb) / 16
 next-fits lbl a b la lb room e f one h k = omega arith
 
--- a shape of a known kind of compression
-abbrev IsKind : Shape → Csid → Type 0
-IsKind s c = s.csid ≡ c
-
 stay-next : (s next : Shape) (room : ℕ) → IsShape s → IsShape next → (same_block s.block next.block ≡ true → ShareBlock s next)
     → s.csid ≡ Next
     → room ≤ top_room_by Next s → same_block s.block next.block ≡ true → units_of next ≤ room → (c : Csid) → next.csid ≡ c

@@ -101,7 +101,8 @@ goers-next sids p n s at left e =
 pub goers-found : (sids : List SidEntry) (p : PrefixValue) (n : ℕ) (s : SidEntry) → slice_get sids n ≡ Some s → GoersLeft sids p n
     → (same_prefix s.prefix p && goes_on s) ≡ true → true ≡ not (length (going_on (on_prefix sids p)) == 0)
 goers-found sids p n s at left e =
-    let all = left ∙ ap (λ (ss : List SidEntry). going_on (on_prefix ss p)) (drop-item sids n s at) ∙ going-take p s (drop (n + 1) sids) e in
+    let all = left ∙ ap (λ (ss : List SidEntry). going_on (on_prefix ss p)) (drop-item sids n s at)
+    ∙ going-take p s (drop (n + 1) sids) e in
     let some : (length (s ∷ going_on (on_prefix (drop (n + 1) sids) p)) == 0) ≡ false = ne_eqb _ 0 (λ e. omega (arith, e)) in
     sym (ap (λ (ss : List SidEntry). not (length ss == 0)) all ∙ ap not some)
 

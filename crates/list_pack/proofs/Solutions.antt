@@ -1,16 +1,14 @@
 -- What a search has to find is one.
-use Rattle.std.proofs.Common.{◌≡◌, ℕ, zero, suc, ◌<◌, ◌⊎◌, inl, inr, arith, Bool, true, false, if◌then◌else◌, List, [], ◌∷◌, length, map, Option, Some, None, Contains, AllPairs, refl, sym, ◌∙◌, ap, subst}
+use Rattle.std.proofs.Common.{◌≡◌, ℕ, zero, suc, ◌⊎◌, inl, inr, arith, Bool, true, false, if◌then◌else◌, List, [], ◌∷◌, map, Option, Some, Contains, AllPairs, refl, sym, ◌∙◌, ap, subst}
 use Rattle.std.proofs.lemmas.Bool.{false≢true}
-use Rattle.v6_addr.specs.Address.{PrefixValue}
 use Rattle.list_pack.specs.declared.types.Cost.{Cost}
 use Rattle.list_pack.specs.declared.types.State.{State}
 use Rattle.list_pack.specs.declared.types.PathStep.{PathStep}
 use Rattle.list_pack.specs.declared.types.Potential.{Potential}
 use Rattle.list_pack.specs.declared.types.Solution.{Solution}
-use Rattle.list_pack.specs.Order.{lex_before}
 use Rattle.list_pack.specs.Value.{LegsValue}
-use Rattle.list_pack.specs.Costs.{Move, AtMost, cost_of, Under, start}
-use Rattle.list_pack.specs.Least.{IsLeast, IsFirstLeast, IsBefore, IsListing, IsPath, IsPathOrNone, IsSolution, IsWithoutPath, path_key, path_before, state_key, step_of}
+use Rattle.list_pack.specs.Costs.{Move, AtMost, Under, start}
+use Rattle.list_pack.specs.Least.{IsLeast, IsFirstLeast, IsBefore, IsListing, IsPathOrNone, IsSolution, path_key, state_key, step_of}
 use Rattle.list_pack.proofs.Costing.{at_most-both}
 use Rattle.list_pack.proofs.Orders.{lex-itself, lex-not-both, lex-same}
 

@@ -7,7 +7,7 @@ use Rattle.std.proofs.lemmas.Option.{slice_get-get_or}
 use Rattle.v6_addr.specs.Address.{PrefixValue, field_of, with_field_of}
 use Rattle.v6_addr.proofs.PublicLaws.{same_below}
 use Rattle.srv6_rules.specs.Compressed.{IsCsidLen, csid_of, csid_count, downward, packed_entry, packed}
-use Rattle.list_pack.specs.SegmentValues.{FitBehind, HaveCsids}
+use Rattle.list_pack.specs.SegmentValues.{FitBehind}
 use Rattle.list_pack.proofs.SidLoops.{drop-item, drop-past}
 
 -- ---- full containers
@@ -125,10 +125,6 @@ pub csid-of-long : (b w : ℕ) (p : PrefixValue) → p.len ≡ b + w → field_o
 csid-of-long b w p e =
     let width : w ≡ p.len - b = omega (arith, e) in
     ap (λ (n : ℕ). field_of p.value b n) width
-
-pub packed-long : (b w : ℕ) (left more : List PrefixValue) (p : PrefixValue) → left ≡ p ∷ more → HaveCsids b w left
-    → (p.len ≡ b + w) × HaveCsids b w more
-packed-long b w left more p e long = subst (λ (ps : List PrefixValue). HaveCsids b w ps) e long
 
 pub packed-end : (b w value behind index : ℕ) (first : PrefixValue) (more : List PrefixValue) → IsCsidLen w
     → length (first ∷ more) ≤ csid_count w

@@ -1,5 +1,5 @@
 -- What legs mean: their paths are the legal lists of a network that realize what the legs are for.
-use Rattle.std.specs.Prelude.{◌≡◌, ℕ, ◌<◌, ◌≤◌, List, length, map, slice_get, Option, Some}
+use Rattle.std.specs.Prelude.{◌≡◌, ℕ, ◌<◌, ◌≤◌, List, length, map, slice_get, Some}
 use Rattle.srv6_rules.specs.declared.sid.SidEntry.{SidEntry}
 use Rattle.net_model.specs.Network.{Network}
 use Rattle.flat_networks.specs.Nests.{MayFollow}
@@ -28,7 +28,8 @@ AreSidsOf v net =
     (n : ℕ) → IsSid v n
     → (s : SidEntry) × (slice_get net.sids n ≡ Some s) × IsShapeOf net s (v.shape n) × (s.node ≡ v.node n)
 
--- the list of a path is legal, has the path's steps and containers, realizes with the path's hops as its need, and all its SIDs are executed
+-- the list of a path is legal, has the path's steps and containers, realizes with the path's hops as its need, and all its SIDs are
+-- executed
 pub record IsRealized (net : Network) (Realizes Executes : List Container → ℕ → Type 0) (path : List PathStep) (c : Cost) : Type 0 where
   pub of_path : IsListOfPath net path c.containers
   pub legal : IsLegalList net (list_of net path)

@@ -7,10 +7,10 @@
 //! as its leg lowers the hop limit. The last edge is a finish, which exposes the packet inside.
 //! Costs are compared by containers first, then by hops.
 //!
-//! A path of states is a legal list of containers, and the other way round: `list_of` makes the list
-//! of a path, `values` the segments of a legal list over SIDs of a flat network, `is_legal` tells
-//! whether a list is legal in a network, `flavour_of` how the SIDs on a prefix are compressed, and
-//! `header_bytes` how many bytes of headers a list takes.
+//! A path of states is a legal list of containers, and the other way round: `list_of` makes the
+//! list of a path, `values` the segments of a legal list over SIDs of a flat network, `is_legal`
+//! tells whether a list is legal in a network, `flavour_of` how the SIDs on a prefix are
+//! compressed, and `header_bytes` how many bytes of headers a list takes.
 //!
 //! `specs/Value.antt` has legs and their laws, `specs/Meaning.antt` what it is that legs mean
 //! lists, `specs/Rooms.antt` the rooms of containers (RFC 9800 sections 4.1 and 4.2),
@@ -18,9 +18,9 @@
 //! `specs/Least.antt` what a least cost, a good potential, the first least path and a whole
 //! solution are. `specs/SidLists.antt` has the lists of a network's prefixes and which are legal,
 //! `specs/PathLists.antt` the list of a path, `specs/Paths.antt` a path's cost by rooms and legs
-//! apart; `specs/OpenContainers.antt`, `specs/Barred.antt` and
-//! `specs/SegmentValues.antt` are what the code of `is_legal` and of `values` goes by. The functions of `laws` do nothing: their contracts are the
-//! laws by which certificates are judged, and that paths are legal lists.
+//! apart; `specs/OpenContainers.antt`, `specs/Barred.antt` and `specs/SegmentValues.antt` are what
+//! the code of `is_legal` and of `values` goes by. The functions of `laws` do nothing: their
+//! contracts are the laws by which certificates are judged, and that paths are legal lists.
 #![tactic(auto)]
 
 mod costs;

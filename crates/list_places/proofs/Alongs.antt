@@ -172,7 +172,8 @@ stays_not e allow t x hop p q a on stays is = by (behind_of x) refl
         (sym (along-before e allow t x hop p c cs a on stays more) ∙ is)
 
 -- so a packet that goes on stands at the next place
-pub along-only : (e : SidEntry) (allow : List ℕ) (t : Tunnel) (x : ListPlace) (hop : ℕ) (p q : Packet) → Along t x hop p → StandsOn e (active x)
+pub along-only : (e : SidEntry) (allow : List ℕ) (t : Tunnel) (x : ListPlace) (hop : ℕ) (p q : Packet) → Along t x hop p
+    → StandsOn e (active x)
     → at_sid e allow p ≡ Onward q → (1 < hop) × (y : ListPlace) × (next_of x ≡ Some y) × Along t y (hop - 1) q
 along-only e allow t x hop p q a on is = elim (cases_Bool (goes_on e)) [
   | inl goes ↦ by goes (next_of x) refl

@@ -130,7 +130,8 @@ refuses-before e allow t x routed hop c cs stays on lacking more =
     ]
 
 -- one of REPLACE-CSID at a CSID that is not the last
-pub refuses-in : (e : SidEntry) (allow : List ℕ) (t : Tunnel) (x : ListPlace) (routed : Bool) (hop : ℕ) → goes_on e ≡ false → e.csid ≡ Replace
+pub refuses-in : (e : SidEntry) (allow : List ℕ) (t : Tunnel) (x : ListPlace) (routed : Bool) (hop : ℕ) → goes_on e ≡ false → e.csid
+    ≡ Replace
     → StandsOn e (active x) → IsPlace x → IsListed x (list_of t) → (routed ≡ false → may_lack x ≡ true) → may_lack x ≡ false
     → at_sid e allow (form t x routed hop) ≡ Refused reasons.BadSegments (header_len + segments_left_at)
 refuses-in e allow t (InFull s ss []) routed hop stays replace on is listed lacking needs = cc
@@ -176,7 +177,8 @@ leads-never_exposed e allow t x y routed hop family bytes leads shows = elim (ca
     refused_not e = cc
 
 -- a packet is exposed in the last container only
-pub exposed-in_last : (e : SidEntry) (allow : List ℕ) (t : Tunnel) (x : ListPlace) (routed : Bool) (hop : ℕ) (family : Family) (bytes : List ℕ)
+pub exposed-in_last : (e : SidEntry) (allow : List ℕ) (t : Tunnel) (x : ListPlace) (routed : Bool) (hop : ℕ) (family : Family)
+    (bytes : List ℕ)
     → StandsOn e (active x) → IsPlace x → IsListed x (list_of t) → (routed ≡ false → may_lack x ≡ true)
     → at_sid e allow (form t x routed hop) ≡ Exposed family bytes → behind_of x ≡ []
 exposed-in_last e allow t x routed hop family bytes on is listed lacking shows = by (behind_of x) refl

@@ -1,7 +1,7 @@
 -- SIDs of a flat network in containers.
 use Rattle.std.proofs.Common.{◌≡◌, inl, inr, ℕ, ◌+◌, ◌-◌, ◌/◌, ◌^◌, ◌<◌, ◌≤◌, List, [], ◌∷◌, ◌++◌, length, map, All, Option, Some, None, refl, sym, ◌∙◌, ap, subst, arith}
 use Rattle.std.proofs.lemmas.List.{length-map}
-use Rattle.std.proofs.lemmas.List.Elements.{All-nil, All-cons, All-head, All-tail, All-map}
+use Rattle.std.proofs.lemmas.List.Elements.{All-head, All-tail, All-map}
 use Rattle.v6_addr.specs.Address.{Holds}
 use Rattle.v6_addr.proofs.PublicLaws.{Holds_own_value}
 use Rattle.srv6_rules.specs.declared.sid.Csid.{Csid}
@@ -12,11 +12,6 @@ use Rattle.srv6_rules.proofs.PublicLaws.{container-holds, container-address, con
 use Rattle.list_places.specs.Lists.{SidBlock, ListSid, block_len, compression, csid_len, csid_bits, prefix_of, full_value, packed_value, IsFull, IsPacked, IsInBlock, SuitsBlock, IsFlatSid}
 
 -- ---- lists
-
-pub all_left : {X : Type 0} (P : X → Type 0) (xs ys : List X) → All P (xs ++ ys) → All P xs
-all_left P [] ys all = All-nil P
-all_left P (x ∷ xs) ys all =
-    All-cons P x xs (All-head P x (xs ++ ys) all) (all_left P xs ys (All-tail P x (xs ++ ys) all))
 
 pub all_right : {X : Type 0} (P : X → Type 0) (xs ys : List X) → All P (xs ++ ys) → All P ys
 all_right P [] ys all = all

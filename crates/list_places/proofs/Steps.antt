@@ -39,9 +39,6 @@ own_family V6 = refl
 own_family V4 = refl
 
 module _ (t : Tunnel) where
-  pub entries : List ℕ
-  entries = segment_list t.encapsulation
-
   length-body : (left : ℕ) → length (header_with t left).body ≡ 8 * (header_with t left).extension_len
   length-body left = length-entries (segment_list t.encapsulation) ∙ omega arith
 

@@ -7,7 +7,7 @@ use net_model::{Block, Link, Name, NamedPolicy, Node, Route};
 use srv6_rules::{Policy, SidEntry};
 use std::alloc::{AllocError, Global};
 
-/// What can be copied where there is memory.
+/// What can be copied where there is memory (own rule).
 pub trait Copied {
     /// The same once more, in memory of its own (own rule).
     fn copied(&self, alloc: Global) -> Result<Self, AllocError>

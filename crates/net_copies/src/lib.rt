@@ -1,7 +1,7 @@
 //! Copies of the parts of a network, in memory of their own.
 //!
-//! A network holds its parts, and lends them. What makes another network of them, such as the one that
-//! has the entries of two descriptions, takes a copy.
+//! A network holds its parts, and lends them. What makes another network of them, such as the one
+//! that has the entries of two descriptions, takes a copy.
 #![tactic(auto)]
 
 mod copies;

@@ -177,7 +177,14 @@ by_route : (net : Network) (node table : ℕ) (family : Family) (e : Entry) → 
 by_route net node table family e c =
     let (i, r, at, of, in_table, of_family, is) = route_means node table family 0 net.routes e c in
     let same : i ≡ 0 + i = omega arith in
-    subst (IsAnyEntry net node table family) (sym is) (r, subst (λ k. slice_get net.routes k ≡ Some r) same at, of, in_table, of_family, refl)
+    subst (IsAnyEntry net node table family) (sym is) (
+      r,
+      subst (λ k. slice_get net.routes k ≡ Some r) same at,
+      of,
+      in_table,
+      of_family,
+      refl,
+    )
 
 -- the table with the node's SIDs is table 0 of IPv6
 has_sids-is : (table : ℕ) (family : Family) → has_sids table family ≡ true → (table ≡ 0) × (family ≡ families.V6)

@@ -74,7 +74,8 @@ route_flag : (k : ℕ) (sids routes : List Bool)
     → is_shown (flagged hits.Sid 0 sids ++ flagged hits.Route 0 routes) (hits.Route k) ≡ not (get_or routes k false)
 route_flag k sids routes =
     ap not (any_append (same_hit (hits.Route k)) (flagged hits.Sid 0 sids) (flagged hits.Route 0 routes)
-    ∙ (ap (λ b. b || list_any (same_hit (hits.Route k)) (flagged hits.Route 0 routes)) (other_flags hits.Sid (hits.Route k) (λ n. refl) 0 sids)
+    ∙ (ap (λ b. b || list_any (same_hit (hits.Route k)) (flagged hits.Route 0 routes))
+    (other_flags hits.Sid (hits.Route k) (λ n. refl) 0 sids)
     ∙ flag_here hits.Route (λ m n. refl) k routes))
 
 pub other_shown : (h : Hit) (sids routes : List Bool) → ((n : ℕ) → same_hit h (hits.Sid n) ≡ false)
@@ -173,7 +174,8 @@ module _ (p : NetParts) (old new : Hidden) (flag : Bool) where
       record { same = refl; there = marked_there entry there flags is; others = marked_others entry is }
 
 -- a flag that is cleared and set again is as it was
-set_back : (flags : List Bool) (n : ℕ) (b c : Bool) → n < length flags → get_or flags n false ≡ b → slice_set (slice_set flags n c) n b ≡ flags
+set_back : (flags : List Bool) (n : ℕ) (b c : Bool) → n < length flags → get_or flags n false ≡ b → slice_set (slice_set flags n c) n b
+    ≡ flags
 set_back [] n b c within is = absurd (omega (arith, within))
 set_back (f ∷ fs) zero b c within is = ap (λ g. g ∷ fs) (sym is)
 set_back (f ∷ fs) (suc n) b c within is = ap (λ gs. f ∷ gs) (set_back fs n b c (omega (arith, within)) is)

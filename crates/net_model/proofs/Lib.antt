@@ -2,7 +2,6 @@ pub mod ListLemmas
 pub mod TitleLemmas
 pub mod KeepsLemmas
 pub mod NamedLemmas
-pub mod BestLemmas
 pub mod EntryLemmas
 pub mod IsBestLemmas
 pub mod FindLemmas

@@ -123,6 +123,7 @@ are_tables net sids nodes routes tables whole_net is_sids is_nodes is_routes ans
     λ i. (entries_from sid_entry 0 (is_sids i) ++ entries_from address_entry 0 (is_nodes i)) ++ entries_from route_entry 0 (is_routes i) in
     let whole = same ∙ append_assoc (entries_from sid_entry 0 net.sids) (entries_from address_entry 0 net.nodes)
     (entries_from route_entry 0 net.routes) in
-    subst (λ (es : List Entry). IsExact es (table_at tables node table family)) (all_at net node table family ∙ sym (whole_entries net node table family whole_net))
+    subst (λ (es : List Entry). IsExact es (table_at tables node table family))
+    (all_at net node table family ∙ sym (whole_entries net node table family whole_net))
     (subst (λ (es : List TableEntry). IsExact (entries_at es node table family) (table_at tables node table family)) whole
     (answers node table family))

@@ -282,7 +282,8 @@ some_unwrapped (Some k) h d some is = ap Some is
 pub unchanged_tables : (net : Network) (before after : BTreeMap TableKey HitTable) → map.IsUnchanged before after → AreTables net before
     → AreTables net after
 unchanged_tables net before after same are node table family q =
-    ap (λ (es : List (TableKey × HitTable)). value_at (unwrap_or (lookup (λ k. is_eq (table_key_cmp (table_key node table family) k)) es) []) q) same
+    ap (λ (es : List (TableKey × HitTable)). value_at (unwrap_or (lookup (λ k. is_eq (table_key_cmp (table_key node table family) k)) es)
+    []) q) same
     ∙ are node table family q
 
 -- ---- a table found by its key

@@ -1,4 +1,4 @@
--- The entries of a node's table, and the one that fits an address best.
+-- The entries of a node's table, and the one that fits an address best: the longest prefix (RFC 1812 section 5.2.4.3, rule 2).
 use Rattle.std.specs.Prelude.{◌≡◌, ℕ, Bool, false, ◌+◌, ◌≤◌, ◌==◌, ◌&&◌, nat_lt, if◌then◌else◌, List, [], ◌∷◌, ◌++◌, slice_get, Option, Some, None, Contains}
 use Rattle.v6_addr.specs.Address.{PrefixValue, Holds, holds_address}
 use Rattle.srv6_rules.specs.declared.sid.Family.{Family}
@@ -56,7 +56,7 @@ all_entries_of net node table family =
 abbrev pub entries_of : Network → ℕ → ℕ → Family → List Entry
 entries_of net node table family = filter (λ e. is_shown net.hidden e.hit) (all_entries_of net node table family)
 
--- at equal prefixes a SID comes before the address, and the address before a route
+-- at equal prefixes a SID comes before the address, and the address before a route (own rule)
 abbrev pub rank_of : Hit → ℕ
 rank_of (hits.Sid n) = 0
 rank_of hits.Address = 1

@@ -1,4 +1,4 @@
--- A network as the lists of its parts, in the order of its description, and what of it is hidden.
+-- A network as the lists of its parts, in the order of its description, and what of it is hidden (own rules).
 use Rattle.std.specs.Prelude.{◌≡◌, ℕ, ◌+◌, Bool, true, false, ◌==◌, not, if◌then◌else◌, List, [], ◌∷◌, ◌++◌, length, slice_get, slice_set, IsSome}
 use Rattle.std.specs.List.{list_any}
 use Rattle.srv6_rules.specs.declared.sid.SidEntry.{SidEntry}

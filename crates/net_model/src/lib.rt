@@ -46,4 +46,4 @@ pub use parts::{Block, BlockKind, Link, Name, NamedPolicy, NetParts, Node, Route
 pub use range::are_in_range;
 pub use rules::{block_of, is_name, same_family, same_prefix};
 pub use standing::Standing;
-pub use tables::whole;
+pub use tables::address_prefix;

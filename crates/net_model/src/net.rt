@@ -174,8 +174,8 @@ impl Net {
         }
     }
 
-    /// That the network keeps the rules and is in range, as it was built: an empty function, for the
-    /// callers' proofs (own rules).
+    /// That the network keeps the rules and is in range, as it was built: an empty function, for
+    /// the callers' proofs (own rules).
     pub fn keeps_rules(&self)
         ensures network { IsNetwork self.now }
         ensures range { InRange self.now }

@@ -265,15 +265,14 @@ pub(crate) fn is_prefix_of(family: Family, p: &Prefix) -> bool
     }
 }
 
-/// Whether two families are one.
-/// Whether two families are one.
+/// Whether two families are one (own rule).
 pub fn same_family(a: Family, b: Family) -> bool
     ensures { result ≡ same_family a b }
 {
     a == b
 }
 
-/// Whether two prefixes are one: the same value and the same length.
+/// Whether two prefixes are one: the same value and the same length (own rule).
 pub fn same_prefix(p: &Prefix, q: &Prefix) -> bool
     ensures { result ≡ same_prefix p.now q.now }
 {

@@ -81,8 +81,8 @@ impl Listed for SidEntry {
     }
 }
 
-/// An address as a prefix of all its bits.
-pub fn whole(a: Addr) -> Prefix
+/// An address as a prefix of all its 128 bits (own rule).
+pub fn address_prefix(a: Addr) -> Prefix
     ensures { result ≡ record { value = a.value; len = 128 } }
 {
     match Prefix::new(a, 128) {
@@ -100,7 +100,7 @@ impl Listed for Node {
             table: 0,
             family: Family::V6,
             hit: Hit::Address,
-            prefix: whole(self.address),
+            prefix: address_prefix(self.address),
         }
     }
 }

@@ -178,7 +178,8 @@ yields-link p t =
     yields-behind P (needed name_in p known keys.From) _ (λ from.
     yields-behind P (optional (given name_in) None p known keys.To) _ (λ to.
     yields-next (IsWithin MIN_LINK_MTU MAX_LINK_MTU) P (optional (number_in MIN_LINK_MTU MAX_LINK_MTU) MAX_LINK_MTU p known keys.Mtu) _
-    (yields-optional (IsWithin MIN_LINK_MTU MAX_LINK_MTU) (number_in MIN_LINK_MTU MAX_LINK_MTU) MAX_LINK_MTU (yields-number MIN_LINK_MTU MAX_LINK_MTU) refl p known keys.Mtu)
+    (yields-optional (IsWithin MIN_LINK_MTU MAX_LINK_MTU) (number_in MIN_LINK_MTU MAX_LINK_MTU) MAX_LINK_MTU
+    (yields-number MIN_LINK_MTU MAX_LINK_MTU) refl p known keys.Mtu)
     (λ mtu within. and_from _ _ named within)))))
 
 yields-route : (p : FaultPlace) (t : Members) → Yields (λ r. route_fits r ≡ true) (route_of p t)

@@ -1,12 +1,12 @@
 -- SIDs joined one after another, with the numbers of their titles.
-use Rattle.std.proofs.Common.{◌≡◌, ℕ, ◌+◌, ◌<◌, ◌≤◌, List, [], ◌∷◌, ◌++◌, length, take, get_or, option_to_list, Option, Some, None, refl, sym, ap, subst, ◌∙◌, length-append, arith}
+use Rattle.std.proofs.Common.{◌≡◌, ℕ, ◌+◌, ◌<◌, ◌≤◌, List, [], ◌∷◌, ◌++◌, length, take, get_or, option_to_list, Option, Some, None, refl, sym, ap, ◌∙◌, length-append, arith}
 use Rattle.std.specs.List.{cons_option, filter_map}
 use Rattle.std.proofs.lemmas.List.{take_more}
 use Rattle.std.proofs.lemmas.List.Elements.{filter_map-append}
 use Rattle.srv6_rules.specs.declared.sid.SidEntry.{SidEntry}
 use Rattle.net_model.specs.declared.parts.Block.{Block}
 use Rattle.net_words.specs.declared.sid.DescribedSid.{DescribedSid}
-use Rattle.net_reader.specs.Joining.{title_in, title_number, behind_title, joined_sid, joined_sids}
+use Rattle.net_reader.specs.Joining.{title_in, behind_title, joined_sid, joined_sids}
 
 -- how many titles the first title adds
 titles_counted : (n : ℕ) (title : Option (List ℕ)) (titles : List (List ℕ))

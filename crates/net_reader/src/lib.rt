@@ -7,8 +7,8 @@
 //! on the text. The laws about the definitions are the contracts of empty functions.
 //!
 //! `join` puts numbers in place of names. An item's number is its place among the items of its
-//! kind, counted from 0; the number of a name that none has is their count, so that it is told apart
-//! when the parts are judged. `Numbering` has the names of items, read once into a map.
+//! kind, counted from 0; the number of a name that none has is their count, so that it is told
+//! apart when the parts are judged. `Numbering` has the names of items, read once into a map.
 #![tactic(auto)]
 
 mod joining;

@@ -1,7 +1,7 @@
 -- What the tree of a description says, or its first fault, in the written order (own rules). A table is a row of keys; names
 -- stay texts, since whether they are known is judged later.
 use Rattle.std.specs.Prelude.{ℕ, pos, nat_le, if◌then◌else◌, List, [], ◌∷◌, None, Result, Ok, Err}
-use Rattle.toml.specs.Data.{Data, Members, get_member}
+use Rattle.toml.specs.Data.{Data, Members}
 use Rattle.text_faults.specs.declared.place.FaultPlace.{FaultPlace}
 use Rattle.text_faults.specs.declared.place.Key.{Key}
 use Rattle.text_faults.specs.declared.place.Key.TheVariants as keys

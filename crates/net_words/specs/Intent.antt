@@ -1,6 +1,6 @@
 -- What the tree of an intent says, or its first fault, in the written order (own rules). Names stay texts, since whether they
 -- are known is judged later.
-use Rattle.std.specs.Prelude.{ℕ, suc, pos, nat_le, if◌then◌else◌, List, [], ◌∷◌, length, Option, Some, None, Result, Ok, Err}
+use Rattle.std.specs.Prelude.{ℕ, pos, nat_le, if◌then◌else◌, List, [], ◌∷◌, length, Option, Some, None, Result, Ok, Err}
 use Rattle.toml.specs.Data.{Data, Members, get_member}
 use Rattle.text_faults.specs.declared.place.FaultPlace.{FaultPlace}
 use Rattle.text_faults.specs.declared.place.Key.{Key}

@@ -47,7 +47,7 @@ pub struct DescribedIntent {
     pub traffic_class: u8,
     /// The flow label of the outer header, a number of 20 bits; by default 0.
     pub flow_label: u32,
-    /// What is crossed, in order: 1 to 48 steps.
+    /// What is crossed, executed and reached, in order: 1 to 48 steps.
     pub steps: Seq<DescribedStep>,
 }
 

@@ -1,9 +1,9 @@
 //! What a description and an intent say, or their first fault of shape.
 //!
-//! `read_description` and `read_intent_words` read a text: first as TOML, and then its tree, table by
-//! table, item by item and key by key, in one written order. What they give holds names as texts:
-//! whether a name is known, and whether parts fit one another, is judged later. `specs/` has the
-//! same order as functions on the tree, and each call here gives exactly what they give.
+//! `read_description` and `read_intent_words` read a text: first as TOML, and then its tree, table
+//! by table, item by item and key by key, in one written order. What they give holds names as
+//! texts: whether a name is known, and whether parts fit one another, is judged later. `specs/` has
+//! the same order as functions on the tree, and each call here gives exactly what they give.
 #![tactic(auto)]
 
 mod block;

@@ -1,5 +1,5 @@
 -- A policy's header put in front of a packet in its own bytes, at a SID that binds the policy.
-use Rattle.std.proofs.Common.{◌≡◌, ℕ, ◌+◌, ◌<◌, ◌≤◌, Bool, true, false, nat_lt, List, Some, length, slice_get, refl, sym, ap, ◌∙◌, arith, inl, inr}
+use Rattle.std.proofs.Common.{◌≡◌, ℕ, ◌+◌, ◌<◌, ◌≤◌, Bool, true, false, nat_lt, List, Some, length, slice_get, is_some, refl, sym, ap, subst, ◌∙◌, arith, inl, inr}
 use Rattle.std.specs.Prelude.{Err}
 use Rattle.std.proofs.lemmas.Bool.{cases_Bool}
 use Rattle.srv6_rules.specs.declared.numbers.TheConstants.{MAX_PACKET_LEN}
@@ -15,13 +15,13 @@ use Rattle.srv6_rules.specs.Policies.{Encapsulating, IsPolicy, Outer, TooBig, pu
 use Rattle.srv6_rules.proofs.PublicLaws.{at_sid-shorter}
 use Rattle.net_model.specs.Network.{Network}
 use Rattle.net_model.specs.declared.parts.NamedPolicy.{NamedPolicy}
-use Rattle.walk_rules.specs.Treatment.{dropped, pushed_at_sid, bound_at_sid, onward_at_sid, treated_at_sid}
+use Rattle.walk_rules.specs.Treatment.{Gave, dropped, pushed_at_sid, bound_at_sid, onward_at_sid, treated_at_sid}
 use Rattle.endpoint_chain.specs.Outcomes.{HoldsAlone}
 use Rattle.endpoint_chain.proofs.PublicLaws.{alone-length, alone-most}
 use Rattle.policy_encap.specs.Answers.{IsPushed, judged_by}
 use Rattle.policy_encap.specs.declared.faults.PushFault.{PushFault}
 use Rattle.policy_encap.specs.declared.faults.PushFault.TheVariants as pushing
-use Rattle.node_stage.specs.Staging.{IsBigAfter}
+use Rattle.node_stage.specs.Staging.{BindsPolicy, IsBigAfter, PutsPolicy}
 
 -- the longest header of a policy
 header-most : (reduced : Bool) (n : ℕ) → n ≤ 127 → header_bytes reduced n ≤ 2080
@@ -74,3 +74,21 @@ dropped-big net node n s allow p number named policy binds there is big =
     ∙ sym (ap (bound_at_sid net node n s.behaviour p q) there)
     ∙ sym (ap (onward_at_sid net node n s.behaviour p q) binds)
     ∙ ap (treated_at_sid net node n s.behaviour p) (sym big.1.0)
+
+-- where the header makes the packet none too long, the packet goes on from the SID
+pub goes-on-bound : (net : Network) (node n : ℕ) (s : SidEntry) (allow : List ℕ) (p : Packet) (number : ℕ) (named : NamedPolicy)
+    (policy : Policy) → slice_get net.sids n ≡ Some s → behaviour_policy s.behaviour ≡ Some number
+    → slice_get net.policies number ≡ Some named → policy ≡ named.policy
+    → IsBigAfter (at_sid s allow p) policy (behaviour_reduces s.behaviour) (Some false)
+    → PutsPolicy net (treated_at_sid net node n s.behaviour p (at_sid s allow p)).outcome
+goes-on-bound net node n s allow p number named policy at binds there is fits =
+    let q : Packet = fits.0 in
+    let e : Encapsulating = Outer fits.1.1.0 in
+    let by : pushed_by named.policy (behaviour_reduces s.behaviour) families.V6 (spelling q) ≡ e =
+    ap (λ (x : Policy). pushed_by x (behaviour_reduces s.behaviour) families.V6 (spelling q)) (sym is) ∙ fits.1.1.1 in
+    let gave : pushed_at_sid net node n s.behaviour p e ≡ treated_at_sid net node n s.behaviour p (at_sid s allow p) =
+    ap (pushed_at_sid net node n s.behaviour p) (sym by)
+    ∙ sym (ap (bound_at_sid net node n s.behaviour p q) there)
+    ∙ sym (ap (onward_at_sid net node n s.behaviour p q) binds)
+    ∙ ap (treated_at_sid net node n s.behaviour p) (sym fits.1.0) in
+    subst (λ (g : Gave). PutsPolicy net g.outcome) gave (subst BindsPolicy (sym at) (ap is_some binds))

@@ -36,7 +36,8 @@ not-next csids.Replace other = refl
 
 -- ---- what came of a packet, by the outcome
 
-pub comes-on : (e : Endpoint) (old new : List ℕ) (outcome : EndOutcome) → outcome ≡ ends.On → ComesOf e old new outcome → Leaves e Onward new
+pub comes-on : (e : Endpoint) (old new : List ℕ) (outcome : EndOutcome) → outcome ≡ ends.On → ComesOf e old new outcome
+    → Leaves e Onward new
 comes-on e old new outcome is h = let P : EndOutcome → Type 0 = λ o. ComesOf e old new o in subst P is h
 
 pub comes-here : (e : Endpoint) (old new : List ℕ) (outcome : EndOutcome) → outcome ≡ ends.Local → ComesOf e old new outcome

@@ -92,7 +92,8 @@ sid-stages net node n s allow old p staged same room gave front =
     subst Q room (subst P same (gave, front))
 
 -- what is told of a drop stands there as before
-pub front-told : (net : Network) (node : ℕ) (before kept : FrontedContent) (staged : Staged) (told : Told) (reason : Reason) (detail : ℕ) (error : Bool)
+pub front-told : (net : Network) (node : ℕ) (before kept : FrontedContent) (staged : Staged) (told : Told) (reason : Reason) (detail : ℕ)
+    (error : Bool)
     → staged ≡ Drops reason detail kept → FrontOf net node before staged → told.after ≡ kept → told.outcome ≡ outcomes.Drop reason error
     → told.after.front ≡ front_after net node before told.outcome
 front-told net node before kept staged told reason detail error is front after out =

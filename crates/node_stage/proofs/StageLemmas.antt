@@ -39,7 +39,8 @@ pub tells_same : (told : Told) (slot : List ℕ) (one two : Gave) → one ≡ tw
 tells_same told slot one two same h = let P : Gave → Type 0 = λ g. Tells told slot g in subst P same h
 
 -- the node's own address is the one from which the error goes
-pub drops_from : (net : Network) (node : ℕ) (n : Node) (reason : Reason) (detail : ℕ) (content : Content) → slice_get net.nodes node ≡ Some n
+pub drops_from : (net : Network) (node : ℕ) (n : Node) (reason : Reason) (detail : ℕ) (content : Content) → slice_get net.nodes node
+    ≡ Some n
     → dropped_from n.address.value reason detail content ≡ dropped net node reason detail content
 unfolding error_of
 drops_from net node n reason detail content is = rw is refl
@@ -64,7 +65,8 @@ module _ (net : Network) (place : Place) (content : Content) (choice : ℕ) (tol
   pub told_tells : Tells told slot step → TellsOfError told.outcome step.error
   told_tells h = subst (λ (o : Outcome). TellsOfError o step.error) (sym h.0) (step-tells net place content choice)
 
-  pub told_relation : Keeps net → IsPlace net place → Tells told slot step → IsStage net place content told.outcome told.after.content step.error
+  pub told_relation : Keeps net → IsPlace net place → Tells told slot step
+      → IsStage net place content told.outcome told.after.content step.error
   told_relation keeps is h = stage_of_relation net place content choice gave keeps is (gave_is told slot step h)
 
   pub told_place : Keeps net → IsPlace net place → Tells told slot step → IfSome (next_place net place told.outcome) (IsPlace net)

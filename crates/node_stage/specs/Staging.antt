@@ -1,12 +1,15 @@
 -- What a stage of the code gives and tells.
-use Rattle.std.specs.Prelude.{◌≡◌, ◌≢◌, ℕ, ◌<◌, Bool, true, false, List, is_some, Option, Some, None, Result, Ok, Err}
+use Rattle.std.specs.Prelude.{◌≡◌, ◌≢◌, ℕ, ◌<◌, Bool, true, false, List, slice_get, is_some, IsSome, Option, Some, None, Result, Ok, Err}
+use Rattle.srv6_rules.specs.Behaviours.{behaviour_policy}
 use Rattle.srv6_rules.specs.declared.sid.Reason.{Reason}
+use Rattle.srv6_rules.specs.declared.sid.SidEntry.{SidEntry}
 use Rattle.srv6_rules.specs.declared.policy.Policy.{Policy}
 use Rattle.srv6_rules.specs.declared.sid.Family.TheVariants as families
 use Rattle.srv6_rules.specs.Endpoint.{Endpoint, Onward}
 use Rattle.srv6_rules.specs.Packet.{Content, Packet, spelling}
 use Rattle.srv6_rules.specs.Policies.{Outer, TooBig, pushed_by}
 use Rattle.net_model.specs.Network.{Network}
+use Rattle.walk_rules.specs.declared.place.Outcome.{Outcome}
 use Rattle.walk_rules.specs.declared.place.Outcome.TheVariants as outcomes
 use Rattle.walk_rules.specs.Treatment.{Gave, dropped, error_from, goes}
 use Rattle.icmp6_errors.specs.Answer.{error_bytes}
@@ -40,15 +43,31 @@ dropped_from from reason detail content =
 abbrev pub Tells : Told → List ℕ → Gave → Type 0
 Tells told slot gave = (told.outcome ≡ gave.outcome) × (told.after.content ≡ gave.after) × (slot ≡ error_bytes gave.error)
 
--- what a stage gives, or, for want of memory, what stood there before, with less room than the longest header of a policy takes
+-- a SID is there and binds a policy (RFC 8986 sections 4.13 and 4.14)
+abbrev pub BindsPolicy : Option SidEntry → Type 0
+BindsPolicy None = ⊥
+BindsPolicy (Some s) = IsSome (behaviour_policy s.behaviour)
+
+-- a packet goes on from a SID that binds a policy, whose header is put in front of it: what alone takes memory (own rule)
+abbrev pub PutsPolicy : Network → Outcome → Type 0
+PutsPolicy net (outcomes.Again sid how) = BindsPolicy (slice_get net.sids sid)
+PutsPolicy net (outcomes.Hand sid how family) = ⊥
+PutsPolicy net (outcomes.Send link) = ⊥
+PutsPolicy net outcomes.Local = ⊥
+PutsPolicy net (outcomes.Drop reason error) = ⊥
+
+-- what a stage gives, or, for want of memory, what stood there before, where a policy's header is put in front in less room than the
+-- longest takes
 abbrev pub Stages : Network → ℕ → FrontedContent → Result Staged FrontedContent → Gave → Type 0
 Stages net node before (Ok staged) gave = StagesAll net node before staged gave
-Stages net node before (Err kept) gave = (kept ≡ before) × (before.front < MAX_FRONT)
+Stages net node before (Err kept) gave = (kept ≡ before) × (before.front < MAX_FRONT) × PutsPolicy net gave.outcome
 
--- what is told, and what is spare then; or, for want of memory, what stood there before, with what the slot held
+-- what is told, and what is spare then; or, for want of memory, what stood there before, with what the slot held, where a policy's
+-- header is put in front in less room than the longest takes
 abbrev pub TellsOrKeeps : Network → ℕ → FrontedContent → List ℕ → Result Told FrontedContent → List ℕ → Gave → Type 0
 TellsOrKeeps net node before held (Ok told) slot gave = Tells told slot gave × (told.after.front ≡ front_after net node before told.outcome)
-TellsOrKeeps net node before held (Err kept) slot gave = (kept ≡ before) × (before.front < MAX_FRONT) × (slot ≡ held)
+TellsOrKeeps net node before held (Err kept) slot gave =
+    (kept ≡ before) × (before.front < MAX_FRONT) × (slot ≡ held) × PutsPolicy net gave.outcome
 
 -- whether the header of a policy makes a packet that goes on too long, in the full or the reduced form; none where no packet goes on
 abbrev pub IsBigAfter : Endpoint → Policy → Bool → Option Bool → Type 0

@@ -1,6 +1,6 @@
 //! What a node holds: a packet of either family, or bytes that do not read as one.
 
-ghost use Rattle.std.specs.Prelude.{◌≡◌, ◌++◌, length, IfOk, OnOk, OnErr};
+ghost use Rattle.std.specs.Prelude.{◌≡◌, length, IfOk};
 ghost use Rattle.srv6_rules.specs.Packet.{bytes_of, entered, IsContent};
 
 use crate::content_buf::ContentBuf;
@@ -25,8 +25,8 @@ impl Model for Content {
 }
 
 impl Content {
-    /// What enters a node with the bytes of a buffer as a packet of a family, in place: of bytes that
-    /// do not read at most 65,575 are kept (own rule).
+    /// What enters a node with the bytes of a buffer as a packet of a family, in place: of bytes
+    /// that do not read at most 65,575 are kept (own rule).
     pub fn enter_buf(family: Family, buf: PktBuf) -> Content
         ensures { result ≡ entered family buf.bytes }
     {
@@ -50,7 +50,8 @@ impl Content {
         self.buf
     }
 
-    /// The bytes in their buffer: those that spell the packet, or those that do not read (own rule).
+    /// The bytes in their buffer: those that spell the packet, or those that do not read (own
+    /// rule).
     pub fn into_bytes(self) -> PktBuf
         ensures { result.bytes ≡ bytes_of self }
     {
@@ -70,14 +71,6 @@ impl Content {
         ensures { result.now ≡ bytes_of self.now }
     {
         self.buf.bytes()
-    }
-
-    /// Appends the bytes; with want of memory nothing is appended (own rule).
-    pub fn append_to(&self, out: &mut Vec<u8>) -> Result<(), AllocError>
-        ensures ok { OnOk result (out.new.items ≡ out.old.items ++ bytes_of self.now) }
-        ensures err { OnErr result (out.new.items ≡ out.old.items) }
-    {
-        out.extend_from_slice(self.bytes())
     }
 
     /// The length of the bytes (own rule).

@@ -21,8 +21,8 @@ pub(crate) enum Held {
     Unreadable(PktBuf, Reason),
 }
 
-/// A packet of IPv6 or IPv4, or bytes that do not read as one and why, with how many bytes are spare
-/// in front (own rule).
+/// A packet of IPv6 or IPv4, or bytes that do not read as one and why, with how many bytes are
+/// spare in front (own rule).
 #[derive(Debug, Drop)]
 pub struct ContentBuf {
     pub(crate) held: Held,
@@ -94,7 +94,8 @@ impl ContentBuf {
         }
     }
 
-    /// The bytes in their buffer: those that spell the packet, or those that do not read (own rule).
+    /// The bytes in their buffer: those that spell the packet, or those that do not read (own
+    /// rule).
     pub fn into_bytes(self) -> PktBuf
         ensures bytes { result.bytes ≡ bytes_of self.content }
         ensures front { result.front ≡ self.front }
@@ -128,9 +129,9 @@ impl ContentBuf {
         }
     }
 
-    /// Gives at least 2,080 spare bytes in front, as many as the longest header of a policy has; what
-    /// is held stays. Where as many are spare nothing changes and no memory is taken; with want of
-    /// memory nothing changes either (own rule).
+    /// Gives at least 2,080 spare bytes in front, as many as the longest header of a policy has;
+    /// what is held stays. Where as many are spare nothing changes and no memory is taken; with
+    /// want of memory nothing changes either (own rule).
     pub fn reserve(&mut self) -> Result<(), NoMemory>
         ensures content { self.new.content ≡ self.old.content }
         ensures room { OnOk result (self.new.front ≡ max MAX_FRONT self.old.front) }

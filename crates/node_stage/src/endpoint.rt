@@ -51,7 +51,8 @@ pub(crate) fn treated_at_address(packet: Packet) -> Staged
     }
 }
 
-/// What comes of a packet at a SID of a node that takes some upper layers at its SIDs, in its bytes.
+/// What comes of a packet at a SID of a node that takes some upper layers at its SIDs, in its
+/// bytes.
 fn step_at_sid(sid: &SidEntry, allow: &[u8], bytes: &mut PktBuf) -> EndOutcome
     requires suits { SuitsCompression sid.now }
     requires usp { goes_on sid.now ≡ false → sid.now.usp ≡ false }
@@ -123,8 +124,8 @@ fn given(sid: u32, entry: &SidEntry, outcome: EndOutcome, bytes: PktBuf) -> Stag
     }
 }
 
-/// At a SID with a number, of a node that takes some upper layers at its SIDs; the packet does not go
-/// on from the SID where the SID binds a policy.
+/// At a SID with a number, of a node that takes some upper layers at its SIDs; the packet does not
+/// go on from the SID where the SID binds a policy.
 fn treated_at_sid(sid: u32, entry: &SidEntry, allow: &[u8], packet: Packet) -> Staged
     requires unbound { (q : PacketValue) → at_sid entry.now allow.now packet.packet ≡ Onward q
         → behaviour_policy entry.now.behaviour ≡ None }
@@ -158,8 +159,8 @@ fn is_too_big_after(entry: &SidEntry, policy: &Policy, allow: &[u8], bytes: &[u8
     }
 }
 
-/// Puts a policy's header in front of an IPv6 packet's bytes, for which there is room and which it does
-/// not make too long; so it takes no memory.
+/// Puts a policy's header in front of an IPv6 packet's bytes, for which there is room and which it
+/// does not make too long; so it takes no memory.
 fn push_in_room(policy: &Policy, reduced: bool, bytes: &mut PktBuf)
     requires policy { IsPolicy policy.now }
     requires packet { length bytes.old.bytes ≤ MAX_PACKET_LEN }
@@ -183,8 +184,8 @@ fn too_big(packet: Packet) -> Staged
     dropped_for(Reason::TooBig, ContentBuf::of(packet))
 }
 
-/// At a SID with a number that binds a policy, in bytes with room for the policy's header, which does
-/// not make the packet too long that goes on from the SID.
+/// At a SID with a number that binds a policy, in bytes with room for the policy's header, which
+/// does not make the packet too long that goes on from the SID.
 fn bound_in_room(
     sid: u32,
     entry: &SidEntry,
@@ -220,9 +221,9 @@ fn bound_in_room(
     }
 }
 
-/// At a SID with a number that binds a policy, for a packet that goes on from it; whether the policy's
-/// header would make it too long is known. For want of memory, which comes only where there is less
-/// room than the longest header has, the packet is given back as it was.
+/// At a SID with a number that binds a policy, for a packet that goes on from it; whether the
+/// policy's header would make it too long is known. For want of memory, which comes only where
+/// there is less room than the longest header has, the packet is given back as it was.
 fn bound_by(
     sid: u32,
     entry: &SidEntry,
@@ -254,11 +255,11 @@ fn bound_by(
     }
 }
 
-/// At a SID with a number that binds a policy: after the SID's own step the policy's header is put in
-/// front, in the form of the SID's behaviour, and a packet for which it would be too long is dropped
-/// as it came (RFC 8986 sections 4.13 and 4.14). All is done in the packet's own bytes: that the packet
-/// goes on, and that the header would be too long, is known before the step, and room in front of the
-/// packet is made before it.
+/// At a SID with a number that binds a policy: after the SID's own step the policy's header is put
+/// in front, in the form of the SID's behaviour, and a packet for which it would be too long is
+/// dropped as it came (RFC 8986 sections 4.13 and 4.14). All is done in the packet's own bytes:
+/// that the packet goes on, and that the header would be too long, is known before the step, and
+/// room in front of the packet is made before it.
 fn bound_at_sid(
     sid: u32,
     entry: &SidEntry,

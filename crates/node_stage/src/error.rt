@@ -24,7 +24,8 @@ pub(crate) struct Told {
 /// answers whether it is.
 fn answered(packet: &Packet, kind: &IcmpKind, from: Addr, slot: &mut IcmpSlot) -> bool
     ensures made { result ≡ is_some (error_packet packet.now.packet kind.now from.value) }
-    ensures bytes { slot.new.items ≡ error_bytes (error_packet packet.now.packet kind.now from.value) }
+    ensures bytes { slot.new.items ≡ error_bytes
+        (error_packet packet.now.packet kind.now from.value) }
 {
     error_for(packet.bytes(), kind, from, slot)
 }

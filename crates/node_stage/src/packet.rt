@@ -106,8 +106,8 @@ impl Packet {
         self.bytes.front()
     }
 
-    /// Gives room in front for the longest header of a policy; with want of memory, which comes only
-    /// where there is less, nothing changes.
+    /// Gives room in front for the longest header of a policy; with want of memory, which comes
+    /// only where there is less, nothing changes.
     pub(crate) fn reserve(&mut self) -> Result<(), NoMemory>
         ensures packet { self.new.packet ≡ self.old.packet }
         ensures room { OnOk result (self.new.front ≡ max MAX_FRONT self.old.front) }

@@ -46,8 +46,8 @@ impl ContentBuf {
         }
     }
 
-    /// What enters a node with the bytes of a buffer as a packet of a family, in place: of bytes that
-    /// do not read at most 65,575 are kept, and as many are spare in front as were (own rule).
+    /// What enters a node with the bytes of a buffer as a packet of a family, in place: of bytes
+    /// that do not read at most 65,575 are kept, and as many are spare in front as were (own rule).
     pub fn enter_buf(family: Family, mut buf: PktBuf) -> ContentBuf
         ensures { result ≡ fronted (entered family buf.bytes) buf.front }
     {

@@ -43,8 +43,8 @@ fn exceeds(len: usize, mtu: u32) -> bool
 }
 
 /// An IPv6 packet over one of a set of equal next hops: the hop limit is judged, then a member is
-/// taken, and the packet's length is judged by that link's MTU, before anything of the packet changes
-/// (RFC 8200 sections 3 and 5).
+/// taken, and the packet's length is judged by that link's MTU, before anything of the packet
+/// changes (RFC 8200 sections 3 and 5).
 pub(crate) fn sent(net: &Net, links: &[u32], lower: bool, packet: Packet, choice: u32) -> Staged
     requires { 0 < length links.now }
     ensures gave { (node : ℕ) → gave_of net.now node result

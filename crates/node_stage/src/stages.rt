@@ -10,7 +10,7 @@ ghost use Rattle.walk_rules.specs.Walk.{next_place};
 ghost use Rattle.walk_rules.specs.Way.{IsWayFrom, way_in};
 ghost use Rattle.policy_encap.specs.declared.headers.TheConstants.{MAX_FRONT};
 ghost use Rattle.node_stage.specs.Fronted.{front_after, fronted};
-ghost use Rattle.node_stage.specs.Staging.{FrontOf, Stages, TellsOrKeeps, gave_of};
+ghost use Rattle.node_stage.specs.Staging.{FrontOf, PutsPolicy, Stages, TellsOrKeeps, gave_of};
 
 use crate::content::Content;
 use crate::content_buf::{ContentBuf, Held};
@@ -49,8 +49,8 @@ fn treated(
     }
 }
 
-/// An IPv4 packet on a way of a node of a network: none leads to an address or into a SID, and these
-/// would be as where there is no way.
+/// An IPv4 packet on a way of a node of a network: none leads to an address or into a SID, and
+/// these would be as where there is no way.
 fn treated4(net: &Net, node: u32, way: Way<'_>, packet: Packet4, choice: u32) -> Staged
     requires { IsWayFrom net.now node (way_in way) }
     ensures gave { gave_of net.now node result
@@ -114,15 +114,17 @@ fn told(
 
 /// One node's treatment of what stands at a place, under a choice among equal next hops; what
 /// stands there afterwards takes its place, a dropped packet as it was (RFC 8200 section 3, RFC
-/// 8754 section 4.3, RFC 8986 section 4). A Send, or a drop for a link's MTU, takes the member of its
-/// set at `choice` modulo the number of members. The slot holds the ICMPv6 error that the node sends about what it drops, from
-/// its own address, exactly where the outcome says so, and else nothing; what it held is gone. The
-/// error's pointer counts in bytes from the first of the packet as it was (RFC 4443 section 3).
+/// 8754 section 4.3, RFC 8986 section 4). A Send, or a drop for a link's MTU, takes the member of
+/// its set at `choice` modulo the number of members. The slot holds the ICMPv6 error that the node
+/// sends about what it drops, from its own address, exactly where the outcome says so, and else
+/// nothing; what it held is gone. The error's pointer counts in bytes from the first of the packet
+/// as it was (RFC 4443 section 3).
 ///
-/// What is spare in front stays as it was, but for two: the bytes in front of a packet that a SID exposes
-/// are spare then, and where a packet goes on from a SID that binds a policy the header takes its
-/// place of what is spare, at least 2,080 bytes first. `NoMemory` comes only where fewer than 2,080
-/// bytes are spare, and leaves what stands there as it was, and the slot too (own rule).
+/// What is spare in front stays as it was, but for two: the bytes in front of a packet that a SID
+/// exposes are spare then, and where a packet goes on from a SID that binds a policy the header
+/// takes its place of what is spare, at least 2,080 bytes first. `NoMemory` comes only where such a
+/// header is to be put in front and fewer than 2,080 bytes are spare, and leaves what stands there
+/// as it was, and the slot too (own rule).
 pub fn stage_buf(
     alloc: Global,
     net: &Net,
@@ -151,6 +153,8 @@ pub fn stage_buf(
     ensures front { IfOk result (λ outcome.
         content.new.front ≡ front_after net.now place.now.node content.old outcome) }
     ensures room { OnErr result (content.old.front < MAX_FRONT) }
+    ensures binds { OnErr result (PutsPolicy net.now
+        (step_of net.now place.now content.old.content choice).outcome) }
     ensures kept { OnErr result (content.new ≡ content.old) }
     ensures last { OnErr result (error.new.items ≡ error.old.items) }
 {
@@ -167,8 +171,9 @@ pub fn stage_buf(
     }
 }
 
-/// The same of a content whatever is spare in front of it; `NoMemory` comes only at a SID that binds a
-/// policy, and leaves what stands there as it was, and the slot too (own rule).
+/// The same of a content whatever is spare in front of it; `NoMemory` comes only where a packet
+/// goes on from a SID that binds a policy, and leaves what stands there as it was, and the slot too
+/// (own rule).
 pub fn stage(
     alloc: Global,
     net: &Net,
@@ -194,6 +199,8 @@ pub fn stage(
     // Where the packet stands next is a place too.
     ensures next { IfOk result (λ outcome.
         IfSome (next_place net.now place.now outcome) (IsPlace net.now)) }
+    ensures binds { OnErr result (PutsPolicy net.now
+        (step_of net.now place.now content.old choice).outcome) }
     ensures kept { OnErr result (content.new ≡ content.old) }
     ensures last { OnErr result (error.new.items ≡ error.old.items) }
 {

@@ -92,7 +92,8 @@ module _ (f : Flight) (numbers : List ℕ) (entry : ℕ) where
 
 -- what the search for its number gives
 
-rising-up : (numbers : List ℕ) → IsStrictlyIncreasing numbers → (i j : ℕ) → i ≤ j → j < length numbers → get_or numbers i 0 ≤ get_or numbers j 0
+rising-up : (numbers : List ℕ) → IsStrictlyIncreasing numbers → (i j : ℕ) → i ≤ j → j < length numbers
+    → get_or numbers i 0 ≤ get_or numbers j 0
 rising-up numbers rising i j few within =
     elim (eqb_tells i j) [
       | inl same ↦ let e : get_or numbers i 0 ≡ get_or numbers j 0 = ap (λ (k : ℕ). get_or numbers k 0) same.1 in omega (arith, e)

@@ -44,7 +44,8 @@ module _ (number : ℕ) (more : List Move) (f : Flight) (p : InFlight) (there : 
 
   -- a turn of the packet of a number
   turn-test : (other : ℕ) (b : Bool) → nat_eq other number ≡ b
-      → (nat_eq other number ≡ true → given_by f.net (packet_of f number) ++ given_to number (turned other f) more ≡ take (suc n) (rest_of f.net p))
+      → (nat_eq other number ≡ true → given_by f.net (packet_of f number) ++ given_to number (turned other f) more
+      ≡ take (suc n) (rest_of f.net p))
       → (nat_eq other number ≡ false → given_to number (turned other f) more ≡ take n (rest_of f.net p))
       → (if b then given_by f.net (packet_of f number) else []) ++ given_to number (turned other f) more
       ≡ take (if b then suc n else n) (rest_of f.net p)

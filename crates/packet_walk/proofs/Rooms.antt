@@ -1,15 +1,15 @@
 -- Room in front of packets, and a stage after room was made.
-use Rattle.std.proofs.Common.{◌≡◌, ℕ, zero, suc, ◌-◌, ◌<◌, ◌≤◌, max, List, [], ◌∷◌, length, get_or, slice_set, Option, Some, None, IfSome, IsSome, Result, Ok, Err, refl, sym, ap, ◌∙◌, arith, subst}
+use Rattle.std.proofs.Common.{◌≡◌, ℕ, zero, suc, ◌<◌, ◌≤◌, max, List, [], ◌∷◌, length, get_or, slice_set, Option, Some, None, IfSome, IsSome, Result, Ok, Err, refl, sym, ap, ◌∙◌, arith, subst}
 use Rattle.std.proofs.lemmas.Option.{slice_get_read}
 use Rattle.std.proofs.lemmas.Bool.{false≢true}
 use Rattle.base.specs.declared.no_memory.NoMemory.{NoMemory}
 use Rattle.icmp6_errors.specs.Answer.{error_bytes}
 use Rattle.net_model.specs.Network.{Network}
-use Rattle.node_stage.specs.Fronted.{FrontedContent, front_after, fronted, most_front}
+use Rattle.node_stage.specs.Fronted.{front_after, fronted, most_front}
 use Rattle.walk_rules.specs.declared.place.Ended.{Ended}
 use Rattle.walk_rules.specs.Relation.{IsPlace}
 use Rattle.packet_walk.specs.declared.event.Event.{Event}
-use Rattle.packet_walk.specs.Flight.{InFlight, Packets, Flight, ArePlaced, Enters, IsGiven, Reserves, Turns, advanced, packet_in, packet_of, stage_in, staged, reserved_where, room_where, with_front, with_packet, with_room, within}
+use Rattle.packet_walk.specs.Flight.{InFlight, Packets, Flight, ArePlaced, Enters, IsGiven, Reserves, Turns, advanced, packet_of, stage_in, staged, reserved_where, room_where, with_packet, with_room, within}
 use Rattle.packet_walk.proofs.Numbers.{given-packet, packet-same, placed-push, length-with}
 
 -- a packet among packets at places of a network stands at one
@@ -51,25 +51,7 @@ room-going None q n there is h = tt
 room-going (Some p) q n there is h =
     is ∙ sym (ap (λ (x : InFlight). x.front) (some-is p q there)) ∙ ap (room_where p.front) h
 
-pub ready-going : (o : Option InFlight) → IfSome o (λ p. p.ended ≡ None → most_front ≤ p.front) → IfSome o (λ p. p.ended ≡ None)
-    → IfSome o (λ p. most_front ≤ p.front)
-ready-going None ready going = tt
-ready-going (Some p) ready going = ready going
-
 -- where there is room nothing is added
-
-room-there : (p : InFlight) → most_front ≤ p.front → with_room p ≡ p
-room-there p ready =
-    let e : max most_front p.front ≡ p.front = omega (arith, ready) in ap (λ (front : ℕ). with_front front p) e
-
-pub staged-ready : (net : Network) (p : InFlight) → most_front ≤ p.front
-    → staged net p
-    ≡ advanced net (stage_in net p).gave.outcome
-    (fronted (stage_in net p).gave.after (front_after net p.place.node (fronted p.content p.front) (stage_in net p).gave.outcome)) p
-staged-ready net p ready =
-    let e : max most_front p.front ≡ p.front = omega (arith, ready) in
-    ap (λ (front : ℕ). advanced net (stage_in net p).gave.outcome
-    (fronted (stage_in net p).gave.after (front_after net p.place.node (fronted p.content front) (stage_in net p).gave.outcome)) p) e
 
 pub staged-room : (net : Network) (p : InFlight) → staged net (with_room p) ≡ staged net p
 staged-room net p =

@@ -1,5 +1,5 @@
--- Packets in flight: what is held of them, and what a turn of one of them leaves.
-use Rattle.std.specs.Prelude.{◌≡◌, ℕ, zero, suc, ◌+◌, ◌^◌, ◌<◌, ◌≤◌, max, if◌then◌else◌, nat_lt, List, [], ◌∷◌, ◌++◌, length, slice_get, slice_set, Option, Some, None, Result, Ok, Err, IsSome}
+-- Packets in flight: what is held of them, and what a turn of one of them leaves (own rules).
+use Rattle.std.specs.Prelude.{◌≡◌, ℕ, zero, suc, ◌+◌, ◌<◌, ◌≤◌, max, if◌then◌else◌, nat_lt, List, [], ◌∷◌, ◌++◌, length, slice_get, slice_set, Option, Some, None, Result, Ok, Err, IsSome}
 use Rattle.base.specs.declared.no_memory.NoMemory.{NoMemory}
 use Rattle.srv6_rules.specs.Packet.{Content, IsContent}
 use Rattle.icmp6_errors.specs.Answer.{error_bytes}

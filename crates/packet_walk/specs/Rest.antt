@@ -1,4 +1,4 @@
--- A packet's own walk from where it stands, and what turns of all packets give each.
+-- A packet's own walk from where it stands, and what turns of all packets give each (own rules).
 use Rattle.std.specs.Prelude.{◌≡◌, ℕ, suc, ◌-◌, ◌≤◌, Bool, false, if◌then◌else◌, nat_eq, List, [], ◌∷◌, ◌++◌, replicate, Option, Some, None, Result, Ok, Err, IfSome}
 use Rattle.base.specs.declared.no_memory.NoMemory.{NoMemory}
 use Rattle.net_model.specs.Network.{Network}

@@ -83,10 +83,10 @@ impl<'a> Flight<'a> {
         self.packets.enter_content(content, place, choices)
     }
 
-    /// A packet's bytes enter at a place, in place: they are read as a packet of the place's family,
-    /// and what stands after its end is cut; of bytes that do not read at most 65,575 are kept (own
-    /// rule). The choices, the answer and `NoMemory` are as in `enter_content`; for want of memory the
-    /// buffer is given up.
+    /// A packet's bytes enter at a place, in place: they are read as a packet of the place's
+    /// family, and what stands after its end is cut; of bytes that do not read at most 65,575 are
+    /// kept (own rule). The choices, the answer and `NoMemory` are as in `enter_content`; for want
+    /// of memory the buffer is given up.
     pub fn enter(&mut self, buf: PktBuf, place: Place, choices: &'a [u32]) -> Result<u32, NoMemory>
         requires place { IsPlace self.old.net place }
         requires choices { 0 < length choices.now }
@@ -98,7 +98,8 @@ impl<'a> Flight<'a> {
         self.packets.enter(buf, place, choices)
     }
 
-    /// How many bytes are spare in front of a packet in flight, and 0 of one that has ended (own rule).
+    /// How many bytes are spare in front of a packet in flight, and 0 of one that has ended (own
+    /// rule).
     pub fn room(&self, number: u32) -> usize
         requires { IsGiven self.now number }
         ensures { IfSome (packet_of self.now number) (λ p. result ≡ room_where p.front p.ended) }
@@ -106,9 +107,9 @@ impl<'a> Flight<'a> {
         self.packets.room(number)
     }
 
-    /// Makes room in front of a packet in flight, at least 2,080 bytes, as many as the longest header of
-    /// a policy has; nothing else changes, and nothing of a packet that has ended (own rule).
-    /// `NoMemory` comes only where there is less room, and leaves the flight as it was.
+    /// Makes room in front of a packet in flight, at least 2,080 bytes, as many as the longest
+    /// header of a policy has; nothing else changes, and nothing of a packet that has ended (own
+    /// rule). `NoMemory` comes only where there is less room, and leaves the flight as it was.
     pub fn reserve(&mut self, number: u32) -> Result<(), NoMemory>
         requires { IsGiven self.old number }
         ensures { IfSome (packet_of self.old number) (λ p.
@@ -117,8 +118,8 @@ impl<'a> Flight<'a> {
         self.packets.reserve(number)
     }
 
-    /// The next stage of a packet that has ended or has room in front of it, as `turn` has it; takes no
-    /// memory (own rule).
+    /// The next stage of a packet that has ended or has room in front of it, as `turn` has it;
+    /// takes no memory (own rule).
     pub fn turn_ready(&mut self, number: u32) -> Option<Event>
         requires given { IsGiven self.old number }
         requires ready { IfSome (packet_of self.old number) (λ p.
@@ -129,9 +130,10 @@ impl<'a> Flight<'a> {
         self.packets.turn_ready(self.net, number)
     }
 
-    /// The next stage of a packet, unless it has ended: then there is none, and nothing changes (own
-    /// rule). A stage changes this packet and the last error alone; there is room in front of the packet
-    /// before it. `NoMemory`, which comes only where there is less room, leaves the flight as it was.
+    /// The next stage of a packet, unless it has ended: then there is none, and nothing changes
+    /// (own rule). A stage changes this packet and the last error alone; there is room in front of
+    /// the packet before it. `NoMemory`, which comes only where there is less room, leaves the
+    /// flight as it was.
     pub fn turn(&mut self, number: u32) -> Result<Option<Event>, NoMemory>
         requires { IsGiven self.old number }
         ensures { IfSome (packet_of self.old number) (λ p.
@@ -166,8 +168,8 @@ impl<'a> Flight<'a> {
     }
 
     /// Takes a packet to its end, which is that of its walk of at most 10,000 stages, and gives it;
-    /// where it has ended nothing changes. After `NoMemory` the turns before it stand, and the last error is
-    /// that of the last of them (own rule).
+    /// where it has ended nothing changes. After `NoMemory` the turns before it stand, and the last
+    /// error is that of the last of them (own rule).
     pub fn walk(&mut self, number: u32) -> Result<Ended, NoMemory>
         requires { IsGiven self.old number }
         ensures { IfSome (packet_of self.old number) (λ p.

@@ -119,8 +119,8 @@ impl<'a> InFlight<'a> {
         self.content.front()
     }
 
-    /// Gives room in front for the longest header of a policy. `NoMemory`, which comes only where there
-    /// is less, leaves the packet as it was.
+    /// Gives room in front for the longest header of a policy. `NoMemory`, which comes only where
+    /// there is less, leaves the packet as it was.
     pub(crate) fn reserve(&mut self) -> Result<(), NoMemory>
         ensures room { ReservesAs self.old result self.new }
         ensures place { self.new.place ≡ self.old.place }
@@ -167,8 +167,8 @@ impl<'a> InFlight<'a> {
         }
     }
 
-    /// The next stage of a packet that has not ended and has room in front of it; the slot has the ICMPv6
-    /// error about what it drops.
+    /// The next stage of a packet that has not ended and has room in front of it; the slot has the
+    /// ICMPv6 error about what it drops.
     pub(crate) fn take_stage(&mut self, alloc: Global, net: &Net, error: &mut IcmpSlot) -> Outcome
         requires place { IsPlace net.now self.old.place }
         requires going { self.old.ended ≡ None }

@@ -15,8 +15,8 @@ ghost use Rattle.packet_walk.specs.Schedule.{Coming, all_of, comings_of, frame_o
 use walk_rules::MAX_STAGES;
 
 /// The rest of a packet's walk is its next stage, and then the rest of the walk after it, and both
-/// end alike; of a packet that has ended there is none. The rest of one that enters is its walk of at
-/// most 10,000 stages (own rule).
+/// end alike; of a packet that has ended there is none. The rest of one that enters is its walk of
+/// at most 10,000 stages (own rule).
 pub fn a_turn_takes_the_next_stage()
     ensures next { (net : Network) (p : InFlight) → IsCounted p → p.ended ≡ None →
         rest_of net p ≡ stage_in net p ∷ rest_of net (staged net p) }
@@ -65,9 +65,9 @@ pub fn a_packet_takes_its_own_walk()
         (walk_of MAX_STAGES f.net (Some place) content.content (choice_at choices) 0) }
 {}
 
-/// Whatever the schedule, a packet takes all the steps of its walk that were still to come, in their
-/// order, and no other; so two schedules give it the same stages in the same order. The packets'
-/// numbers differ; those of a flight's packets rise (own rule).
+/// Whatever the schedule, a packet takes all the steps of its walk that were still to come, in
+/// their order, and no other; so two schedules give it the same stages in the same order. The
+/// packets' numbers differ; those of a flight's packets rise (own rule).
 pub fn a_schedule_gives_each_packet_its_walk()
     ensures steps { (number : ℕ) (schedule : List ℕ) (comings : List Coming) →
         IsDistinct nat_eq (map (λ c. c.number) comings) →
@@ -79,9 +79,11 @@ pub fn a_schedule_gives_each_packet_its_walk()
         IsDistinct nat_eq (map (λ c. c.number) comings) →
         stages_of number (scheduled one comings) ≡ stages_of number (scheduled other comings) }
     ensures flight { (f : Flight) (numbers schedule : List ℕ) (number : ℕ) (p : InFlight) →
-        IsStrictlyIncreasing numbers → length numbers ≡ length f.packets → packet_of f number ≡ Some p →
+        IsStrictlyIncreasing numbers → length numbers ≡ length f.packets
+        → packet_of f number ≡ Some p →
         let frame = frame_of numbers number in
-        stages_of frame (scheduled schedule (comings_of numbers f)) ≡ all_of frame (rest_of f.net p) }
+        stages_of frame (scheduled schedule (comings_of numbers f))
+        ≡ all_of frame (rest_of f.net p) }
 {}
 
 /// With the empty schedule the stages are all of the first packet, then all of the second, and so

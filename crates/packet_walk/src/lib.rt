@@ -1,11 +1,11 @@
 //! Packets in flight: each takes its own walk, a stage at a time, in any order of their turns.
 //!
-//! `Packets` has packets by numbers from 1, in the order in which they entered, and `Flight` has them in
-//! one network: `turn` takes one stage of one of them, and `walk` all that are left of it; after
-//! `reserve` the stage that `turn_ready` takes wants no memory. `Turns` says whose
-//! turn is next by a schedule of the numbers of frames, and after its last entry lets the packets
-//! end one after the other. `specs/Flight.antt` says what a turn changes, `specs/Rest.antt` what is
-//! left of a walk, and `specs/Schedule.antt` in which order turns are taken.
+//! `Packets` has packets by numbers from 1, in the order in which they entered, and `Flight` has
+//! them in one network: `turn` takes one stage of one of them, and `walk` all that are left of it;
+//! after `reserve` the stage that `turn_ready` takes wants no memory. `Turns` says whose turn is
+//! next by a schedule of the numbers of frames, and after its last entry lets the packets end one
+//! after the other. `specs/Flight.antt` says what a turn changes, `specs/Rest.antt` what is left of
+//! a walk, and `specs/Schedule.antt` in which order turns are taken.
 #![tactic(auto)]
 
 mod event;

@@ -57,8 +57,8 @@ impl<'a> Packets<'a> {
         self.packets.len() as u32
     }
 
-    /// What is so of a packet's counts and of what stands where it does (own rule). For the callers'
-    /// proofs.
+    /// What is so of a packet's counts and of what stands where it does (own rule). For the
+    /// callers' proofs.
     pub fn keeps_rules(&self, number: u32)
         requires { IsNumber self.now.packets number }
         ensures counted { IfSome (packet_in self.now.packets number) IsCounted }
@@ -93,10 +93,10 @@ impl<'a> Packets<'a> {
         Ok(self.count())
     }
 
-    /// A packet's bytes enter at a place, in place: they are read as a packet of the place's family,
-    /// and what stands after its end is cut; of bytes that do not read at most 65,575 are kept (own
-    /// rule). The choices, the answer and `NoMemory` are as in `enter_content`; for want of memory the
-    /// buffer is given up.
+    /// A packet's bytes enter at a place, in place: they are read as a packet of the place's
+    /// family, and what stands after its end is cut; of bytes that do not read at most 65,575 are
+    /// kept (own rule). The choices, the answer and `NoMemory` are as in `enter_content`; for want
+    /// of memory the buffer is given up.
     pub fn enter(&mut self, buf: PktBuf, place: Place, choices: &'a [u32]) -> Result<u32, NoMemory>
         requires choices { 0 < length choices.now }
         requires few { length self.old.packets + 1 < 2 ^ 32 }
@@ -107,7 +107,8 @@ impl<'a> Packets<'a> {
         self.enter_content(ContentBuf::enter_buf(place.family, buf), place, choices)
     }
 
-    /// How many bytes are spare in front of a packet in flight, and 0 of one that has ended (own rule).
+    /// How many bytes are spare in front of a packet in flight, and 0 of one that has ended (own
+    /// rule).
     pub fn room(&self, number: u32) -> usize
         requires { IsNumber self.now.packets number }
         ensures { IfSome (packet_in self.now.packets number) (λ p.
@@ -119,9 +120,9 @@ impl<'a> Packets<'a> {
         }
     }
 
-    /// Makes room in front of a packet in flight, at least 2,080 bytes, as many as the longest header of
-    /// a policy has; nothing else changes, and nothing of a packet that has ended (own rule).
-    /// `NoMemory` comes only where there is less room, and leaves all as it was.
+    /// Makes room in front of a packet in flight, at least 2,080 bytes, as many as the longest
+    /// header of a policy has; nothing else changes, and nothing of a packet that has ended (own
+    /// rule). `NoMemory` comes only where there is less room, and leaves all as it was.
     pub fn reserve(&mut self, number: u32) -> Result<(), NoMemory>
         requires { IsNumber self.old.packets number }
         ensures room { (net : Network) → IfSome (packet_in self.old.packets number) (λ p.
@@ -148,8 +149,8 @@ impl<'a> Packets<'a> {
         self.packets[(number - 1) as usize].take_stage(self.alloc, net, &mut self.error)
     }
 
-    /// The next stage of a packet that has ended or has room in front of it, by the tables of a network,
-    /// as `turn` has it; takes no memory (own rule).
+    /// The next stage of a packet that has ended or has room in front of it, by the tables of a
+    /// network, as `turn` has it; takes no memory (own rule).
     pub fn turn_ready(&mut self, net: &Net, number: u32) -> Option<Event>
         requires given { IsNumber self.old.packets number }
         requires places { ArePlaced net.now self.old.packets }
@@ -171,10 +172,10 @@ impl<'a> Packets<'a> {
         })
     }
 
-    /// The next stage of a packet by the tables of a network, unless the packet has ended: then there is
-    /// none, and nothing changes (own rule). A stage changes this packet and the last error alone; there
-    /// is room in front of the packet before it. `NoMemory`, which comes only where there is less
-    /// room, leaves all as it was.
+    /// The next stage of a packet by the tables of a network, unless the packet has ended: then
+    /// there is none, and nothing changes (own rule). A stage changes this packet and the last
+    /// error alone; there is room in front of the packet before it. `NoMemory`, which comes only
+    /// where there is less room, leaves all as it was.
     pub fn turn(&mut self, net: &Net, number: u32) -> Result<Option<Event>, NoMemory>
         requires given { IsNumber self.old.packets number }
         requires places { ArePlaced net.now self.old.packets }
@@ -191,7 +192,8 @@ impl<'a> Packets<'a> {
     /// The bytes of what stands where a packet stands, or ended (own rule).
     pub fn bytes(&self, number: u32) -> &[u8]
         requires { IsNumber self.now.packets number }
-        ensures { IfSome (packet_in self.now.packets number) (λ p. result.now ≡ bytes_of p.content) }
+        ensures { IfSome (packet_in self.now.packets number)
+            (λ p. result.now ≡ bytes_of p.content) }
     {
         self.packet(number).bytes()
     }

@@ -10,9 +10,9 @@ use crate::flight::Flight;
 use std::marker::Model;
 
 /// Whose turn is next among a flight's packets, which a schedule names by the numbers of their
-/// frames. An entry gives the named packet one stage; one that names no packet in flight takes none.
-/// After the last entry the packets still in flight are run to their ends in the order of their
-/// numbers. (own rule)
+/// frames. An entry gives the named packet one stage; one that names no packet in flight takes
+/// none. After the last entry the packets still in flight are run to their ends in the order of
+/// their numbers. (own rule)
 #[derive(Debug, Drop)]
 pub struct Turns<'a> {
     schedule: &'a [u32],
@@ -39,8 +39,8 @@ pub fn are_rising(numbers: &[u32]) -> bool
 }
 
 impl<'a> Turns<'a> {
-    /// A schedule's entries, and the frames' numbers of a flight's packets in the order of entering,
-    /// in which they rise, as `are_rising` tells. It takes no memory (own rule).
+    /// A schedule's entries, and the frames' numbers of a flight's packets in the order of
+    /// entering, in which they rise, as `are_rising` tells. It takes no memory (own rule).
     pub fn new(schedule: &'a [u32], numbers: &'a [u32]) -> Turns<'a>
         requires { IsStrictlyIncreasing numbers.now }
         ensures is { result ≡ progress schedule.now numbers.now 0 }
@@ -102,10 +102,10 @@ impl<'a> Turns<'a> {
         None
     }
 
-    /// The number of the packet whose turn is next, in the order of entering as `Flight::turn` takes
-    /// it: it has not ended. None exactly where all packets have ended. The turn is to be taken before
-    /// the next call. A call takes a step for each entry that it passes over, with a search among
-    /// the numbers, and for each packet that it passes (own rule).
+    /// The number of the packet whose turn is next, in the order of entering as `Flight::turn`
+    /// takes it: it has not ended. None exactly where all packets have ended. The turn is to be
+    /// taken before the next call. A call takes a step for each entry that it passes over, with a
+    /// search among the numbers, and for each packet that it passes (own rule).
     pub fn next(&mut self, flight: &Flight<'_>) -> Option<u32>
         requires { IsOf flight.now self.old }
         ensures { IsNext self.old flight.now result self.new }

@@ -1,4 +1,4 @@
--- What a reader has left of a capture, and what is written.
+-- What a reader has left of a capture, and what is written (own rules).
 use Rattle.std.specs.Prelude.{◌≡◌, ℕ, ◌+◌, ◌<◌, ◌≤◌, true, false, List, length, Option, Some, None, Result, Ok, Err}
 use Rattle.pcap_io.specs.declared.fault.TakeFault.{TakeFault}
 use Rattle.pcap_io.specs.declared.fault.TakeFault.TheVariants as takes

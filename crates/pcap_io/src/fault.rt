@@ -7,7 +7,7 @@ use base::NoMemory;
 pub enum CaptureFault {
     /// Fewer than 4 bytes, or a known magic and fewer than 24 bytes.
     CutHead,
-    /// The first 4 bytes are 0a0d0d0a: another format, which is not read.
+    /// The first 4 bytes are 0a0d0d0a: a pcapng file, which `pcapng_io` reads.
     PcapNg,
     /// The first 4 bytes are none of the four magics: a1b2c3d4 and a1b23c4d in either byte order.
     BadMagic,

@@ -63,16 +63,6 @@ impl<'a> LentFrame<'a> {
     {
         self.body
     }
-
-    /// The same frame once more. (own rule)
-    pub fn again(&self) -> LentFrame<'a>
-        ensures { result ≡ self.now }
-    {
-        LentFrame {
-            number: self.number,
-            body: self.body,
-        }
-    }
 }
 
 /// The packet after an Ethernet header, by its EtherType.

@@ -1,5 +1,5 @@
 -- What holds of the packet of each block holds of each frame of a file.
-use Rattle.std.proofs.Common.{◌≡◌, ℕ, zero, suc, ◌+◌, ◌<◌, ◌≤◌, ◌^◌, ◌==◌, nat_lt, Bool, true, false, List, [], ◌∷◌, ◌++◌, take, drop, Option, Some, None, Result, Ok, Err, All, refl, sym, ap, ◌∙◌, subst, arith, inl, inr}
+use Rattle.std.proofs.Common.{◌≡◌, ℕ, zero, suc, ◌+◌, ◌<◌, ◌≤◌, ◌^◌, ◌==◌, nat_lt, Bool, true, false, List, [], ◌∷◌, take, drop, Option, Some, None, Result, Ok, Err, All, refl, sym, ap, ◌∙◌, subst, arith, inl, inr}
 use Rattle.std.specs.Prelude.{if◌then◌else◌}
 use Rattle.std.proofs.lemmas.Bool.{cases_Bool, eqb-false}
 use Rattle.std.proofs.lemmas.List.Elements.{All-nil, All-cons, All-append, All-drop, All-take}
@@ -26,7 +26,8 @@ module _ (P : Frame → Type 0)
     abbrev Holds : NgPlace → List Frame → Type 0
     Holds next frames = All P frames × (next.packets ≤ MAX_FRAMES)
 
-    hold-none : (p next : NgPlace) (frames : List Frame) → p.packets ≤ MAX_FRAMES → [] ≡ frames → p.packets ≡ next.packets → Holds next frames
+    hold-none : (p next : NgPlace) (frames : List Frame) → p.packets ≤ MAX_FRAMES → [] ≡ frames → p.packets ≡ next.packets
+        → Holds next frames
     hold-none p next frames few none same = (subst (λ (fs : List Frame). All P fs) none (All-nil P), omega (arith, few, same))
 
     hold-over : (p next : NgPlace) (bytes : List ℕ) (total n : ℕ) (b : BlockContent) (frames : List Frame) → p.packets ≤ MAX_FRAMES
@@ -53,7 +54,8 @@ module _ (P : Frame → Type 0)
           let not = eqb-false p.packets MAX_FRAMES other in
           let below : p.packets < MAX_FRAMES = omega (arith, few, not) in (
             subst (λ (fs : List Frame). All P fs) one
-                (All-cons P (frame_of p packet (take total bytes)) [] (each p packet (take total bytes) below (All-take (λ byte. byte < 2 ^ 8) total bytes h))
+                (All-cons P (frame_of p packet (take total bytes)) [] (each p packet (take total bytes) below
+                (All-take (λ byte. byte < 2 ^ 8) total bytes h))
                 (All-nil P)),
             omega (arith, below, count),
           )
@@ -65,7 +67,8 @@ module _ (P : Frame → Type 0)
         let ends : Ends (end_at p bytes) ≡ Goes frames next total = sym (step-front p bytes (Ok None) is) ∙ goes in
         absurd (cc)
     hold-step p next bytes frames total (Err fault) few h is goes =
-        let ends : Ends (Faulty (fault_in (p.blocks + 1) fault)) ≡ Goes frames next total = sym (step-front p bytes (Err fault) is) ∙ goes in
+        let ends : Ends (Faulty (fault_in (p.blocks + 1) fault)) ≡ Goes frames next total = sym (step-front p bytes (Err fault) is)
+        ∙ goes in
         absurd (cc)
     hold-step p next bytes frames total (Ok (Some whole)) few h is goes =
         hold-over p next bytes whole.total total whole.block frames few h (sym (step-front p bytes (Ok (Some whole)) is) ∙ goes)
@@ -81,7 +84,8 @@ module _ (P : Frame → Type 0)
         (All-append P frames (blocks_of most next (drop total bytes)).frames holds.0
         (again next (drop total bytes) holds.1 (All-drop (λ byte. byte < 2 ^ 8) total bytes h)))
 
-    each-blocks : (most : ℕ) (p : NgPlace) (bytes : List ℕ) → p.packets ≤ MAX_FRAMES → AreBytes bytes → All P (blocks_of most p bytes).frames
+    each-blocks : (most : ℕ) (p : NgPlace) (bytes : List ℕ) → p.packets ≤ MAX_FRAMES → AreBytes bytes
+        → All P (blocks_of most p bytes).frames
     unfolding blocks_of
     each-blocks zero p bytes few h = All-nil P
     each-blocks (suc most) p bytes few h =
@@ -108,7 +112,8 @@ module _ (P : Frame → Type 0) (short : (n : ℕ) → n < MAX_FRAMES → P (rec
         })
         by-length true = short n few
         by-length false = held n packet.link (take packet.captured (drop packet.start block)) few
-            (All-take (λ byte. byte < 2 ^ 8) packet.captured (drop packet.start block) (All-drop (λ byte. byte < 2 ^ 8) packet.start block h))
+            (All-take (λ byte. byte < 2 ^ 8) packet.captured (drop packet.start block)
+            (All-drop (λ byte. byte < 2 ^ 8) packet.start block h))
 
     pub each-held : (bytes : List ℕ) → AreBytes bytes → All P (ng_capture_of bytes).frames
     each-held bytes h = each-frame P (λ p packet block few bytes. of-body p.packets packet block few bytes) bytes h

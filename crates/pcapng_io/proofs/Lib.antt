@@ -2,6 +2,7 @@ pub mod Prefix
 pub mod Steps
 pub mod Passed
 pub mod RunLemmas
+pub mod SpelledBlocks
 pub mod SpelledLemmas
 pub mod Numbered
 pub mod PieceLemmas

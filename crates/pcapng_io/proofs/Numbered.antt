@@ -6,11 +6,10 @@ use Rattle.pcap_io.specs.declared.numbers.TheConstants.{MAX_FRAMES}
 use Rattle.pcapng_io.specs.declared.block.BlockContent.{BlockContent}
 use Rattle.pcapng_io.specs.declared.block.BlockContent.TheVariants as blocks
 use Rattle.pcapng_io.specs.declared.block.WholeBlock.{WholeBlock}
-use Rattle.pcapng_io.specs.declared.end.NgEnd.{NgEnd}
 use Rattle.pcapng_io.specs.declared.end.NgEnd.TheVariants.{Faulty}
 use Rattle.pcapng_io.specs.declared.fault.BlockFault.{BlockFault}
 use Rattle.pcapng_io.specs.declared.fault.NgFault.{NgFault}
-use Rattle.pcapng_io.specs.Reading.{NgPlace, NgStep, Ends, Goes, NgReading, AreFrom, fault_in, after, frame_of, step_over, step, start, end_at, with_front, ended, blocks_of, reading, ng_capture_of}
+use Rattle.pcapng_io.specs.Reading.{NgPlace, NgStep, Ends, Goes, NgReading, AreFrom, fault_in, after, frame_of, step_over, step, start, end_at, blocks_of, reading, ng_capture_of}
 use Rattle.pcapng_io.specs.Taking.{NgSeen, coming_with, coming}
 use Rattle.pcapng_io.proofs.Steps.{front_of, step-front, blocks_of-ends, blocks_of-goes}
 

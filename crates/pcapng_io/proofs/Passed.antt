@@ -25,15 +25,6 @@ use Rattle.pcapng_io.specs.Passing.{place_of, Lies, IsRoom, Passes, BlocksPassed
 use Rattle.pcapng_io.proofs.Prefix.{Within, block_at-within}
 use Rattle.pcapng_io.proofs.Steps.{step-front, step_over-other, goes-more, fault-more}
 
-pub passed-start : (input : List ℕ) (m : NgMark) (described : List Interface) → Lies m described input
-    → BlocksPassed input m m described described []
-passed-start input m described lies = record {
-  lies = lies;
-  blocks = omega arith;
-  packets = omega arith;
-  same = λ more. refl;
-}
-
 -- the whole block at a mark
 abbrev pub IsWhole : List ℕ → NgMark → List Interface → WholeBlock → Type 0
 IsWhole input m described whole = block_at m.little (drop m.first described) (drop m.at input) ≡ Ok (Some whole)
@@ -77,7 +68,8 @@ packets-counted p blocks.Skipped = omega arith
 -- a step over the block at a mark, whatever follows the input
 passes-step : (input : List ℕ) (old new : NgMark) (olds news : List Interface) (whole : WholeBlock) (frames : List Frame)
     → IsWhole input old olds whole → Passes old new olds news whole
-    → step_over (place_of old olds) (drop old.at input) whole.total whole.block ≡ Goes frames (after (place_of old olds) whole.block) whole.total
+    → step_over (place_of old olds) (drop old.at input) whole.total whole.block
+    ≡ Goes frames (after (place_of old olds) whole.block) whole.total
     → (more : List ℕ) → reading (place_of old olds) (drop old.at input ++ more)
     ≡ with_front frames (reading (place_of new news) (drop new.at input ++ more))
 passes-step input old new olds news whole frames is p over more =
@@ -231,7 +223,8 @@ passed-packet input start old starts olds found body passed is few same =
       blocks = omega arith;
       packets = omega arith;
       same = λ more. passed.same more
-          ∙ rw same (passes-step input old new olds olds whole (frame_of (place_of old olds) found.packet (take found.total (drop old.at input)) ∷ []) is p
+          ∙ rw same (passes-step input old new olds olds whole (frame_of (place_of old olds) found.packet
+          (take found.total (drop old.at input)) ∷ []) is p
           (packet-over (place_of old olds) (drop old.at input) found few) more);
     }
 

@@ -1,24 +1,15 @@
 -- What a reader that is fed a file in pieces gives.
-use Rattle.std.proofs.Common.{◌≡◌, ◌≤◌, ◌+◌, ◌<◌, ◌==◌, true, ℕ, List, [], ◌∷◌, ◌++◌, length, take, drop, add-zero, refl, sym, ap, ◌∙◌, subst}
+use Rattle.std.proofs.Common.{◌≡◌, ◌≤◌, ◌+◌, ◌==◌, true, ℕ, List, [], ◌∷◌, length, add-zero, sym, ap, ◌∙◌, subst}
 use Rattle.std.proofs.lemmas.Bool.{eqb-true}
 use Rattle.std.proofs.lemmas.List.{append-nil, nil_from_length}
 use Rattle.pcap_io.specs.declared.frame.Frame.{Frame}
 use Rattle.pcap_io.specs.declared.numbers.TheConstants.{MAX_FRAMES}
 use Rattle.pcapng_io.specs.declared.end.NgEnd.{NgEnd}
-use Rattle.pcapng_io.specs.declared.end.NgEnd.TheVariants.{Faulty}
-use Rattle.pcapng_io.specs.declared.fault.NgFault.{NgFault}
-use Rattle.pcapng_io.specs.Reading.{AreFrom, NgReading, end_at, ended, with_front}
-use Rattle.pcapng_io.specs.Taking.{Given, IsDone, NgSeen, Refused, after_feed, coming, coming_with}
+use Rattle.pcapng_io.specs.Reading.{AreFrom, NgReading, end_at, ended}
+use Rattle.pcapng_io.specs.Taking.{Given, IsDone, NgSeen, coming, coming_with}
 use Rattle.pcapng_io.specs.Pieces.{GivesFrame, NgComing, coming_of}
 use Rattle.pcapng_io.proofs.Numbered.{numbered-coming}
-use Rattle.pcapng_io.proofs.RunLemmas.{feed-coming}
 use Rattle.pcapng_io.proofs.Steps.{reading-ends}
-
--- a piece that is fed is the front of what isn't
-pub fed_on : (r : NgSeen) (piece more bytes : List ℕ) → piece ++ more ≡ bytes → coming_of r bytes ≡ coming_of (after_feed r piece) more
-fed_on r piece more bytes whole =
-    ap (λ (read : NgReading). let c : NgComing = record { reading = read; taken = r.place.packets } in c)
-    (ap (coming r) (sym whole) ∙ feed-coming r piece more)
 
 -- a frame that was taken is the next of a file
 pub took_frame : (old new : NgSeen) (frame : Frame) (bytes : List ℕ) → Given old new (frame ∷ []) → new.place.packets ≤ MAX_FRAMES
@@ -34,12 +25,8 @@ took_frame old new frame bytes given few = record {
 pub took_none : (old new : NgSeen) (bytes : List ℕ) → Given old new [] → coming_of old bytes ≡ coming_of new bytes
 took_none old new bytes given =
     ap (λ (read : NgReading). let c : NgComing = record { reading = read; taken = old.place.packets } in c) (given.comes bytes)
-    ∙ ap (λ (n : ℕ). let c : NgComing = record { reading = coming new bytes; taken = n } in c) (sym (given.packets ∙ add-zero old.place.packets))
-
--- a fault is the end
-pub took_fault : (old new : NgSeen) (fault : NgFault) (bytes : List ℕ) → Refused old new fault
-    → (coming_of old bytes).reading ≡ ended (Faulty fault)
-took_fault old new fault bytes refused = refused.comes bytes
+    ∙ ap (λ (n : ℕ). let c : NgComing = record { reading = coming new bytes; taken = n } in c)
+    (sym (given.packets ∙ add-zero old.place.packets))
 
 -- where all is fed and none is there, the file ends
 pub took_all : (r : NgSeen) → IsDone r → (coming_of r []).reading ≡ ended (end_at r.place r.rest)

@@ -184,7 +184,8 @@ pub record Within (bytes : List ℕ) (whole : WholeBlock) : Type 0 where
   pub packet : PacketWithin whole.total whole.block
 
 with_total-within : (r : Result BlockContent BlockFault) (bytes : List ℕ) (whole : WholeBlock) (total : ℕ) → MIN_BLOCK ≤ total
-    → total ≤ length bytes → ((b : BlockContent) → r ≡ Ok b → PacketWithin total b) → with_total total r ≡ Ok (Some whole) → Within bytes whole
+    → total ≤ length bytes → ((b : BlockContent) → r ≡ Ok b → PacketWithin total b) → with_total total r ≡ Ok (Some whole)
+    → Within bytes whole
 with_total-within (Err fault) bytes whole total some there within is = absurd (cc)
 with_total-within (Ok block) bytes whole total some there within is =
     let made : WholeBlock = record { total = total; block = block } in
@@ -216,7 +217,8 @@ whole_at-within little interfaces kind bytes whole is = elim (cases_lt (length b
       formed-within little interfaces kind bytes (take (total_at little bytes) bytes) whole (omega arith) found
 ]
 
-section_at-within : (order : Option Bool) (bytes : List ℕ) (whole : WholeBlock) → section_at order bytes ≡ Ok (Some whole) → Within bytes whole
+section_at-within : (order : Option Bool) (bytes : List ℕ) (whole : WholeBlock) → section_at order bytes ≡ Ok (Some whole)
+    → Within bytes whole
 section_at-within (Some little) bytes whole is = whole_at-within little [] types.Section bytes whole is
 section_at-within None bytes whole is = absurd (cc)
 

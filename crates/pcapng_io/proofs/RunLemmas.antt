@@ -42,7 +42,8 @@ runs-done r calls runs done =
     ∙ ap (λ bytes. with_front (frames_taken calls) (coming_with r.fault r.place bytes)) (append-nil r.rest)
     ∙ ap (λ fault. with_front (frames_taken calls) (coming_with fault r.place r.rest)) done.0
     ∙ ap (with_front (frames_taken calls)) (reading-ends r.place r.rest (end_at r.place r.rest) done.1)
-    ∙ ap (λ frames. let made : NgReading = record { frames = frames; end = end_at r.place r.rest } in made) (append-nil (frames_taken calls))
+    ∙ ap (λ frames. let made : NgReading = record { frames = frames; end = end_at r.place r.rest } in made)
+    (append-nil (frames_taken calls))
 
 -- where a fault comes, it is the end, whatever is fed later
 pub runs-refused : (old new : NgSeen) (calls : List NgCall) (more : List ℕ) (fault : NgFault) → Runs fresh calls old → Refused old new fault

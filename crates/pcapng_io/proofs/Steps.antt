@@ -1,7 +1,7 @@
 -- Blocks one after the other: a step at the front is the same whatever follows, and what bytes come to goes on from it.
 use Rattle.std.proofs.Common.{◌≡◌, ℕ, zero, suc, ◌+◌, ◌<◌, ◌≤◌, ◌==◌, List, [], ◌++◌, length, drop, Option, Some, None, Result, Ok, Err, refl, sym, ap, ◌∙◌, arith, length-drop, inl, inr}
 use Rattle.std.proofs.lemmas.Bool.{cases_Bool}
-use Rattle.std.proofs.lemmas.List.{take-append-le, drop-append-le, append_assoc}
+use Rattle.std.proofs.lemmas.List.{take-append-le, drop-append-le}
 use Rattle.pcap_io.specs.declared.frame.Frame.{Frame}
 use Rattle.pcap_io.specs.declared.numbers.TheConstants.{MAX_FRAMES}
 use Rattle.pcapng_io.specs.declared.block.BlockContent.{BlockContent}
@@ -14,7 +14,7 @@ use Rattle.pcapng_io.specs.declared.numbers.TheConstants.{MIN_BLOCK}
 use Rattle.pcapng_io.specs.Blocks.{block_at}
 use Rattle.pcapng_io.specs.declared.end.NgEnd.{NgEnd}
 use Rattle.pcapng_io.specs.declared.end.NgEnd.TheVariants.{Faulty}
-use Rattle.pcapng_io.specs.Reading.{NgPlace, NgStep, Ends, Goes, NgReading, fault_in, after, step_over, step_with, step, start, start_end, end_at, end_at_start, ng_capture_of, with_front, ended, blocks_of, reading}
+use Rattle.pcapng_io.specs.Reading.{NgPlace, NgStep, Ends, Goes, fault_in, after, step_over, step_with, step, start, start_end, end_at, end_at_start, ng_capture_of, with_front, ended, blocks_of, reading}
 use Rattle.pcapng_io.proofs.Prefix.{block_at-more, block_at-within}
 
 -- ---- one step
@@ -109,7 +109,8 @@ pub blocks_of-ends : (most : ℕ) (p : NgPlace) (bytes : List ℕ) (end : NgEnd)
 unfolding blocks_of
 blocks_of-ends most p bytes end is = rw (is, blocks_of) refl
 
-pub blocks_of-goes : (most : ℕ) (p next : NgPlace) (bytes : List ℕ) (frames : List Frame) (total : ℕ) → step p bytes ≡ Goes frames next total
+pub blocks_of-goes : (most : ℕ) (p next : NgPlace) (bytes : List ℕ) (frames : List Frame) (total : ℕ) → step p bytes
+    ≡ Goes frames next total
     → blocks_of (suc most) p bytes ≡ with_front frames (blocks_of most next (drop total bytes))
 unfolding blocks_of
 blocks_of-goes most p next bytes frames total is = rw (is, blocks_of) refl
@@ -128,7 +129,8 @@ enough-step m n p bytes (Goes frames next total) is hm hn again =
     ∙ sym (blocks_of-goes n p next bytes frames total is)
 
 -- any number above that of the bytes is enough
-blocks_of-enough : (m n : ℕ) (p : NgPlace) (bytes : List ℕ) → length bytes < m → length bytes < n → blocks_of m p bytes ≡ blocks_of n p bytes
+blocks_of-enough : (m n : ℕ) (p : NgPlace) (bytes : List ℕ) → length bytes < m → length bytes < n → blocks_of m p bytes
+    ≡ blocks_of n p bytes
 blocks_of-enough zero n p bytes hm hn = absurd (omega arith)
 blocks_of-enough (suc m) zero p bytes hm hn = absurd (omega arith)
 blocks_of-enough (suc m) (suc n) p bytes hm hn =
@@ -175,7 +177,3 @@ pub fault-more : (p : NgPlace) (bytes : List ℕ) (fault : NgFault) → step p b
     → (more : List ℕ) → reading p (bytes ++ more) ≡ ended (Faulty fault)
 fault-more p bytes fault is more =
     reading-ends p (bytes ++ more) (Faulty fault) (step-more p bytes more (fault-some p bytes fault is) ∙ is)
-
-pub with_front-append : (xs ys : List Frame) (r : NgReading) → with_front (xs ++ ys) r ≡ with_front xs (with_front ys r)
-with_front-append xs ys r =
-    ap (λ fs. let made : NgReading = record { frames = fs; end = r.end } in made) (append_assoc xs ys r.frames)

@@ -1,4 +1,5 @@
--- A pcapng file as a whole: its blocks one after the other, the frames in them, and how it ends.
+-- A pcapng file as a whole: its blocks one after the other, the frames in them, and how it ends (draft-ietf-opsawg-pcapng sections 3 and
+-- 4; how it ends is an own rule).
 use Rattle.std.specs.Prelude.{◌≡◌, ℕ, zero, suc, ◌+◌, ◌==◌, if◌then◌else◌, Bool, false, List, [], ◌∷◌, ◌++◌, length, take, drop, Option, Some, None, Result, Ok, Err, ⊤}
 use Rattle.pcap_io.specs.declared.frame.Frame.{Frame}
 use Rattle.pcap_io.specs.declared.numbers.TheConstants.{MAX_FRAMES}

@@ -20,7 +20,8 @@ ghost use Rattle.pcapng_io.specs.Spelled.{NgHead, NgSpelled, FitsNgHead, FitsNgP
 /// fault comes, it is the end, whatever is fed later. (own rule)
 pub fn frames_do_not_depend_on_pieces()
     ensures frames { (calls : List NgCall) (r : NgSeen) (more : List ℕ) → Runs fresh calls r
-        → ng_capture_of (bytes_fed calls ++ more) ≡ with_front (frames_taken calls) (coming r more) }
+        → ng_capture_of (bytes_fed calls ++ more)
+        ≡ with_front (frames_taken calls) (coming r more) }
     ensures end { (calls : List NgCall) (r : NgSeen) → Runs fresh calls r → IsDone r
         → NgFrames (bytes_fed calls) (frames_taken calls) (end_at r.place r.rest) }
     ensures fault { (calls : List NgCall) (old new : NgSeen) (fault : NgFault) (more : List ℕ)
@@ -38,7 +39,8 @@ pub fn spelled_files_are_read()
 
 /// A file whose first block is cut or faulty has no frames, and ends there. (own rule)
 pub fn first_block_decides()
-    ensures { (bytes : List ℕ) (end : NgEnd) → end_at_start bytes ≡ Some end → NgFrames bytes [] end }
+    ensures { (bytes : List ℕ) (end : NgEnd) → end_at_start bytes ≡ Some end
+        → NgFrames bytes [] end }
 {}
 
 /// The frames of a file are numbered from 1 on, over all sections. (own rule)
@@ -48,8 +50,7 @@ pub fn frames_are_numbered()
 
 /// The figures of the format (draft-ietf-opsawg-pcapng sections 3.1 and 4): the types of blocks,
 /// their least lengths in bytes, the magic in either order, the major version, where packets begin,
-/// and the own limits: 64 MiB, pieces of
-/// 64 KiB, and 65,536 packets.
+/// and the own limits: 64 MiB, pieces of 64 KiB, and 65,536 packets.
 pub fn blocks_have_their_figures()
     ensures section { type_of 0x0a0d0d0a ≡ types.Section }
     ensures interface { type_of 1 ≡ types.Interface }

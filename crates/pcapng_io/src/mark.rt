@@ -41,7 +41,8 @@ fn pass(
 ) -> Result<(), NoMemory>
     requires { IsRoom mark.old described.old.items whole }
     ensures kept { take (length described.old.items) described.new.items ≡ described.old.items }
-    ensures ok { OnOk result (Passes mark.old mark.new described.old.items described.new.items whole) }
+    ensures ok { OnOk result
+        (Passes mark.old mark.new described.old.items described.new.items whole) }
 {
     let WholeBlock { total, block } = whole;
     mark.at += total;
@@ -67,7 +68,8 @@ fn next_packet(
 ) -> Result<Option<PacketBlock>, NgFault>
     requires { Lies mark.old described.old.items input.now }
     ensures kept { take (length described.old.items) described.new.items ≡ described.old.items }
-    ensures passed { PassesTo input.now mark.old mark.new described.old.items described.new.items result }
+    ensures passed { PassesTo input.now mark.old mark.new described.old.items
+        described.new.items result }
 {
     'each: loop {
         let interfaces = described.as_slice().split_at(mark.first).1;
@@ -94,7 +96,8 @@ pub(crate) fn next_frame(
 ) -> Result<Option<Frame>, NgFault>
     requires { Lies mark.old described.old.items input.now }
     ensures kept { take (length described.old.items) described.new.items ≡ described.old.items }
-    ensures passed { TakesOver input.now mark.old mark.new described.old.items described.new.items result }
+    ensures passed { TakesOver input.now mark.old mark.new described.old.items
+        described.new.items result }
 {
     let Some(PacketBlock { total, packet }) = next_packet(mark, described, input)? else {
         return Ok(None);

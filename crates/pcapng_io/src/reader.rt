@@ -31,9 +31,15 @@ impl Model for NgReader {
 
     ghost Value = { NgSeen };
 
-    ghost view = { λ r. record { fed = r.gone + length r.input.items; rest = drop r.mark.at r.input.items; place = place_of r.mark r.described.items; fault = r.fault } };
+    ghost view = { λ r. record {
+      fed = r.gone + length r.input.items;
+      rest = drop r.mark.at r.input.items;
+      place = place_of r.mark r.described.items;
+      fault = r.fault;
+    } };
 
-    ghost invariant = { λ r. Lies r.mark r.described.items r.input.items × (12 * r.mark.blocks ≤ r.gone + r.mark.at) × (r.gone + length r.input.items ≤ MAX_INPUT) };
+    ghost invariant = { λ r. Lies r.mark r.described.items r.input.items
+        × (12 * r.mark.blocks ≤ r.gone + r.mark.at) × (r.gone + length r.input.items ≤ MAX_INPUT) };
 }
 
 impl NgReader {

@@ -61,8 +61,8 @@ fn passes_most(len: usize) -> bool
     len > MAX_PAYLOAD_LEN
 }
 
-/// Whether `push` would answer `TooBig` for a packet of so many bytes: the outer packet's payload would
-/// pass 65,535 bytes. No memory is taken (RFC 8986 sections 4.13 and 4.14).
+/// Whether `push` would answer `TooBig` for a packet of so many bytes: the outer packet's payload
+/// would pass 65,535 bytes. No memory is taken (RFC 8986 sections 4.13 and 4.14).
 pub fn is_too_big(policy: &Policy, reduced: bool, len: usize) -> bool
     requires policy { IsPolicy policy.now }
     requires packet { len ≤ MAX_PACKET_LEN }
@@ -73,10 +73,10 @@ pub fn is_too_big(policy: &Policy, reduced: bool, len: usize) -> bool
     passes_most(payload_len(policy, reduced, len))
 }
 
-/// Why `encap` would answer a fault of the packet of a family that bytes hold, if it would: `InnerHop`
-/// exactly where the hop limit or TTL is at most 1, and else `TooBig` exactly where the outer
-/// packet's payload would pass 65,535 bytes; never `NoMemory`. No memory is taken (RFC 8986 sections
-/// 5.1 and 5.2).
+/// Why `encap` would answer a fault of the packet of a family that bytes hold, if it would:
+/// `InnerHop` exactly where the hop limit or TTL is at most 1, and else `TooBig` exactly where the
+/// outer packet's payload would pass 65,535 bytes; never `NoMemory`. No memory is taken (RFC 8986
+/// sections 5.1 and 5.2).
 pub fn encap_fault(policy: &Policy, inner: Family, bytes: &[u8]) -> Option<EncapFault>
     requires policy { IsPolicy policy.now }
     requires packet { HoldsInner inner bytes.now }

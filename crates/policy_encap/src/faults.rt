@@ -27,11 +27,11 @@ impl From<NoMemory> for PushFault {
     }
 }
 
-/// Why a packet was not encapsulated (RFC 8200 section 3, RFC 8986 section 5.1). The buffer is as it
-/// was.
+/// Why a packet was not encapsulated (RFC 8200 section 3, RFC 8986 section 5.1). The buffer is as
+/// it was.
 #[derive(Clone, Copy, Debug, PartialEq, Eq)]
 pub enum EncapFault {
-    /// The packet's hop limit is at most 1, so that it cannot be lowered (own rule).
+    /// The packet's hop limit or TTL is at most 1, so that it cannot be lowered (own rule).
     InnerHop,
     /// The outer packet's payload would be longer than 65,535 bytes (RFC 8200 section 3).
     TooBig {

@@ -7,6 +7,7 @@
 
 mod encapsulation;
 mod faults;
+pub mod figures;
 mod headers;
 mod inner;
 

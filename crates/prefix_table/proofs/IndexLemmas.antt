@@ -1,17 +1,15 @@
 -- The places of entries by the keys of their prefixes, and the lengths of keys.
-use Rattle.std.proofs.Common.{◌≡◌, ◌↔◌, ℕ, zero, suc, ◌+◌, ◌-◌, ◌/◌, ◌^◌, ◌<◌, ◌≤◌, ◌⊎◌, Bool, true, false, ◌==◌, ◌&&◌, cond, List, [], ◌∷◌, ◌++◌, length, get_or, slice_get, Option, Some, None, Contains, refl, sym, ap, ◌∙◌, subst, arith, inl, inr}
-use Rattle.std.specs.Prelude.{is_some, nat_lt, if◌then◌else◌, option_map, map, IsTrue}
+use Rattle.std.proofs.Common.{◌≡◌, ◌↔◌, ℕ, zero, suc, ◌-◌, ◌/◌, ◌^◌, ◌<◌, ◌≤◌, ◌⊎◌, Bool, true, false, ◌==◌, ◌&&◌, cond, List, [], ◌∷◌, ◌++◌, length, get_or, slice_get, Option, Some, None, Contains, refl, sym, ap, ◌∙◌, subst, arith, inl, inr}
+use Rattle.std.specs.Prelude.{is_some, option_map, map, IsTrue}
 use Rattle.std.specs.declared.cmp.Ordering.{Ordering}
 use Rattle.std.specs.declared.cmp.Ordering.TheVariants.{Less, Equal, Greater}
 use Rattle.std.specs.Ordering.{nat_cmp, ordering_then, is_eq}
-use Rattle.std.specs.List.{insert, remove}
 use Rattle.std.specs.BTreeMap.{BTreeMap}
 use Rattle.std.specs.BTreeMap as map
 use Rattle.std.specs.Map.{lookup}
 use Rattle.std.proofs.lemmas.Map.Made.{lookup-map_values}
 use Rattle.std.proofs.lemmas.Bool.{cases_Bool, cases_lt, cases_eq, both_ways, and_parts, and_from, eqb-true, eq-eqb, false≢true}
 use Rattle.std.proofs.lemmas.Bool.Decides.{nat_tests}
-use Rattle.std.proofs.lemmas.List.Edits.{length-insert, get_or-insert_at, get_or-insert_below, get_or-insert_above}
 use Rattle.std.proofs.lemmas.Option.{none-some, slice_get-get_or, slice_get_within, get_or_from_slice_get}
 use Rattle.v6_addr.specs.Address.{PrefixValue, IsPrefix, Holds}
 use Rattle.v6_addr.proofs.PublicLaws.{same_value, Holds_own_value}
@@ -45,105 +43,7 @@ key_same k q is =
 pub key_self : (k : Key) → is_eq (key_cmp k k) ≡ true
 key_self k = key_is k k ∙ and_from (k.len == k.len) (k.bits == k.bits) (eq-eqb k.len k.len refl) (eq-eqb k.bits k.bits refl)
 
--- ---- the list of lengths
-
-module _ (ls : List ℕ) (at n : ℕ) (within : at ≤ length ls) where
-  -- where an element stands in the list with one more
-  inserted : (i : ℕ) → i < length (insert ls at n) → ((i < at) × (get_or (insert ls at n) i 0 ≡ get_or ls i 0))
-      ⊎ (((i ≡ at) × (get_or (insert ls at n) i 0 ≡ n))
-      ⊎ ((j : ℕ) × (i ≡ j + 1) × (at ≤ j) × (j < length ls) × (get_or (insert ls at n) i 0 ≡ get_or ls j 0)))
-  inserted i h =
-      elim (cases_lt i at) [
-        | inl before ↦ inl (before, get_or-insert_below ls at n 0 i before within)
-        | inr past ↦ elim (cases_eq i at) [
-          | inl here ↦ inr (inl (here, subst (λ k. get_or (insert ls at n) k 0 ≡ n) (sym here) (get_or-insert_at ls at n 0 within)))
-          | inr other ↦
-              let j : ℕ = i - 1 in
-              let next : i ≡ j + 1 = omega arith in
-              let long = length-insert ls at n within in
-              let later : at ≤ j = omega arith in
-              inr (inr (
-                j,
-                next,
-                later,
-                omega (arith, long, h),
-                subst (λ k. get_or (insert ls at n) k 0 ≡ get_or ls j 0) (sym next)
-                    (get_or-insert_above ls at n 0 j later within),
-              ))
-        ]
-      ]
-
-  module _ (falling : AreFalling ls) (above : (k : ℕ) → k < at → n < get_or ls k 0)
-      (below : (k : ℕ) → at ≤ k → k < length ls → get_or ls k 0 < n) where
-    falls_with : (i j : ℕ) → i < j → j < length (insert ls at n) → get_or (insert ls at n) j 0 < get_or (insert ls at n) i 0
-    falls_with i j less h =
-        let long = length-insert ls at n within in
-        elim (inserted i (omega (arith, less, h))) [
-          | inl a ↦ elim (inserted j h) [
-            | inl b ↦ omega (arith, a.1, b.1, falling.fall i j less (omega (arith, b.0, within)))
-            | inr (inl b) ↦ omega (arith, a.1, b.1, above i a.0)
-            | inr (inr b) ↦ omega (arith, a.1, b.4, falling.fall i b.0 (omega (arith, a.0, b.2)) b.3)
-          ]
-          | inr (inl a) ↦ elim (inserted j h) [
-            | inl b ↦ absurd (omega (arith, a.0, b.0, less))
-            | inr (inl b) ↦ absurd (omega (arith, a.0, b.0, less))
-            | inr (inr b) ↦ omega (arith, a.1, b.4, below b.0 b.2 b.3)
-          ]
-          | inr (inr a) ↦ elim (inserted j h) [
-            | inl b ↦ absurd (omega (arith, a.1, a.2, b.0, less))
-            | inr (inl b) ↦ absurd (omega (arith, a.1, a.2, b.0, less))
-            | inr (inr b) ↦ omega (arith, a.4, b.4, falling.fall a.0 b.0 (omega (arith, a.1, b.1, less)) b.3)
-          ]
-        ]
-
-    few_with : n ≤ 128 → (i : ℕ) → i < length (insert ls at n) → get_or (insert ls at n) i 0 ≤ 128
-    few_with few i h =
-        elim (inserted i h) [
-          | inl a ↦ omega (arith, a.1, falling.few i (omega (arith, a.0, within)))
-          | inr (inl a) ↦ omega (arith, a.1, few)
-          | inr (inr a) ↦ omega (arith, a.4, falling.few a.0 a.3)
-        ]
-
-    pub falling_with : n ≤ 128 → AreFalling (insert ls at n)
-    falling_with few = record { fall = falls_with; few = few_with few }
-
-  pub kept_with : Keeps ls (insert ls at n)
-  kept_with len has =
-      let long = length-insert ls at n within in
-      elim (cases_lt has.0 at) [
-        | inl before ↦ (has.0, omega (arith, long, has.1), get_or-insert_below ls at n 0 has.0 before within ∙ has.2)
-        | inr past ↦ (has.0 + 1, omega (arith, long, has.1), get_or-insert_above ls at n 0 has.0 past within ∙ has.2)
-      ]
-
-  pub noted_with : HasLength (insert ls at n) n
-  noted_with = (at, omega (arith, length-insert ls at n within, within), get_or-insert_at ls at n 0 within)
-
--- from the first length that isn't above another on, none is, and where that one isn't the other, all are below
-pub below_from : (ls : List ℕ) (at n : ℕ) → AreFalling ls → (at < length ls → get_or ls at 0 ≤ n)
-    → (at < length ls → ¬ (get_or ls at 0 ≡ n))
-    → (k : ℕ) → at ≤ k → k < length ls → get_or ls k 0 < n
-below_from ls at n falling here other k from within =
-    let inside : at < length ls = omega (arith, from, within) in
-    let first : get_or ls at 0 < n =
-    elim (cases_eq (get_or ls at 0) n) [
-      | inl same ↦ absurd (other inside same)
-      | inr apart ↦ omega (arith, here inside, apart)
-    ] in
-    elim (cases_eq k at) [
-      | inl same ↦ subst (λ i. get_or ls i 0 < n) (sym same) first
-      | inr apart ↦ omega (arith, falling.fall at k (omega (arith, from, apart)) within, first)
-    ]
-
-pub falling_none : AreFalling []
-falling_none = record { fall = λ i j less h. absurd (omega (arith, h)); few = λ i h. absurd (omega (arith, h)) }
-
 -- ---- places
-
-pub no_places : (index : Index) → index.places.entries ≡ [] → (k : Key) → place_at index k ≡ None
-no_places index none k = ap (lookup (λ q. is_eq (key_cmp k q))) none
-
-pub same_places : (old new : Index) → new.places.entries ≡ old.places.entries → (k : Key) → place_at new k ≡ place_at old k
-same_places old new same k = ap (lookup (λ q. is_eq (key_cmp k q))) same
 
 -- a key's place after another key got one
 put_cases : (old new : Index) (key k : Key) (n i : ℕ) → map.Updates key_cmp old.places new.places key (Some n) → place_at new k ≡ Some i
@@ -174,13 +74,6 @@ lengths_put old new key n are falling keeps noted update = record {
     | inl here ↦ subst (λ (q : Key). HasLength new.lengths.items q.len) here.0 noted
     | inr was ↦ keeps k.len (are.each k i was)
   ];
-}
-
-pub lengths_kept : (old new : Index) → AreLengths old → AreFalling new.lengths.items → Keeps old.lengths.items new.lengths.items
-    → new.places.entries ≡ old.places.entries → AreLengths new
-lengths_kept old new are falling keeps same = record {
-  falling = falling;
-  each = λ k i is. keeps k.len (are.each k i (sym (same_places old new same k) ∙ is));
 }
 
 -- ---- a key is taken out
@@ -317,12 +210,6 @@ one_prefix p q is_p is_q same =
     same_prefix p q (same_value p q q.value is_p is_q len (holds_by_key p q.value q.len same) (Holds_own_value q)) len
 
 module _ {T : Type 0} where
-  pub index_none : (index : Index) → ((k : Key) → place_at index k ≡ None) → IsIndex {T = T} [] index
-  index_none index none = record {
-    each = λ i e h. absurd (none-some e h);
-    leads = λ k i is. absurd (none-some i (sym (none k) ∙ is));
-  }
-
   pub index_put : (es : List (PrefixValue × T)) (old new : Index) (p : PrefixValue) (t : T) → IsIndex es old
       → place_at old (key_of p) ≡ None → map.Updates key_cmp old.places new.places (key_of p) (Some (length es))
       → IsIndex (es ++ (p, t) ∷ []) new

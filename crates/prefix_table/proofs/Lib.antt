@@ -1,4 +1,5 @@
 pub mod TableLemmas
+pub mod LengthLemmas
 pub mod IndexLemmas
 pub mod EditLemmas
 pub mod TakeLemmas

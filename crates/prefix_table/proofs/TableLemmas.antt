@@ -1,9 +1,8 @@
 -- Tables of prefixes: one entry more, and the best entry.
-use Rattle.std.proofs.Common.{◌≡◌, ℕ, zero, suc, ◌+◌, ◌<◌, ◌≤◌, ltb, ◌⊎◌, List, [], ◌∷◌, ◌++◌, length, take, get_or, Option, Some, None, refl, sym, ap, ◌∙◌, subst, arith, inl, inr}
+use Rattle.std.proofs.Common.{◌≡◌, ℕ, zero, suc, ◌≤◌, ltb, ◌⊎◌, List, [], ◌∷◌, ◌++◌, Option, Some, None, refl, sym, ap, ◌∙◌, subst, arith, inl, inr}
 use Rattle.std.specs.List.{Contains}
 use Rattle.std.proofs.lemmas.Bool.{cases_Bool, ltb-true, ltb-false}
-use Rattle.std.proofs.lemmas.List.{take_all, take_more}
-use Rattle.std.proofs.lemmas.List.Elements.{Contains-append_left, Contains-push, Contains-push_cases, Contains-get_or}
+use Rattle.std.proofs.lemmas.List.Elements.{Contains-append_left, Contains-push, Contains-push_cases}
 use Rattle.v6_addr.specs.Address.{PrefixValue, IsPrefix, Holds}
 use Rattle.v6_addr.proofs.PublicLaws.{same_value}
 use Rattle.prefix_table.specs.Table.{HasPrefix, EachOnce, IsTable, IsBest, IsBestMatch, IsBetter}
@@ -42,9 +41,6 @@ module _ {T : Type 0} where
     each_once-push xs p t once.1 (λ h. new (h.0, contains_later x xs (p, h.0) h.1)),
   )
 
-  pub is_table_none : IsTable {T = T} []
-  is_table_none = record { prefixes = λ e c. absurd (contains_none e c); once = tt }
-
   pub is_table_push : (xs : List (PrefixValue × T)) (p : PrefixValue) (t : T) → IsTable xs → IsPrefix p → ¬ HasPrefix xs p
       → IsTable (xs ++ (p, t) ∷ [])
   is_table_push xs p t table is new = record {
@@ -56,26 +52,6 @@ module _ {T : Type 0} where
   }
 
   -- ---- the search for a prefix
-
-  pub has_none : (p : PrefixValue) → ¬ HasPrefix {T = T} [] p
-  has_none p h = contains_none _ h.1
-
-  pub has_at : (xs : List (PrefixValue × T)) (i : ℕ) (x : PrefixValue × T) (p : PrefixValue) → i < length xs → x ≡ get_or xs i x
-      → x.0 ≡ p → HasPrefix xs p
-  has_at xs i x p within is same = has_by xs x p (subst (Contains xs) (sym is) (Contains-get_or xs i x within)) same
-
-  pub has_more : (xs : List (PrefixValue × T)) (i : ℕ) (x : PrefixValue × T) (p : PrefixValue) → i < length xs → x ≡ get_or xs i x
-      → ¬ HasPrefix (take i xs) p → ¬ (x.0 ≡ p) → ¬ HasPrefix (take (i + 1) xs) p
-  has_more xs i x p within is none other h =
-      let so_far = take_more xs i x within ∙ ap (λ y. take i xs ++ y ∷ []) (sym is) in
-      let there = subst (λ ys. Contains ys (p, h.0)) so_far h.1 in
-      elim (Contains-push_cases (take i xs) x (p, h.0) there) [
-        | inl among ↦ none (h.0, among)
-        | inr same ↦ other (ap (λ e. e.0) same)
-      ]
-
-  pub has_end : (xs : List (PrefixValue × T)) (i : ℕ) (p : PrefixValue) → length xs ≤ i → ¬ HasPrefix (take i xs) p → ¬ HasPrefix xs p
-  has_end xs i p end none h = none (subst (λ ys. HasPrefix ys p) (sym (take_all i xs end)) h)
 
   -- ---- the best entry
 
@@ -119,19 +95,6 @@ module _ {T : Type 0} where
       | inr is ↦ subst (λ f. f.0.len ≤ b.0.len) is (no_longer a b e worse (subst (λ f. Holds f.0 a) (sym is) held))
     ];
   }
-
-  pub best_more : (xs : List (PrefixValue × T)) (i : ℕ) (x : PrefixValue × T) (a : ℕ) (o : Option (PrefixValue × T)) → i < length xs
-      → x ≡ get_or xs i x → IsBestMatch (take i xs ++ x ∷ []) a o → IsBestMatch (take (i + 1) xs) a o
-  best_more xs i x a o within is best =
-      subst (λ ys. IsBestMatch ys a o) (ap (λ y. take i xs ++ y ∷ []) is ∙ sym (take_more xs i x within)) best
-
-  pub best_end : (xs ys : List (PrefixValue × T)) (i a : ℕ) (o p : Option (PrefixValue × T)) → length xs ≤ i → xs ≡ ys → o ≡ p
-      → IsBestMatch (take i xs) a o → IsBestMatch ys a p
-  best_end xs ys i a o p end same found best =
-      subst (λ zs. IsBestMatch zs a p) (take_all i xs end ∙ same) (subst (IsBestMatch (take i xs) a) found best)
-
-  pub best_none : (a : ℕ) → IsBestMatch {T = T} [] a None
-  best_none a e c = absurd (contains_none e c)
 
   -- ---- the best is one
 

@@ -1,17 +1,17 @@
 -- A whole table after an entry is taken out, and after a value is replaced.
-use Rattle.std.proofs.Common.{◌≡◌, ℕ, zero, suc, ◌+◌, ◌-◌, ◌<◌, ◌≤◌, ◌⊎◌, ltb, Bool, true, false, List, [], ◌∷◌, length, slice_get, slice_set, Option, Some, None, refl, sym, ap, ◌∙◌, subst, arith, inl, inr}
-use Rattle.std.specs.Prelude.{if◌then◌else◌, option_map, nat_lt, cond}
-use Rattle.std.specs.List.{Contains, remove}
+use Rattle.std.proofs.Common.{◌≡◌, ℕ, zero, suc, ◌-◌, ◌<◌, ◌≤◌, false, List, [], ◌∷◌, length, slice_get, slice_set, Some, None, refl, sym, ap, ◌∙◌, subst, arith, inl, inr}
+use Rattle.std.specs.Prelude.{option_map}
+use Rattle.std.specs.List.{remove}
 use Rattle.std.specs.Ordering.{is_eq}
-use Rattle.std.proofs.lemmas.Bool.{cases_Bool, cases_lt, cases_eq, both_ways, lt-ltb, le-ltb}
+use Rattle.std.proofs.lemmas.Bool.{cases_Bool, cases_lt, both_ways, lt-ltb, le-ltb}
 use Rattle.std.proofs.lemmas.Option.{none-some, same_Some, slice_get_within}
 use Rattle.v6_addr.specs.Address.{PrefixValue, IsPrefix}
 use Rattle.prefix_table.specs.declared.index.Key.{Key}
 use Rattle.prefix_table.specs.declared.index.Index.{Index}
-use Rattle.prefix_table.specs.Table.{HasPrefix, EachOnce, IsTable, is_one_prefix, value_at, without, with_value}
+use Rattle.prefix_table.specs.Table.{HasPrefix, IsTable, value_at, without, with_value}
 use Rattle.prefix_table.specs.Index.{key_cmp, key_of, place_at, AreLengths, closed, ClosesGap, IsIndex, IsWhole}
-use Rattle.prefix_table.proofs.IndexLemmas.{key_same, key_self, place_of, contains_at, known, one_prefix, has_by_place, new_key, ComesFrom, gap_cases}
-use Rattle.prefix_table.proofs.EditLemmas.{get_before, get_behind, without_at, value_at_place, with_at, without_none, with_none, value_none, is_table_without, is_table_with}
+use Rattle.prefix_table.proofs.IndexLemmas.{key_same, key_self, place_of, contains_at, one_prefix, gap_cases}
+use Rattle.prefix_table.proofs.EditLemmas.{get_before, get_behind, without_at, value_at_place, with_at, is_table_without, is_table_with}
 
 closed_before : (gone i : ℕ) → i < gone → closed gone i ≡ i
 closed_before gone i before = rw (le-ltb gone i (omega (arith, before))) refl

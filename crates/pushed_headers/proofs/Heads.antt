@@ -1,5 +1,5 @@
 -- What comes of a pushed header at a SID, for all bytes that it stands in front of.
-use Rattle.std.proofs.Common.{◌≡◌, ℕ, ◌+◌, ◌-◌, ◌*◌, ◌≤◌, Bool, true, false, ◌==◌, ◌&&◌, not, nat_le, if◌then◌else◌, List, [], ◌∷◌, ◌++◌, length, drop, Option, Some, None, refl, ap, ◌∙◌, arith}
+use Rattle.std.proofs.Common.{◌≡◌, ℕ, ◌+◌, ◌-◌, Bool, true, false, ◌==◌, ◌&&◌, nat_le, if◌then◌else◌, List, [], ◌∷◌, length, Option, Some, None, refl, ap, ◌∙◌, arith}
 use Rattle.std.proofs.lemmas.List.{drop_at}
 use Rattle.srv6_rules.specs.declared.numbers.TheConstants.{NEXT_HEADER_AT}
 use Rattle.srv6_rules.specs.declared.sid.Reason.TheVariants as reasons
@@ -10,10 +10,9 @@ use Rattle.srv6_rules.specs.Behaviours.{goes_on, exposes, ipv6_inside}
 use Rattle.srv6_rules.specs.Packet.{Packet, header_len}
 use Rattle.srv6_rules.specs.Srh.{Srh, srh_spelling, srh_of, segments_left_at, entry_of}
 use Rattle.srv6_rules.specs.Areas.{Fault, tlvs_fault}
-use Rattle.srv6_rules.specs.Chain.{ChainPlace, Header, Upper, Chain, behind, is_extension, segments_left, from_place, start_of, chain_of, chain_at}
+use Rattle.srv6_rules.specs.Chain.{ChainPlace, Upper, Chain, behind, segments_left, from_place, chain_of, chain_at}
 use Rattle.srv6_rules.specs.CompressedSteps.{ReplaceStep, Moved, AtEnd, Dropped, Move, move_of, compression_of, is_replace, shifts, shifted, moved, hop_limit_fault, lacks_entry, is_ended, is_at_end, has_bad_list, unless_dropped, segments_fault, replace_step}
-use Rattle.srv6_rules.specs.Endpoint.{Endpoint, Onward, Exposed, Refused, outcome_without, over_headers, is_allowed, upper_layer, has_bad_segments, next_segment, leaves_none, after_step, after_last, at_whole_segments, by_replace_step, at_packed_segments, at_segment_routing, shifts_at, next_csid, is_options, at_header, at_last_upper, at_upper, at_end, at_sid}
-use Rattle.srv6_rules.proofs.Headers.{length-srh_spelling}
+use Rattle.srv6_rules.specs.Endpoint.{Endpoint, Onward, Exposed, outcome_without, over_headers, is_allowed, upper_layer, has_bad_segments, next_segment, leaves_none, after_last, at_whole_segments, by_replace_step, at_packed_segments, next_csid, at_header, at_last_upper, at_upper, at_end, at_sid}
 use Rattle.srv6_rules.proofs.PublicLaws.{chain_of-start, chain_at-upper, chain_at-spelled}
 use Rattle.pushed_headers.specs.Fronts.{Fate, IsFate, IsFrontOf, AreFront, endpoint_of, filled}
 use Rattle.pushed_headers.proofs.Framing.{Framed, kept-fate, framed-more, framed-onward, framed-exposed, framed-delivered, framed-refused, framed-same, framed-if, framed-unless}
@@ -134,7 +133,8 @@ module _ (s : SidEntry) (allow : List ℕ) (p : Packet) where
     step-moved m =
         framed-pop (s.psp && m.ended) _ (framed-moved (p.hop_limit - 1) m.destination m.segments_left)
 
-    framed-step : Framed AreFront (by_step (λ bytes. replace_step (compression_of s) (filled p (Some t) bytes) header_len (srh_of (srh_spelling t))))
+    framed-step : Framed AreFront (by_step (λ bytes. replace_step (compression_of s) (filled p (Some t) bytes) header_len
+        (srh_of (srh_spelling t))))
     framed-step =
         let c : Compression = compression_of s in
         let srh : Srh = srh_of (srh_spelling t) in

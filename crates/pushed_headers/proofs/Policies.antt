@@ -1,5 +1,5 @@
 -- The header that a policy makes is one in front of an IPv6 packet.
-use Rattle.std.proofs.Common.{◌≡◌, ℕ, ◌*◌, Bool, true, false, if◌then◌else◌, List, [], ◌++◌, length, Option, Some, None, refl, ap, ◌∙◌, arith}
+use Rattle.std.proofs.Common.{◌≡◌, ℕ, Bool, true, false, if◌then◌else◌, List, [], ◌++◌, Option, Some, None, refl, ap, ◌∙◌, arith}
 use Rattle.srv6_rules.specs.declared.policy.Policy.{Policy}
 use Rattle.srv6_rules.specs.declared.sid.Family.TheVariants.{V6}
 use Rattle.srv6_rules.specs.Packet.{Packet}
@@ -7,7 +7,7 @@ use Rattle.srv6_rules.specs.Srh.{Srh, srh_spelling}
 use Rattle.srv6_rules.specs.Chain.{routing}
 use Rattle.srv6_rules.specs.Behaviours.{ipv6_inside}
 use Rattle.srv6_rules.specs.Encapsulation.{Encapsulation, segment_list, has_segment_routing, pushed}
-use Rattle.srv6_rules.specs.Policies.{encapsulation_by, outer_by, pushed_round, routing_header}
+use Rattle.srv6_rules.specs.Policies.{encapsulation_by, outer_by, routing_header}
 use Rattle.srv6_rules.proofs.PublicLaws.{length-entries}
 use Rattle.pushed_headers.specs.Fronts.{IsFrontOf, AreFront, filled, front_of, front_by}
 

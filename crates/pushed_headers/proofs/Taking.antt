@@ -1,5 +1,5 @@
 -- The segment routing header of a pushed header taken out.
-use Rattle.std.proofs.Common.{◌≡◌, ℕ, ◌+◌, ◌*◌, List, ◌++◌, length, take, drop, Option, Some, None, refl, ap, ◌∙◌, arith}
+use Rattle.std.proofs.Common.{◌≡◌, ℕ, ◌+◌, List, ◌++◌, length, take, drop, Option, Some, None, refl, ap, ◌∙◌, arith}
 use Rattle.std.proofs.lemmas.List.{drop_at, take_at}
 use Rattle.srv6_rules.specs.declared.numbers.TheConstants.{NEXT_HEADER_AT}
 use Rattle.srv6_rules.specs.Packet.{Packet, header_len}

@@ -1,6 +1,6 @@
 -- A header in front of an IPv6 packet, apart from the packet's bytes, and what comes of it at a SID for all bytes at once (RFC 8200
 -- section 3, RFC 8754 section 2, RFC 8986 section 4).
-use Rattle.std.specs.Prelude.{◌≡◌, ℕ, ◌-◌, ◌*◌, Bool, if◌then◌else◌, List, ◌++◌, length, Option, Some, None}
+use Rattle.std.specs.Prelude.{◌≡◌, ℕ, ◌*◌, Bool, if◌then◌else◌, List, ◌++◌, length, Option, Some, None}
 use Rattle.srv6_rules.specs.declared.policy.Policy.{Policy}
 use Rattle.srv6_rules.specs.declared.sid.Family.TheVariants.{V6}
 use Rattle.srv6_rules.specs.declared.sid.Reason.{Reason}

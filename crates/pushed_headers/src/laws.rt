@@ -21,8 +21,8 @@ pub fn what_a_header_is_round_makes_no_difference()
         ((bytes : List ℕ) → at_sid s allow (filled p o bytes) ≡ endpoint_of fate bytes) }
 {}
 
-/// The header that a policy puts in front of an IPv6 packet is such a header, in the full and in the
-/// reduced form, and it is the same in front of all bytes (RFC 8986 sections 4.13, 4.14 and 5).
+/// The header that a policy puts in front of an IPv6 packet is such a header, in the full and in
+/// the reduced form, and it is the same in front of all bytes (RFC 8986 sections 4.13, 4.14 and 5).
 pub fn a_policy_makes_a_front()
     ensures front { (policy : Policy) (reduced : Bool) → AreFront (front_by policy reduced) }
     ensures round { (policy : Policy) (reduced : Bool) (bytes : List ℕ) →

@@ -1,9 +1,9 @@
 -- A segment routing header of a chain, in the packet's bytes from its place on.
-use Rattle.std.proofs.Common.{◌≡◌, ℕ, ◌+◌, ◌-◌, ◌*◌, ◌^◌, ◌<◌, ◌≤◌, Bool, true, ◌==◌, ◌&&◌, nat_le, List, ◌++◌, length, take, drop, slice_index, All, refl, sym, ◌∙◌, ap, subst, arith}
+use Rattle.std.proofs.Common.{◌≡◌, ℕ, ◌+◌, ◌-◌, ◌*◌, ◌^◌, ◌<◌, ◌≤◌, true, ◌==◌, nat_le, List, ◌++◌, length, drop, slice_index, All, sym, ◌∙◌, ap, arith}
 use Rattle.std.proofs.lemmas.Bool.{and_parts, and_from, le-leb, eqb-true}
 use Rattle.std.proofs.lemmas.List.{length-drop, take-append-drop, take_all}
 use Rattle.srv6_rules.specs.Packet.{Packet, header_len}
-use Rattle.srv6_rules.specs.Srh.{Srh, srh_of, srh_spelling}
+use Rattle.srv6_rules.specs.Srh.{srh_of, srh_spelling}
 use Rattle.srv6_rules.specs.Chain.{Header, LiesIn, from_place, is_segment_routing, is_whole, routing, extension_bytes, routing_type}
 use Rattle.srv6_rules.proofs.PublicLaws.{lies-bytes, lies-stated, srh_of-spelling, srh_of-spellable, srh_spelling-srh_of}
 

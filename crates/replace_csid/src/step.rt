@@ -131,8 +131,8 @@ pub fn replace(compression: Compression, at: usize, bytes: &mut [u8]) -> Replace
     }
 }
 
-/// Whether no segment would be left after `replace` where it would answer `Moved`, and none where it
-/// would not; no byte is changed.
+/// Whether no segment would be left after `replace` where it would answer `Moved`, and none where
+/// it would not; no byte is changed (RFC 9800 section 4.2).
 pub fn would_end(compression: Compression, at: usize, bytes: &[u8]) -> Option<bool>
     requires packet { HoldsPacket bytes.now }
     requires replace { IsReplace compression }

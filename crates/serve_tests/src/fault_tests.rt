@@ -221,8 +221,8 @@ fn an_outside_that_never_fails(rt: HostRuntime) -> Result<(), Fail> {
     let alloc = rt.alloc();
     let words = words_of(alloc, RUN)?;
     let mut input = SureSource::new(alloc, &PACKET)?;
-    let mut out = SureSink::new(alloc)?;
-    let mut err = SureSink::new(alloc)?;
+    let mut out = SureSink::new(alloc);
+    let mut err = SureSink::new(alloc);
     let status = serve(
         alloc,
         words.as_slice(),

@@ -57,8 +57,8 @@ fn walk_over_sure_ends(rt: HostRuntime) -> Result<(), Fail> {
     let packet = hex::decode(alloc, PACKET)?;
     let walked = hex::decode(alloc, WALKED)?;
     let mut input = SureSource::new(alloc, packet.as_slice())?;
-    let mut out = SureSink::new(alloc)?;
-    let mut err = SureSink::new(alloc)?;
+    let mut out = SureSink::new(alloc);
+    let mut err = SureSink::new(alloc);
     let status = walk_over(alloc, 0, &mut input, &mut out, &mut err)?;
     assert_eq!(rt; status, Status::Done);
     assert_eq!(rt; out.held(), walked.as_slice());
@@ -73,8 +73,8 @@ fn walk_over_slow_ends(rt: HostRuntime) -> Result<(), Fail> {
     let packet = hex::decode(alloc, PACKET)?;
     let walked = hex::decode(alloc, WALKED)?;
     let mut input = SlowSource::new(SureSource::new(alloc, packet.as_slice())?);
-    let mut out = SlowSink::new(SureSink::new(alloc)?);
-    let mut err = SlowSink::new(SureSink::new(alloc)?);
+    let mut out = SlowSink::new(SureSink::new(alloc));
+    let mut err = SlowSink::new(SureSink::new(alloc));
     let status = walk_over(alloc, 0, &mut input, &mut out, &mut err)?;
     assert_eq!(rt; status, Status::Done);
     assert_eq!(rt; out.sink().held(), walked.as_slice());

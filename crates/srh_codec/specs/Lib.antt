@@ -1,4 +1,3 @@
 pub mod Viewing
 pub mod Reading
-pub mod Editing
 pub mod Writing

@@ -44,7 +44,8 @@ pub upper-plain : (s : SidEntry) (allow : List ℕ) (p : Packet) (place : ChainP
     → at_upper s allow p place ≡ at_last_upper s allow p place
 upper-plain s allow p place plain = rw plain refl
 
-module _ (s : SidEntry) (plain : s.csid ≡ csids.Plain) (allow : List ℕ) (e : Encapsulation) (inner : List ℕ) (left hop destination : ℕ) where
+module _ (s : SidEntry) (plain : s.csid ≡ csids.Plain) (allow : List ℕ) (e : Encapsulation) (inner : List ℕ)
+    (left hop destination : ℕ) where
   outer-at_sid : at_sid s allow (outer e inner left hop destination)
       ≡ over_headers (at_header s (outer e inner left hop destination)) (outer_headers e left (has_segment_routing e))
       (at_upper s allow (outer e inner left hop destination) (inner_place e))

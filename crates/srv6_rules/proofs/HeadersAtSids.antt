@@ -61,7 +61,8 @@ module _ (s : SidEntry) (p : Packet) (h : Header) where
   ]
 
   -- a routing header where the SID does not shift
-  pub at_header-routing : (rest : Endpoint) → shifts_at s p ≡ false → h.place.kind ≡ routing → at_header s p h rest ≡ at_sid_routing s p h rest
+  pub at_header-routing : (rest : Endpoint) → shifts_at s p ≡ false → h.place.kind ≡ routing → at_header s p h rest
+      ≡ at_sid_routing s p h rest
   at_header-routing rest not kind = at_header-unshifted rest not ∙ routing-by (at_sid_routing s p) h rest kind
 
   -- a segment routing header there

@@ -74,7 +74,7 @@ next_segment p at s =
 abbrev pub as_in : Packet → Header → Header
 as_in q h = record { place = h.place; bytes = take (length h.bytes) (from_place q h.place.at) }
 
--- an outcome without a header: it is taken out of the packet that goes on or is handed over. What is exposed has none of the
+-- an outcome without a header: it is taken out of the packet that goes on or is delivered. What is exposed has none of the
 -- headers in front of it, and a fault has its place in the packet as it came
 abbrev pub outcome_without : Header → Endpoint → Endpoint
 outcome_without h (Onward q) = Onward (without q (as_in q h))
@@ -92,7 +92,7 @@ abbrev pub after_step : SidEntry → Header → Endpoint → Endpoint
 after_step s h stepped = if s.psp && leaves_none (srh_of h.bytes) then outcome_without h stepped else stepped
 
 -- the outcome after a segment routing header with no segments left: a SID with USP takes that header out (RFC 8986 section
--- 4.16.2)
+-- 4.16.2); that it takes out each such header, and that a drop behind leaves the packet as it came, are own rules
 abbrev pub after_last : SidEntry → Header → Endpoint → Endpoint
 after_last s h behind = if s.usp then outcome_without h behind else behind
 
@@ -162,7 +162,8 @@ next_csid s p = if nat_le p.hop_limit 1 then Refused reasons.HopLimit 0 else Onw
 abbrev pub is_options : Header → Bool
 is_options h = (h.place.kind == hop_by_hop) || (h.place.kind == destination_options)
 
--- a header at a SID: where the SID shifts, it does so at the first header that has no options, without a look inside
+-- a header at a SID: where the SID shifts, it does so at the first header that has no options, without a look inside, at a Fragment
+-- header too (own rule)
 abbrev pub at_header : SidEntry → Packet → Header → Endpoint → Endpoint
 at_header s p h behind =
     if shifts_at s p && not (is_options h) then next_csid s p else at_header_by (at_sid_routing s p) h behind
@@ -189,7 +190,7 @@ at_sid s allow p = let c = chain_of p in over_headers (at_header s p) c.headers 
 abbrev pub at_address_header : Header → Endpoint → Endpoint
 at_address_header h behind = at_header_by unknown_routing h behind
 
--- every upper layer is taken at the node's own address
+-- every upper layer is taken at the node's own address (own rule)
 abbrev pub at_address_end : Packet → ChainEnd → Endpoint
 at_address_end p (Upper place) = Delivered p
 at_address_end p (Cut place) = Refused reasons.BadChain place.at

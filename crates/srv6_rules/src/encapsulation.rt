@@ -80,17 +80,20 @@ pub fn outer_packet_has_its_chain()
 /// 4.3.1.1, RFC 8986 sections 4.1 to 4.3 and 4.16.1).
 pub fn end_goes_on_to_the_next_segment()
     ensures onward { (s : SidEntry) → s.csid ≡ Plain
-        → (allow : List ℕ) (e : Encapsulation) (inner : List ℕ) (i hop : ℕ) → goes_on s ≡ true → (s.psp ≡ false) ⊎ (i + 2 < length e.segments)
+        → (allow : List ℕ) (e : Encapsulation) (inner : List ℕ) (i hop : ℕ) → goes_on s ≡ true
+        → (s.psp ≡ false) ⊎ (i + 2 < length e.segments)
         → i + 1 < length e.segments → All (λ a. a < 2 ^ 128) e.segments → 1 < hop
         → at_sid s allow (at_segment e inner i hop)
         ≡ Onward (at_segment e inner (i + 1) (hop - 1)) }
     ensures psp { (s : SidEntry) → s.csid ≡ Plain
-        → (allow : List ℕ) (e : Encapsulation) (inner : List ℕ) (i hop : ℕ) → goes_on s ≡ true → s.psp ≡ true → i + 2 ≡ length e.segments
+        → (allow : List ℕ) (e : Encapsulation) (inner : List ℕ) (i hop : ℕ) → goes_on s ≡ true
+        → s.psp ≡ true → i + 2 ≡ length e.segments
         → All (λ a. a < 2 ^ 128) e.segments → 1 < hop
         → at_sid s allow (at_segment e inner i hop)
         ≡ Onward (bare e inner (hop - 1) (slice_index e.segments (i + 1))) }
     ensures hop_limit { (s : SidEntry) → s.csid ≡ Plain
-        → (allow : List ℕ) (e : Encapsulation) (inner : List ℕ) (i hop : ℕ) → goes_on s ≡ true → i + 1 < length e.segments → hop ≤ 1
+        → (allow : List ℕ) (e : Encapsulation) (inner : List ℕ) (i hop : ℕ) → goes_on s ≡ true
+        → i + 1 < length e.segments → hop ≤ 1
         → at_sid s allow (at_segment e inner i hop) ≡ Refused HopLimit 0 }
 {}
 
@@ -101,18 +104,21 @@ pub fn end_goes_on_to_the_next_segment()
 /// 4.1 to 4.8 and 4.16).
 pub fn last_segment_has_the_packet_inside()
     ensures upper_layer { (s : SidEntry) → s.csid ≡ Plain
-        → (allow : List ℕ) (e : Encapsulation) (inner : List ℕ) (i hop : ℕ) → s.usp ≡ false → exposes s ipv6_inside ≡ false → i + 1 ≡ length e.segments
+        → (allow : List ℕ) (e : Encapsulation) (inner : List ℕ) (i hop : ℕ) → s.usp ≡ false
+        → exposes s ipv6_inside ≡ false → i + 1 ≡ length e.segments
         → at_sid s allow (at_segment e inner i hop)
         ≡ upper_layer allow (at_segment e inner i hop) (inner_place e) }
     ensures usp { (s : SidEntry) → s.csid ≡ Plain
-        → (allow : List ℕ) (e : Encapsulation) (inner : List ℕ) (i hop : ℕ) → s.usp ≡ true → has_segment_routing e ≡ true → exposes s ipv6_inside ≡ false
+        → (allow : List ℕ) (e : Encapsulation) (inner : List ℕ) (i hop : ℕ) → s.usp ≡ true
+        → has_segment_routing e ≡ true → exposes s ipv6_inside ≡ false
         → i + 1 ≡ length e.segments
         → at_sid s allow (at_segment e inner i hop)
         ≡ (if is_allowed allow ipv6_inside
         then Delivered (bare e inner hop (slice_index e.segments i))
         else Refused UpperLayer (inner_place e).at) }
     ensures exposed { (s : SidEntry) → s.csid ≡ Plain
-        → (allow : List ℕ) (e : Encapsulation) (inner : List ℕ) (i hop : ℕ) → exposes s ipv6_inside ≡ true → i + 1 ≡ length e.segments
+        → (allow : List ℕ) (e : Encapsulation) (inner : List ℕ) (i hop : ℕ)
+        → exposes s ipv6_inside ≡ true → i + 1 ≡ length e.segments
         → at_sid s allow (at_segment e inner i hop) ≡ Exposed V6 inner }
     ensures bare_upper_layer { (s : SidEntry) → s.csid ≡ Plain
         → (allow : List ℕ) (e : Encapsulation)
@@ -120,7 +126,8 @@ pub fn last_segment_has_the_packet_inside()
         → at_sid s allow (bare e inner hop destination)
         ≡ upper_layer allow (bare e inner hop destination) bare_place }
     ensures bare_exposed { (s : SidEntry) → s.csid ≡ Plain
-        → (allow : List ℕ) (e : Encapsulation) (inner : List ℕ) (hop destination : ℕ) → exposes s ipv6_inside ≡ true
+        → (allow : List ℕ) (e : Encapsulation) (inner : List ℕ) (hop destination : ℕ)
+        → exposes s ipv6_inside ≡ true
         → at_sid s allow (bare e inner hop destination) ≡ Exposed V6 inner }
     ensures packet { (p : Packet) → IsSpellable p → read_as V6 (spelling p) ≡ V6Content p }
 {}

@@ -101,8 +101,8 @@ pub fn error_is_found_along_the_chain()
 {}
 
 /// No error is made about an error or a redirect, so none about an error that was made; and about a
-/// packet to a multicast destination Packet Too Big and Parameter Problem about an option alone (RFC
-/// 4443 section 2.4).
+/// packet to a multicast destination Packet Too Big and Parameter Problem about an option alone
+/// (RFC 4443 section 2.4).
 pub fn errors_are_not_answered()
     ensures none { (p : Packet) (kind : IcmpKindValue) (from : ℕ) → is_error_message p ≡ true
         → error_packet p kind from ≡ None }
@@ -116,7 +116,7 @@ pub fn errors_are_not_answered()
 {}
 
 /// An error goes over every link, and quotes the packet from its first byte on (RFC 4443 section
-/// 3).
+/// 2.4 (c)).
 pub fn errors_fit_every_link()
     ensures most { (p q : Packet) (kind : IcmpKindValue) (from : ℕ)
         → error_packet p kind from ≡ Some q → length (spelling q) ≤ MIN_MTU }

@@ -113,7 +113,7 @@ pub const ICMPV6: u8 = 58;
 pub const ICMPV6_HEADER_LEN: usize = 8;
 
 /// The most bytes that an ICMPv6 error quotes of a packet, so that the error goes over every link:
-/// 1,232 (RFC 4443 section 3).
+/// 1,232 (RFC 4443 section 2.4 (c)).
 pub const MAX_QUOTE_LEN: usize = MIN_MTU - IPV6_HEADER_LEN - ICMPV6_HEADER_LEN;
 
 /// The hop limit of an ICMPv6 error: 64 (own rule).

@@ -82,7 +82,8 @@ pub enum Behaviour {
 /// Why a node dropped a packet (own rule).
 #[derive(Clone, Copy, Debug, PartialEq, Eq)]
 pub enum Reason {
-    /// Fewer bytes than the header and its payload length say.
+    /// Fewer bytes than the header and the lengths in it say, or IPv4 lengths that do not fit one
+    /// another.
     Truncated,
     /// The first half byte is not the family's version.
     BadVersion,
@@ -102,7 +103,8 @@ pub enum Reason {
     OptionUnknown,
     /// A Fragment header that would have to be processed.
     Fragment,
-    /// Segments Left or Last Entry is out of range.
+    /// Segments Left or Last Entry is out of range, or a segment is left at a SID that
+    /// decapsulates.
     BadSegments,
     /// An HMAC in a segment routing header.
     HmacTlv,
@@ -328,7 +330,8 @@ impl SidEntry {
         self.behaviour.exposes(kind) || (self.usd && (kind == IPV6_INSIDE || kind == IPV4_INSIDE))
     }
 
-    /// How its part of a segment list is compressed, with the lengths that tell (RFC 9800 section 3).
+    /// How its part of a segment list is compressed, with the lengths that tell (RFC 9800 section
+    /// 3).
     pub fn compression(&self) -> Compression
         ensures { result ≡ compression_of self.now }
     {

@@ -51,11 +51,12 @@ pub fn onward_lowers_the_hop_limit_by_one()
         → IsSpellable p → at_sid s allow p ≡ Onward q → IsSpellable q }
 {}
 
-/// A packet that goes on from a SID without PSP and USP whose segments are whole, and which does not
-/// shift the packet's destination, has taken the step over a segment routing header: the hop limit was above 1 and is one lower, Segments Left is one lower, the destination
-/// is that entry, and all else is as it was; its bytes are as they were but for byte 7, bytes 24 to
-/// 39 and the byte of Segments Left. With PSP the same header is taken out then exactly where
-/// Segments Left became 0 (RFC 8754 section 4.3.1.1, RFC 8986 sections 4.1 to 4.3 and 4.16.1).
+/// A packet that goes on from a SID without PSP and USP whose segments are whole, and which does
+/// not shift the packet's destination, has taken the step over a segment routing header: the hop
+/// limit was above 1 and is one lower, Segments Left is one lower, the destination is that entry,
+/// and all else is as it was; its bytes are as they were but for byte 7, bytes 24 to 39 and the
+/// byte of Segments Left. With PSP the same header is taken out then exactly where Segments Left
+/// became 0 (RFC 8754 section 4.3.1.1, RFC 8986 sections 4.1 to 4.3 and 4.16.1).
 pub fn onward_is_one_step()
     ensures step { (s : SidEntry) (allow : List ℕ) (p q : Packet) → TakesWhole s p
         → s.psp ≡ false → s.usp ≡ false → at_sid s allow p ≡ Onward q → StepsTo s p q }

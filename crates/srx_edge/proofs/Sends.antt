@@ -102,5 +102,3 @@ cut_failed written bytes old new some seen = cut-poured Failing written bytes ol
 pub cut_wanting : (written : ℕ) (bytes : List ℕ) (old new : SinkSeen) → written < length bytes
     → new ≡ wanting (sent (take written bytes) old) → Cut Memory bytes old new
 cut_wanting written bytes old new some seen = cut-poured Wanting written bytes old new some seen
-
-pub ruleset sends = (sent_both, cut_longer, cut_after, cut_whole, cut_none, cut_failed, cut_wanting)

@@ -1,4 +1,4 @@
--- What is seen of the fakes in memory: what they tell, and the plan of their faults.
+-- What is seen of the fakes in memory: what they tell, and the plan of their faults (own rules).
 use Rattle.std.specs.Prelude.{ℕ, Bool, false, List, Some}
 use Rattle.srx_edge.specs.Sinks.{SinkSeen}
 use Rattle.srx_edge.specs.Sources.{SourceSeen}

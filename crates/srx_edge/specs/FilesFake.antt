@@ -1,4 +1,4 @@
--- What a read of files in memory does.
+-- What a read of files in memory does (own rules).
 use Rattle.std.specs.Prelude.{◌≡◌, ◌==◌, ℕ, ◌+◌, ◌<◌, ◌≤◌, ◌++◌, ◌∷◌, [], List, length, Bool, true, false, Contains, None, Some, IsSomeAnd, Result, Ok, Err}
 use Rattle.std.specs.Global.{Vec}
 use Rattle.srx_edge.specs.Edge.{next_count, file_named}

@@ -1,4 +1,4 @@
--- What is seen of the adapters: what they stand on, and what they count. Streams tell nothing.
+-- What is seen of the adapters: what they stand on, and what they count. Streams tell nothing (own rules).
 use Rattle.std.specs.Prelude.{◌≡◌, ℕ, ◌<◌, ◌≤◌, false, List, length, Option, None, Some, IfSome, IsSomeAnd, Result, Ok, Err, ⊤}
 use Rattle.std.specs.Global.{Vec}
 use Rattle.srx_edge.specs.Edge.{file_named}

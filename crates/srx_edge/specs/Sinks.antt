@@ -1,4 +1,4 @@
--- What is seen of a sink, and what its calls do.
+-- What is seen of a sink, and what its calls do (own rules).
 use Rattle.std.specs.Prelude.{◌≡◌, ℕ, ◌<◌, ◌≤◌, Bool, true, false, ◌&&◌, ◌==◌, not, List, [], ◌∷◌, length, take, Option, Result, Ok, Err, if◌then◌else◌}
 use Rattle.srx_edge.specs.declared.output.SinkFault.{SinkFault}
 use Rattle.srx_edge.specs.declared.output.SinkFault.TheVariants as faults

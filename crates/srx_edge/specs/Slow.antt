@@ -1,4 +1,4 @@
--- What the slow source and the slow sink stand on.
+-- What the slow source and the slow sink stand on (own rules).
 use Rattle.srx_edge.specs.declared.slow_source.SlowSource.{SlowSource}
 use Rattle.srx_edge.specs.declared.slow_sink.SlowSink.{SlowSink}
 

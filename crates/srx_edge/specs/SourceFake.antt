@@ -1,4 +1,4 @@
--- What a read of a source in memory does.
+-- What a read of a source in memory does (own rules).
 use Rattle.std.specs.Prelude.{◌≡◌, ◌==◌, ℕ, true, false, ◌<◌, ◌++◌, List, take, drop, length, min, Contains, Result, Ok, Err, if◌then◌else◌}
 use Rattle.srx_edge.specs.Edge.{next_count}
 use Rattle.srx_edge.specs.Fakes.{SourceState, SureSourceState}

@@ -1,4 +1,4 @@
--- A step of a program that has bytes to write to a sink, by how it ended.
+-- A step of a program that has bytes to write to a sink, by how it ended (own rules).
 use Rattle.std.specs.Prelude.{◌≡◌, ℕ, List, [], ◌∷◌, ◌++◌, Option, None, Some, ⊤}
 use Rattle.srx_edge.specs.Sinks.{SinkSeen, sent, failed, wanting}
 

@@ -1,4 +1,4 @@
--- What opening a file gives, and what reading all of it does.
+-- What opening a file gives, and what reading all of it does (own rules).
 use Rattle.std.specs.Prelude.{◌≡◌, ℕ, ◌+◌, ◌≤◌, List, length, Option, Some, IfSome, IsSomeAnd, Result, Ok, Err, ⊤}
 use Rattle.std.specs.Global.{Vec}
 use Rattle.std.specs.Io.KnownBytes.{Consumes, IsAtEnd}

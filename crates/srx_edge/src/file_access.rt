@@ -23,10 +23,10 @@ pub trait Files {
     /// and whether they are stopped.
     ghost seen: { Self → FilesSeen };
 
-    /// The bytes of the file of this name, at most `limit` of them. TooBig comes exactly where the
-    /// file has more and the answer isn't another fault, Failed only where the count of faults
-    /// rose, by one; it stops the files until a read passes. A call that answers NoMemory isn't
-    /// counted among those that asked, and changes nothing.
+    /// The bytes of the file of this name, at most `limit` of them. Where files are told, TooBig
+    /// comes exactly where the file has more and the answer isn't another fault. Failed comes only
+    /// where the count of faults rose, by one; it stops the files until a read passes. A call that
+    /// answers NoMemory isn't counted among those that asked, and changes nothing.
     fn read(&mut self, alloc: Global, name: &str, limit: usize) -> Result<Vec<u8>, FileFault>
         ensures { ReadsFile name.now limit result (seen self.old) (seen self.new) };
 }

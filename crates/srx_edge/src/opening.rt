@@ -23,8 +23,8 @@ pub trait Opens {
 const PIECE: usize = 4096;
 
 /// Takes all that a reader has left, at most `limit` bytes. TooBig comes exactly where one byte
-/// more than `limit` was taken, and no more. Nothing is read after the end or after a read that
-/// failed. (own rule)
+/// more than `limit` was taken, and no more. By its code alone, since a `Read` tells neither its
+/// end nor its faults, nothing is read after the end or after a read that failed. (own rule)
 pub fn read_whole<R: Read>(
     alloc: Global,
     reader: &mut R,

@@ -1,10 +1,9 @@
 //! A sink in memory that never fails.
-ghost use Rattle.std.specs.Prelude.{◌≡◌, false, [], IfOk};
+ghost use Rattle.std.specs.Prelude.{◌≡◌, false, []};
 ghost use Rattle.srx_edge.specs.Fakes.{sure_sink_seen};
 ghost use Rattle.srx_edge.specs.SinkFake.{SurelyWrites};
 
 use crate::output::{Sink, SinkFault};
-use base::NoMemory;
 use std::alloc::Global;
 use std::marker::Model;
 
@@ -27,14 +26,14 @@ impl Model for SureSink {
 
 impl SureSink {
     /// An empty sink. It takes no memory yet. (own rule)
-    pub fn new(alloc: Global) -> Result<SureSink, NoMemory>
-        ensures { IfOk result (λ sink. sink ≡ record { held = []; wants = 0; stopped = false }) }
+    pub fn new(alloc: Global) -> SureSink
+        ensures { result ≡ record { held = []; wants = 0; stopped = false } }
     {
-        Ok(SureSink {
+        SureSink {
             bytes: Vec::new(alloc),
             wants: 0,
             stopped: false,
-        })
+        }
     }
 
     /// What the sink holds. (own rule)

@@ -42,7 +42,8 @@ next_refused : {V X Y : Type 0} (read : ℕ → X → Result Y TextFault) (see :
     → i < length vs → x ≡ get_or vs i x → read n (see x) ≡ Err fault → each_from read n (map see (drop i vs)) ≡ Err fault
 next_refused read see n vs i x fault within is refused = rw (drop_more vs i x within, ← is, refused) refl
 
-pub reads_more : {V X Y : Type 0} (read : ℕ → X → Result Y TextFault) (see : V → X) (start : ℕ) (vs : List V) (i : ℕ) (done : List Y) (x : V)
+pub reads_more : {V X Y : Type 0} (read : ℕ → X → Result Y TextFault) (see : V → X) (start : ℕ) (vs : List V) (i : ℕ) (done : List Y)
+    (x : V)
     (y : Y) → HasRead read see start vs i done → i < length vs → x ≡ get_or vs i x → read (i + start) (see x) ≡ Ok y
     → HasRead read see start vs (i + 1) (done ++ y ∷ [])
 reads_more read see start vs i done x y so_far within is gives = record {
@@ -63,7 +64,8 @@ pub kept_more : {V W X Y : Type 0} (read : ℕ → X → Result Y TextFault) (se
 kept_more read see out start vs i done x w so_far within is gives =
     rw (map_more out done w) (reads_more read see start vs i (map out done) x (out w) so_far within is gives)
 
-pub reads_stop : {V X Y : Type 0} (read : ℕ → X → Result Y TextFault) (see : V → X) (start : ℕ) (vs : List V) (i : ℕ) (done : List Y) (x : V)
+pub reads_stop : {V X Y : Type 0} (read : ℕ → X → Result Y TextFault) (see : V → X) (start : ℕ) (vs : List V) (i : ℕ) (done : List Y)
+    (x : V)
     (fault : TextFault) → HasRead read see start vs i done → i < length vs → x ≡ get_or vs i x → read (i + start) (see x) ≡ Err fault
     → each_from read start (map see vs) ≡ Err fault
 reads_stop read see start vs i done x fault so_far within is refused =

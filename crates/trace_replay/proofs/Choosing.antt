@@ -1,21 +1,17 @@
 -- What a stage's outcome names, and the first choice that gives a line.
-use Rattle.std.proofs.Common.{◌≡◌, ℕ, zero, suc, ◌+◌, ◌-◌, ◌<◌, ◌≤◌, max, Bool, true, false, cond, List, [], ◌∷◌, length, Option, Some, None, refl, sym, ap, ◌∙◌, subst, arith}
-use Rattle.std.specs.Prelude.{bytes_eq, slice_get}
+use Rattle.std.proofs.Common.{◌≡◌, ℕ, zero, suc, ◌+◌, ◌-◌, ◌<◌, Bool, false, cond, List, [], ◌∷◌, length, Option, Some, sym, ap, ◌∙◌, arith}
+use Rattle.std.specs.Prelude.{slice_get}
 use Rattle.std.specs.List.{find, range_with_len}
-use Rattle.srv6_rules.specs.Packet.{Packet, Content, bytes_of}
-use Rattle.icmp6_errors.specs.Answer.{error_bytes}
+use Rattle.srv6_rules.specs.Packet.{Packet, Content}
 use Rattle.net_model.specs.Network.{Network}
 use Rattle.net_model.specs.Keeps.{Keeps}
 use Rattle.walk_rules.specs.declared.place.Place.{Place}
 use Rattle.walk_rules.specs.declared.place.Outcome.{Outcome}
 use Rattle.walk_rules.specs.declared.place.Outcome.TheVariants as outcomes
-use Rattle.walk_rules.specs.Laws.{hops_at}
 use Rattle.walk_rules.specs.Relation.{IsPlace, IsStage}
-use Rattle.walk_rules.specs.Treatment.{Gave, step_of}
+use Rattle.walk_rules.specs.Treatment.{step_of}
 use Rattle.walk_rules.proofs.PublicLaws.{hops-start, stage-member, step-again, step-hand}
-use Rattle.trace_replay.specs.Lines.{outcome_text, stage_text}
 use Rattle.trace_replay.specs.Numbered.{IsNumbered}
-use Rattle.trace_replay.specs.Replays.{choice_given, choices_at, is_given}
 
 -- what an outcome names is there
 

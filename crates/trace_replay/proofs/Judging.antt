@@ -1,8 +1,8 @@
 -- A stage's line is judged choice by choice.
-use Rattle.std.proofs.Common.{◌≡◌, ℕ, zero, suc, ◌+◌, ◌-◌, ◌<◌, ◌≤◌, max, Bool, true, false, cond, List, [], length, Option, Some, None, refl, sym, ap, ◌∙◌, subst, arith}
+use Rattle.std.proofs.Common.{◌≡◌, ℕ, suc, ◌+◌, ◌-◌, ◌<◌, ◌≤◌, Bool, true, false, cond, List, [], length, Some, None, sym, ap, ◌∙◌, subst, arith}
 use Rattle.std.specs.Prelude.{bytes_eq, string_bytes}
 use Rattle.std.specs.List.{find, range_with_len}
-use Rattle.srv6_rules.specs.Packet.{Packet, Content, V6, V4, Unreadable, bytes_of}
+use Rattle.srv6_rules.specs.Packet.{Content, V6, V4, Unreadable, bytes_of}
 use Rattle.srv6_rules.specs.Packet4.{destination4}
 use Rattle.icmp6_errors.specs.Answer.{error_bytes}
 use Rattle.net_model.specs.declared.limits.TheConstants.{MAX_LINKS_OF_SET}
@@ -12,7 +12,7 @@ use Rattle.walk_rules.specs.declared.place.Place.{Place}
 use Rattle.walk_rules.specs.declared.place.Outcome.{Outcome}
 use Rattle.walk_rules.specs.Laws.{hops_at, set_of}
 use Rattle.walk_rules.specs.Relation.{IsPlace}
-use Rattle.walk_rules.specs.Treatment.{Gave, step_of}
+use Rattle.walk_rules.specs.Treatment.{step_of}
 use Rattle.walk_rules.specs.Way.{Way, Away, Over, Own, Into, way_of, IsWayFrom}
 use Rattle.walk_rules.proofs.PublicLaws.{way-from}
 use Rattle.trace_replay.specs.declared.judge.GivenLine.{GivenLine}

@@ -85,13 +85,15 @@ walk-inner zero net place content pick taken keeps may =
     let line = stages-line net in
     let inner : IsInner net stages_text =
     record { text = line.text; phase = ap behind_packet line.read; begins = line.begins } in
-    subst (λ (steps : List Stage). All (IsInner net) (walk_lines net (Some place) steps)) (sym (walk_of-zero net (Some place) content pick taken))
+    subst (λ (steps : List Stage). All (IsInner net) (walk_lines net (Some place) steps))
+    (sym (walk_of-zero net (Some place) content pick taken))
     (All-cons (IsInner net) stages_text [] inner (All-nil (IsInner net)))
 walk-inner (suc fuel) net place content pick taken keeps may =
     let gave = step_of net place content (pick taken) in
     let next = next_place net place gave.outcome in
     let later = taken + decisions gave.outcome in
-    subst (λ (steps : List Stage). All (IsInner net) (walk_lines net (Some place) steps)) (sym (walk_of-suc fuel net place content pick taken))
+    subst (λ (steps : List Stage). All (IsInner net) (walk_lines net (Some place) steps))
+    (sym (walk_of-suc fuel net place content pick taken))
     (All-cons (IsInner net) (stage_text net gave) (walk_lines net next (walk_of fuel net next gave.after pick later))
     (stage-inner net place content (pick taken) keeps may)
     (by-next fuel net next gave.after pick later

@@ -15,7 +15,7 @@ use Rattle.walk_rules.specs.declared.place.Place.{Place}
 use Rattle.walk_rules.specs.declared.place.Outcome.{Outcome}
 use Rattle.walk_rules.specs.declared.place.Outcome.TheVariants as outcomes
 use Rattle.walk_rules.specs.Laws.{Takes, TakenApart, hops_at}
-use Rattle.walk_rules.specs.Relation.{IsPlace, IsStage}
+use Rattle.walk_rules.specs.Relation.{IsPlace}
 use Rattle.walk_rules.specs.Treatment.{Gave, goes, member_of, mtu_at, own_len, step_of}
 use Rattle.walk_rules.specs.Walk.{next_place}
 use Rattle.walk_rules.proofs.PublicLaws.{free-unique, hops-start, over_link-fits, over_link-long, stage-choice, stage-step, stage-unique, step-named}
@@ -109,7 +109,8 @@ module _ (net : Network) (place : Place) (content : Content) (keeps : Keeps net)
   SentOrDropped link outcome after left =
       ((outcome ≡ outcomes.Send link) × (after ≡ left)) ⊎ ((told : Bool) × (outcome ≡ outcomes.Drop reasons.MtuExceeded told))
 
-  taken-gives : (link : ℕ) (outcome : Outcome) (after : Content) (error : Option Packet) (t : Takes net place content link outcome after error)
+  taken-gives : (link : ℕ) (outcome : Outcome) (after : Content) (error : Option Packet)
+      (t : Takes net place content link outcome after error)
       → SentOrDropped link outcome after t.left
   taken-gives link outcome after error t = by_test (leb_tells (own_len content) (mtu_at net link))
     where

@@ -85,7 +85,8 @@ spelled-bytes q next hop h =
     let one = All-cons Byte q.next_header (q.hop_limit ∷ both_ends) next (All-cons Byte q.hop_limit both_ends hop ends) in
     let rest = All-append Byte (two_bytes _) _ (all-two_bytes _) one in
     All-append Byte (header_spelling q) q.payload
-    (All-append Byte (four_bytes (first_word q.traffic_class q.flow_label)) _ (all-four_bytes (first_word q.traffic_class q.flow_label)) rest)
+    (All-append Byte (four_bytes (first_word q.traffic_class q.flow_label)) _
+    (all-four_bytes (first_word q.traffic_class q.flow_label)) rest)
     h
 
 about-bytes : (p : Packet) (kind : IcmpKind) (from : ℕ) → IsSpellable p → code_of kind < 2 ^ 8

@@ -1,5 +1,5 @@
 -- Outcomes whose numbers are those of a network's items.
-use Rattle.std.specs.Prelude.{ℕ, ◌<◌, List, length, Contains}
+use Rattle.std.specs.Prelude.{◌<◌, length}
 use Rattle.net_model.specs.Network.{Network}
 use Rattle.walk_rules.specs.declared.place.Outcome.{Outcome}
 use Rattle.walk_rules.specs.declared.place.Outcome.TheVariants as outcomes
@@ -11,7 +11,3 @@ IsNumbered net (outcomes.Hand sid how family) = sid < length net.sids
 IsNumbered net (outcomes.Send link) = link < length net.links
 IsNumbered net outcomes.Local = Unit {0}
 IsNumbered net (outcomes.Drop reason error) = Unit {0}
-
--- the links of a set are there
-abbrev pub AreLinks : Network → List ℕ → Type 0
-AreLinks net hops = (n : ℕ) → Contains hops n → n < length net.links

@@ -78,7 +78,8 @@ pub fn what_is_not_finished_is_refused()
 /// may have no stage more the line that says so; and of one that has ended nothing. (own rule)
 pub fn a_packet_is_written_stage_by_stage()
     ensures first { (net : Network) (p : Traced) → packet_trace net p
-        ≡ packet_line net p ++ 10 ∷ walk_trace MAX_STAGES net (Some (entry_place p)) p.content p.pick 0 }
+        ≡ packet_line net p ++ 10 ∷ walk_trace MAX_STAGES net
+        (Some (entry_place p)) p.content p.pick 0 }
     ensures stage { (left : ℕ) (net : Network) (place : Place) (content : Content) →
         (pick : ℕ → ℕ) (taken : ℕ) →
         let gave = step_of net place content (pick taken) in

@@ -3,8 +3,8 @@
 //! A trace has a first line, for each packet a line with its bytes as it enters and then a line for
 //! each stage, and a last line. `print_head`, `print_packet`, `print_event`, `print_stages` and
 //! `print_end` write one line each, as `specs/Lines.antt` has it. `read_trace` reads a text by the
-//! grammar of `specs/Grammar.antt`, or tells its first bad line. `replay` runs each packet again and
-//! tests its lines one by one, as `specs/Replays.antt` says.
+//! grammar of `specs/Grammar.antt`, or tells its first bad line. `replay` runs each packet again
+//! and tests its lines one by one, as `specs/Replays.antt` says.
 #![tactic(auto)]
 
 mod flight;

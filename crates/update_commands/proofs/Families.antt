@@ -12,7 +12,7 @@ use Rattle.intent_reader.specs.declared.fault.StepFault.TheVariants as kinds
 use Rattle.intent_reader.specs.Reading.{of_text}
 use Rattle.intent_reader.specs.Rules.{ends_in_function, is_within_loose_limit}
 use Rattle.intent_reader.specs.Judging.{intent_with, intent_of_text, judged, steps_from}
-use Rattle.intent_reader.proofs.GivenLemmas.{Holds, after, tested, tested_on}
+use Rattle.intent_reader.proofs.PublicLaws.{Holds, after, tested, tested_on}
 use Rattle.command_output.specs.declared.refusal.Refusal.{Refusal}
 use Rattle.net_model.specs.declared.limits.TheConstants.{MAX_TEXT_BYTES}
 use Rattle.command_output.specs.declared.refusal.Refusal.TheVariants as refusals

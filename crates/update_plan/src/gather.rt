@@ -12,7 +12,7 @@ ghost use Rattle.update_plan.specs.Entries.{is_added, entries_from, route_entry,
 use crate::entry::PlanEntry;
 use crate::equal::is_in_both;
 use crate::known_routes::{RouteNumbers, has_equal, number_routes};
-use net_model::{EntryId, NetParts, Node, Route, whole};
+use net_model::{EntryId, NetParts, Node, Route, address_prefix};
 use srv6_rules::Family;
 use std::alloc::{AllocError, Global};
 
@@ -95,7 +95,7 @@ fn push_addresses(entries: &mut Vec<PlanEntry>, nodes: &[Node]) -> Result<(), Al
             node: n,
             table: 0,
             family: Family::V6,
-            prefix: whole(node.address),
+            prefix: address_prefix(node.address),
             title: None,
             kept: true,
         })?;

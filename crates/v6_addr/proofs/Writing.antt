@@ -7,10 +7,6 @@ use Rattle.std.proofs.lemmas.Bool.{cond-true, cond-false, le-leb, lt-leb}
 use Rattle.v6_addr.specs.Address.{PrefixValue}
 use Rattle.v6_addr.specs.Text.{groups_of, group_text, groups_text, longest_run, text_with_run, address_text, length_text, prefix_text}
 
--- a colon and a group
-abbrev pub behind_colon : ℕ → List ℕ
-behind_colon g = 58 ∷ group_text g
-
 pub groups_text-cons : (first : ℕ) (rest : List ℕ) → groups_text (first ∷ rest) ≡ group_text first ++ flat_map (λ g. 58 ∷ group_text g) rest
 unfolding groups_text
 groups_text-cons first [] = sym (append-nil (group_text first))

@@ -1,6 +1,6 @@
 -- Where a stage executes a SID: the SID is there and stands at the node, and the hop limit falls by one before a packet
 -- goes on.
-use Rattle.std.proofs.Common.{◌≡◌, ℕ, ◌+◌, ◌<◌, true, List, Some, None, slice_get, refl, sym, ◌∙◌, subst, ap}
+use Rattle.std.proofs.Common.{◌≡◌, ℕ, ◌+◌, ◌<◌, List, Some, None, slice_get, refl, sym, ◌∙◌, subst, ap}
 use Rattle.srv6_rules.specs.declared.sid.Family.{Family}
 use Rattle.srv6_rules.specs.declared.sid.SidEntry.{SidEntry}
 use Rattle.srv6_rules.specs.Behaviours.{behaviour_policy}
@@ -108,14 +108,16 @@ pub free-again : (net : Network) (place : Place) (content : Content) (choice n :
     → (free_step_of net place content choice).outcome ≡ outcomes.Again n how
     → Executes onward_from net place content (free_step_of net place content choice) n how
 free-again net place content choice n how e =
-    subst (λ (o : Outcome). ExecutesBy net place content (free_step_of net place content choice) o) e (free-executes net place content choice)
+    subst (λ (o : Outcome). ExecutesBy net place content (free_step_of net place content choice) o) e
+    (free-executes net place content choice)
 
 -- Hand names the SID that was executed
 pub free-hand : (net : Network) (place : Place) (content : Content) (choice n : ℕ) (how : How) (family : Family)
     → (free_step_of net place content choice).outcome ≡ outcomes.Hand n how family
     → Executes exposed_from net place content (free_step_of net place content choice) n how
 free-hand net place content choice n how family e =
-    subst (λ (o : Outcome). ExecutesBy net place content (free_step_of net place content choice) o) e (free-executes net place content choice)
+    subst (λ (o : Outcome). ExecutesBy net place content (free_step_of net place content choice) o) e
+    (free-executes net place content choice)
 
 -- a packet that goes on from a SID had a hop limit above 1, which is one less
 abbrev IsOneLess : Packet → Packet → Type 0

@@ -1,5 +1,5 @@
 -- The stage with the MTU of the link that it takes, from the stage where no link has one.
-use Rattle.std.proofs.Common.{◌≡◌, ◌≢◌, ℕ, ◌<◌, ◌≤◌, ◌⊎◌, inl, inr, Bool, true, false, is_some, nat_le, eqb, if◌then◌else◌, List, Option, Some, None, slice_get, Contains, refl, sym, ◌∙◌, ap, subst, arith}
+use Rattle.std.proofs.Common.{◌≡◌, ◌≢◌, ℕ, ◌<◌, ◌≤◌, ◌⊎◌, inl, inr, Bool, true, false, nat_le, eqb, Option, Some, None, slice_get, Contains, refl, sym, ◌∙◌, ap, subst}
 use Rattle.std.proofs.lemmas.Bool.Decides.{leb_tells, eqb_tells}
 use borrow.Author.Tests.{le-leb, lt-leb}
 use Rattle.srv6_rules.specs.declared.sid.Family.{Family}
@@ -14,10 +14,10 @@ use Rattle.walk_rules.specs.declared.place.How.{How}
 use Rattle.walk_rules.specs.declared.place.Place.{Place}
 use Rattle.walk_rules.specs.declared.place.Outcome.{Outcome}
 use Rattle.walk_rules.specs.declared.place.Outcome.TheVariants as outcomes
-use Rattle.walk_rules.specs.Treatment.{Gave, dropped, error_of, goes, member_of, own_len, mtu_at, over_link, judged_by, judged, exposed_from, onward_from, free_step_of, step_of}
+use Rattle.walk_rules.specs.Treatment.{Gave, dropped, goes, member_of, own_len, mtu_at, over_link, judged_by, judged, exposed_from, onward_from, free_step_of, step_of}
 use Rattle.walk_rules.specs.Relation.{GivesOutcome, IsFreeStage, DropsAtLink, IsStage}
 use Rattle.walk_rules.specs.Laws.{Executes, IsDeliveredBehindUsp, IsLoweredByOne, PushesOne, SendsApart, Takes, TakenApart, TellsOfError, family_after, hops_at}
-use Rattle.walk_rules.proofs.Sending.{given, drops-gave, gives-gave}
+use Rattle.walk_rules.proofs.Sending.{given, drops-gave}
 use Rattle.walk_rules.proofs.Stages.{free-choice}
 use Rattle.walk_rules.proofs.Choices.{free-unique, free-named}
 use Rattle.walk_rules.proofs.Outcomes.{free-member, free-each, free-names, free-drop, free-local, free-tells}

@@ -1,14 +1,14 @@
 -- The packet that a network's policy makes can be spelled.
-use Rattle.std.proofs.Common.{◌≡◌, ℕ, zero, suc, ◌+◌, ◌^◌, ◌<◌, ◌≤◌, Bool, List, [], ◌∷◌, length, map, All, Some, slice_get, refl, sym, arith}
+use Rattle.std.proofs.Common.{◌≡◌, ℕ, suc, ◌^◌, ◌<◌, ◌≤◌, Bool, List, [], ◌∷◌, length, map, All, Some, slice_get, refl, arith}
 use Rattle.std.proofs.lemmas.List.{length-map}
 use Rattle.std.proofs.lemmas.List.Elements.{All-nil, All-cons}
 use Rattle.v6_addr.specs.declared.address.Addr.{Addr}
 use Rattle.srv6_rules.specs.declared.sid.Behaviour.{Behaviour}
 use Rattle.srv6_rules.specs.declared.sid.Family.TheVariants as families
 use Rattle.srv6_rules.specs.Behaviours.{behaviour_reduces}
-use Rattle.srv6_rules.specs.Packet.{Packet, IsSpellable, spelling, most_len}
+use Rattle.srv6_rules.specs.Packet.{Packet, IsSpellable, spelling}
 use Rattle.srv6_rules.specs.Encapsulation.{IsSpellableEncapsulation}
-use Rattle.srv6_rules.specs.Policies.{encapsulation_by, outer_by}
+use Rattle.srv6_rules.specs.Policies.{encapsulation_by}
 use Rattle.srv6_rules.proofs.PublicLaws.{all-spelling, round-payload, round-spellable}
 use Rattle.net_model.specs.declared.parts.NamedPolicy.{NamedPolicy}
 use Rattle.net_model.specs.Keeps.{KeepsPolicy}

@@ -89,7 +89,7 @@ pub record PushesOne (net : Network) (place : Place) (content after : Content) (
   pub policy_there : slice_get net.policies number ≡ Some policy
   pub pushed : after ≡ V6 (outer_by policy.policy (behaviour_reduces sid.behaviour) families.V6 (spelling stepped))
 
--- a packet was handed over at a SID with USP, which may have taken out headers: its next header and its payload alone may be others
+-- a packet was delivered at a SID with USP, which may have taken out headers: its next header and its payload alone may be others
 pub record IsDeliveredBehindUsp (net : Network) (place : Place) (content after : Content) : Type 0 where
   pub before : Packet
   pub left : Packet

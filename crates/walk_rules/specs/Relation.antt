@@ -1,5 +1,5 @@
 -- One node's treatment of one packet, as a relation by cases: which outcomes there are, and the packet and the error
--- after each.
+-- after each (RFC 8200, RFC 8754 and RFC 8986 by their sections as in `Treatment`).
 use Rattle.std.specs.Prelude.{◌≡◌, ◌⊎◌, ℕ, ◌<◌, ◌≤◌, Bool, true, false, is_some, List, length, slice_get, Option, Some, None, Contains}
 use Rattle.srv6_rules.specs.declared.sid.Reason.{Reason}
 use Rattle.srv6_rules.specs.declared.sid.Reason.TheVariants as reasons

@@ -104,7 +104,8 @@ table_or_first (Some table) = table
 
 -- how a packet goes on from SID n, by whether the SID takes links, whether the packet itself goes on, and the table that
 -- the SID has of its own: over its links, where what was exposed has its hop limit lowered; else by a look-up, of the
--- packet itself submitted to the table or to table 0, and of what was exposed as one that has arrived (RFC 8986 section 4)
+-- packet itself submitted to the table or to table 0, and of what was exposed as one that has arrived (RFC 8986 section 4;
+-- that what was exposed has arrived, so that a route lowers it, is an own rule)
 abbrev pub way_on : ℕ → Bool → Bool → Option ℕ → How
 way_on n true goes_on table = Through n (not goes_on)
 way_on n false true table = Submitted (table_or_first table)
@@ -119,7 +120,7 @@ abbrev pub exposed_from : ℕ → Behaviour → How
 exposed_from n b = way_on n (behaviour_takes_links b) false (behaviour_table b)
 
 -- what comes of a packet at SID n that goes on after a policy's header: it stays at the node after that header; where it would be
--- too long it is dropped as it came. Pushing lowers no hop limit, so the last case doesn't come
+-- too long it is dropped as it came (own rule). Pushing lowers no hop limit, so the last case doesn't come
 abbrev pub pushed_at_sid : Network → ℕ → ℕ → Behaviour → Packet → Encapsulating → Gave
 pushed_at_sid net node n b p (Outer outer) = goes (outcomes.Again n (onward_from n b)) (V6 outer)
 pushed_at_sid net node n b p (TooBig length) = dropped net node reasons.TooBig 0 (V6 p)

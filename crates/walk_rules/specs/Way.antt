@@ -46,7 +46,7 @@ abbrev pub is_multicast_of : Family → ℕ → Bool
 is_multicast_of families.V6 destination = is_multicast destination
 is_multicast_of families.V4 destination = false
 
--- the way by a look-up in a table for packets of a family
+-- the way by a look-up in a table for packets of a family; a multicast destination has none (own rule)
 abbrev pub way_by_table : Network → ℕ → ℕ → Family → Bool → ℕ → Way
 way_by_table net node table family lower destination =
     if is_multicast_of family destination then Away reasons.Multicast

@@ -38,8 +38,8 @@ pub fn a_way_leads_from_its_place()
 {}
 
 /// Where the hop limit, or the TTL of an IPv4 packet, is lowered, a packet for which it is at most
-/// 1 is dropped, and where no link has an MTU each other is sent on the member that the choice names
-/// (RFC 8200 section 3, RFC 791 section 3.2).
+/// 1 is dropped, and where no link has an MTU each other is sent on the member that the choice
+/// names (RFC 8200 section 3, RFC 791 section 3.2).
 pub fn a_low_hop_limit_is_not_sent()
     ensures low { (net : Network) (node : ℕ) (set : List ℕ) (p : Packet) (choice : ℕ) →
         p.hop_limit ≤ 1 →
@@ -57,9 +57,9 @@ pub fn a_low_hop_limit_is_not_sent()
 {}
 
 /// Where a stage would take a link, it does so where the packet that came has at most as many bytes
-/// as the link's MTU says, its own header among them; else the packet is dropped as it came, and told
-/// of that MTU. Each other stage is as where no link has an MTU (RFC 8200 section 5, RFC 4443 section
-/// 3.2).
+/// as the link's MTU says, its own header among them; else the packet is dropped as it came, and
+/// told of that MTU. Each other stage is as where no link has an MTU (RFC 8200 section 5, RFC 4443
+/// section 3.2).
 pub fn a_long_packet_is_not_sent()
     ensures fits { (net : Network) (place : Place) (content : Content) (choice link : ℕ) →
         (free_step_of net place content choice).outcome ≡ Outcome.Send link →
@@ -112,8 +112,8 @@ pub fn a_choice_has_an_outcome()
 {}
 
 /// A stage sends on members of its set of equal next hops alone. Where it would send on one if no
-/// link had an MTU, each member has its outcome: Send where the packet goes over that link, and else
-/// the drop with its MTU. Each member is there and starts at the node (own rule).
+/// link had an MTU, each member has its outcome: Send where the packet goes over that link, and
+/// else the drop with its MTU. Each member is there and starts at the node (own rule).
 pub fn each_next_hop_is_an_outcome()
     ensures member { (net : Network) (place : Place) (content : Content) (link : ℕ) →
         (after : Content) (error : Option Packet) →
@@ -130,8 +130,8 @@ pub fn each_next_hop_is_an_outcome()
         StartsAt net.links place.node link }
 {}
 
-/// A stage has several outcomes only where a set of equal next hops has several members, and each is
-/// that of its member (own rule).
+/// A stage has several outcomes only where a set of equal next hops has several members, and each
+/// is that of its member (own rule).
 pub fn outcomes_differ_in_the_member()
     ensures { (net : Network) (place : Place) (content : Content) →
         (one : Outcome) (after : Content) (error : Option Packet) →
@@ -153,8 +153,8 @@ pub fn only_the_member_depends_on_the_choice()
         step_of net place content choice ≡ step_of net place content other }
 {}
 
-/// A member that is taken is one decision: a Send, and a drop for the link's MTU. Nothing else is one
-/// (own rule).
+/// A member that is taken is one decision: a Send, and a drop for the link's MTU. Nothing else is
+/// one (own rule).
 pub fn a_member_taken_is_one_decision()
     ensures one { (outcome : Outcome) →
         (decisions outcome ≡ 1)
@@ -170,11 +170,13 @@ pub fn a_member_taken_is_one_decision()
 /// whichever flavour the SID has (RFC 8986 section 4.1); that of a binding SID then pushes exactly
 /// one header (RFC 8986 sections 4.13 and 4.14).
 pub fn an_execution_lowers_the_hop_limit()
-    ensures lowers { (net : Network) (place : Place) (content : Content) (choice n : ℕ) (how : How) →
+    ensures lowers { (net : Network) (place : Place) (content : Content) (choice n : ℕ) (how : How)
+        →
         (s : SidEntry) → slice_get net.sids n ≡ Some s → behaviour_policy s.behaviour ≡ None →
         let gave = step_of net place content choice in
         gave.outcome ≡ Outcome.Again n how → IsLoweredByOne content gave.after }
-    ensures pushes { (net : Network) (place : Place) (content : Content) (choice n : ℕ) (how : How) →
+    ensures pushes { (net : Network) (place : Place) (content : Content) (choice n : ℕ) (how : How)
+        →
         (s : SidEntry) (number : ℕ) → slice_get net.sids n ≡ Some s →
         behaviour_policy s.behaviour ≡ Some number →
         let gave = step_of net place content choice in

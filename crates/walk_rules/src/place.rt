@@ -5,12 +5,14 @@ use srv6_rules::{Family, Reason};
 /// How a packet came to be treated at a node (own rule).
 #[derive(Clone, Copy, Debug, PartialEq, Eq)]
 pub enum How {
-    /// It was received or exposed, and is looked up in a table; the hop limit is lowered.
+    /// It was received or exposed, and is looked up in a table; a route lowers its hop limit or
+    /// TTL.
     Arrived {
         /// The table's number.
         table: u32,
     },
-    /// The node has made or updated it, and it is looked up in a table; the hop limit stays.
+    /// The node has made or updated it, and it is looked up in a table; the hop limit stays, also
+    /// over a route.
     Submitted {
         /// The table's number.
         table: u32,

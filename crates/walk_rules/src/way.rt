@@ -81,8 +81,8 @@ fn way_by_table(
     way_by_hit(net, lower, net.lookup(node, table, family, destination))
 }
 
-/// The way of a packet to a destination by a look-up in a node's table; over a route's links its hop
-/// limit is lowered or not as it says (own rule).
+/// The way of a packet to a destination by a look-up in a node's table; over a route's links its
+/// hop limit is lowered or not as it says (own rule).
 pub fn way_in_table<'a>(table: &NodeTable<'a>, lower: bool, destination: Addr) -> Way<'a>
     ensures { way_in result ≡ way_by_table table.now.net table.now.node table.now.table
         table.now.family lower destination.value }

@@ -57,8 +57,8 @@ fn options_at_b(
     Ok((outcome, pointer_of(error.as_slice())))
 }
 
-/// An error points at the fault in the packet as it was: a late Hop-by-Hop Options header is told by
-/// the place that names it. About an option that is discarded none is sent.
+/// An error points at the fault in the packet as it was: a late Hop-by-Hop Options header is told
+/// by the place that names it. About an option that is discarded none is sent.
 #[test]
 fn an_error_points_at_the_fault(rt: HostRuntime) -> Result<(), Fail> {
     let net = net_with(

@@ -107,8 +107,8 @@ fn policy(
     })
 }
 
-/// A and B, a link ab and one out of the network from B, a SID at B, and policies of two segments and
-/// of one, whose own forms are not those that the tests' SIDs put in front.
+/// A and B, a link ab and one out of the network from B, a SID at B, and policies of two segments
+/// and of one, whose own forms are not those that the tests' SIDs put in front.
 fn net_of(
     rt: &impl Abort,
     alloc: Global,
@@ -183,6 +183,6 @@ pub(crate) fn at_b(
     let place = arrival(1, family);
     let outcome = stage(alloc, net, &place, &mut content, 0, &mut IcmpSlot::new())?;
     let mut after = Vec::new(alloc);
-    content.append_to(&mut after)?;
+    after.extend_from_slice(content.bytes())?;
     Ok((outcome, after))
 }

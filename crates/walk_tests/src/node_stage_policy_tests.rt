@@ -13,8 +13,9 @@ use std::process::Abort;
 use std::test::Fail;
 use walk_rules::{How, Outcome};
 
-/// The policy of two segments in the full form, in front of 120 bytes: to ::3, 160 bytes of payload,
-/// next header 43; then next header 41, 4 units, Segments Left 1, Last Entry 1, ::4 and ::3.
+/// The policy of two segments in the full form, in front of 120 bytes: to ::3, 160 bytes of
+/// payload, next header 43; then next header 41, 4 units, Segments Left 1, Last Entry 1, ::4 and
+/// ::3.
 const FULL: [u8; 80] = [
     0x60, 0x00, 0x00, 0x00, 0x00, 0xa0, 0x2b, 0x40, 0x00, 0x00, 0x00, 0x00, 0x00, 0x00, 0x00, 0x00,
     0x00, 0x00, 0x00, 0x00, 0x00, 0x00, 0x00, 0x02, 0x00, 0x00, 0x00, 0x00, 0x00, 0x00, 0x00, 0x00,
@@ -39,8 +40,8 @@ const BARE: [u8; 40] = [
     0x00, 0x00, 0x00, 0x00, 0x00, 0x00, 0x00, 0x03,
 ];
 
-/// What comes at B, whose SID has a behaviour, of the packet with a segment left, and the bytes after
-/// it.
+/// What comes at B, whose SID has a behaviour, of the packet with a segment left, and the bytes
+/// after it.
 fn with_a_segment_left(
     rt: &impl Abort,
     alloc: Global,

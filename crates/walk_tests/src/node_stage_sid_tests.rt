@@ -1,5 +1,5 @@
-//! Packets at SIDs that go on, expose the packet inside or are compressed; the bytes are laid out by
-//! hand.
+//! Packets at SIDs that go on, expose the packet inside or are compressed; the bytes are laid out
+//! by hand.
 
 use crate::node_stage_net::{at_b, net_in_block, net_with, sid_at_b};
 use crate::node_stage_packets::{

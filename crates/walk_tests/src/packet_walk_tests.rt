@@ -284,8 +284,8 @@ fn room_is_made_for_a_packet_in_flight(rt: HostRuntime) -> Result<(), Fail> {
     Ok(())
 }
 
-/// The packets that take a turn, by a schedule and the numbers of their frames, each by its number in
-/// the flight; all end.
+/// The packets that take a turn, by a schedule and the numbers of their frames, each by its number
+/// in the flight; all end.
 fn turns_of(
     rt: &impl Abort,
     alloc: Global,
@@ -333,8 +333,8 @@ fn a_schedule_names_the_packets(rt: HostRuntime) -> Result<(), Fail> {
     Ok(())
 }
 
-/// An entry of no frame, one of a frame that was not read, and one of a packet that has ended give no
-/// packet a turn.
+/// An entry of no frame, one of a frame that was not read, and one of a packet that has ended give
+/// no packet a turn.
 #[test]
 fn an_entry_of_no_packet_in_flight_takes_no_turn(rt: HostRuntime) -> Result<(), Fail> {
     let net = net_of(&rt, rt.alloc())?;

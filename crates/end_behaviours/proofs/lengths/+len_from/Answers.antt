@@ -1,5 +1,5 @@
-use Rattle.std.proofs.Common.{◌≡◌, ℕ, ◌+◌, ◌-◌, ◌≤◌, length, refl, ap, sym, subst, ◌∙◌, arith}
-use Rattle.std.specs.Prelude.{Option, Some, None, IfSome}
+use Rattle.std.proofs.Common.{◌≡◌, ℕ, ◌+◌, ◌-◌, length, ap, sym, subst, ◌∙◌, arith}
+use Rattle.std.specs.Prelude.{Option}
 use Rattle.srv6_rules.specs.Endpoint.{Endpoint, outcome_without}
 use Rattle.srv6_rules.specs.Packet.{packet_at}
 use Rattle.ip6_headers.specs.Stepping.{place_view}
@@ -25,7 +25,8 @@ len_from-rest-requires t c =
 pub without_header-requires : goal.without_header-requires
 without_header-requires t c =
     let last = c.in-Last.ensures in
-    let ends = last-ends c.args.bytes.now c.args.start.at _ _ (place_view c.in-Last.place) (place_view c.in-Last.next) c.requires.packet last in
+    let ends = last-ends c.args.bytes.now c.args.start.at _ _ (place_view c.in-Last.place)
+    (place_view c.in-Last.next) c.requires.packet last in
     length-room c.in-Last.next.at (c.in-Last.next.at - c.in-Last.place.at) _ c.len_from-rest.result (omega arith) c.len_from-rest.ensures
 
 pub returns-in-Shift : goal.returns-in-Shift

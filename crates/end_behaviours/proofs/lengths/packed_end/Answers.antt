@@ -1,6 +1,5 @@
 use Rattle.std.proofs.Common.{subst}
 use Rattle.srv6_rules.specs.declared.compression.Compression.{Compression}
-use Rattle.srv6_rules.specs.CompressedSteps.{compression_of}
 use Rattle.srv6_rules.specs.Packet.{packet_at}
 use Rattle.ip6_headers.specs.Stepping.{place_view}
 use Rattle.replace_csid.specs.Replacing.{WouldMove, step_at}

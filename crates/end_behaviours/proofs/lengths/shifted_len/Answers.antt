@@ -1,4 +1,4 @@
-use Rattle.std.proofs.Common.{ℕ, not, nat_le, if◌then◌else◌, sym, ap, subst, ◌∙◌, length}
+use Rattle.std.proofs.Common.{ℕ, nat_le, if◌then◌else◌, sym, ap, subst, ◌∙◌, length}
 use Rattle.std.specs.Prelude.{Option, Some, None}
 use Rattle.srv6_rules.specs.Endpoint.{next_csid}
 use Rattle.srv6_rules.specs.Packet.{packet_at}

@@ -1,4 +1,4 @@
-use Rattle.std.proofs.Common.{◌+◌, ◌-◌, if◌then◌else◌, length, ap, ◌∙◌, arith}
+use Rattle.std.proofs.Common.{◌-◌, if◌then◌else◌, length, ap, ◌∙◌, arith}
 use Rattle.srv6_rules.specs.Packet.{packet_at}
 use Rattle.ip6_headers.specs.Stepping.{place_view}
 use Rattle.endpoint_chain.proofs.PublicLaws.{alone-length}

@@ -19,4 +19,5 @@ returns-in-On-clause-reaches c =
     let alone = remains-alone at bytes c.args.outcome c.in-On.is c.requires.remains in
     let within = remains-within at bytes c.args.outcome c.in-On.is c.requires.remains in
     out-reaches_by c.args.outcome c.args.place.at c.take_out.new.buf.bytes
-    (out-reaches bytes c.take_out.new.buf.bytes (place_view c.args.place) c.args.len alone c.requires.behind within c.take_out.ensures.packet)
+    (out-reaches bytes c.take_out.new.buf.bytes
+    (place_view c.args.place) c.args.len alone c.requires.behind within c.take_out.ensures.packet)

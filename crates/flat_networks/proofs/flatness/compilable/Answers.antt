@@ -1,4 +1,4 @@
-use Rattle.std.proofs.Common.{sym, ap, ◌∙◌, subst, ◌↔◌, Result}
+use Rattle.std.proofs.Common.{sym, ◌∙◌, subst, ◌↔◌, Result}
 use Rattle.std.specs.Result.{IsOk}
 use Rattle.flat_networks.specs.declared.not_flat.NotFlat.{NotFlat}
 use Rattle.flat_networks.specs.Flat.{IsFlat, IsJudged}

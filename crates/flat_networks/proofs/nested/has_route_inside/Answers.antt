@@ -1,5 +1,4 @@
 use Rattle.std.proofs.Common.{◌≡◌, true, refl}
-use Rattle.std.specs.List.{Contains}
 use Rattle.std.proofs.lemmas.Option.{slice_get_read}
 use Rattle.net_model.specs.declared.parts.Route.{Route}
 use Rattle.prefix_table.specs.Table.{HasAround}

@@ -1,4 +1,4 @@
-use Rattle.std.proofs.Common.{◌≡◌, true, sym, ◌∙◌}
+use Rattle.std.proofs.Common.{◌≡◌, sym, ◌∙◌}
 use Rattle.flat_networks.specs.NestTests.{is_nest}
 use Rattle.flat_networks.proofs.NestLemmas.{nest_is, nest_of_parts}
 use Rattle.flat_networks.proofs.nests.are_nest.Goals as goal

@@ -1,4 +1,4 @@
-use Rattle.std.proofs.Common.{List, refl, sym, ap, ◌∙◌, subst, ◌≡◌, ℕ}
+use Rattle.std.proofs.Common.{List, refl, sym, ap, ◌∙◌, subst, ℕ}
 use Rattle.std.proofs.lemmas.Option.{slice_get_read}
 use Rattle.net_model.specs.Network.{Network}
 use Rattle.flat_networks.specs.Units.{AreFirstUnits}

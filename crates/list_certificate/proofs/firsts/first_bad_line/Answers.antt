@@ -1,4 +1,4 @@
-use Rattle.std.proofs.Common.{ap, subst, ◌∙◌, sym}
+use Rattle.std.proofs.Common.{subst}
 use Rattle.std.proofs.lemmas.Option.{slice_get-get_or}
 use Rattle.list_pack.specs.Least.{IsGoodAt}
 use Rattle.list_pack.specs.declared.types.State.{State}

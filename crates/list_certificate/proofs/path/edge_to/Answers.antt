@@ -9,7 +9,8 @@ loop-n-preserved g c =
     let v = g.L.Legs.seen c.args.legs.now in
     let sids = c.sids_at-n-items.result.now in
     let n = get_or sids c.loop-n.n-index 0 in
-    no-edge-more v c.args.state c.args.step.now c.args.to sids c.loop-n.n-index n (slice_get-get_or sids c.loop-n.n-index 0 c.loop-n-test.true)
+    no-edge-more v c.args.state c.args.step.now c.args.to sids c.loop-n.n-index n
+    (slice_get-get_or sids c.loop-n.n-index 0 c.loop-n-test.true)
     (subst (IsEdgeBy v c.args.state c.args.step.now c.args.to n) c.in_default.is c.edge_by.ensures) c.loop-n.invariant
 
 pub returns : goal.returns

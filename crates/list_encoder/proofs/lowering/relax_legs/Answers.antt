@@ -17,7 +17,8 @@ loop-to-preserved g c =
     → Is c.match-edge_into.table c.match-edge_into.edges.items c.match-edge_into.changed =
     λ t edges changed e f h is.
     subst (λ (b : Bool). Is c.match-edge_into.table c.match-edge_into.edges.items b) (sym h)
-    (subst (λ (xs : List CellEdge). Is c.match-edge_into.table xs changed) (sym f) (subst (λ (s : Costs). Is s edges changed) (sym e) is)) in
+    (subst (λ (xs : List CellEdge). Is c.match-edge_into.table xs changed) (sym f)
+    (subst (λ (s : Costs). Is s edges changed) (sym e) is)) in
     let none : c.edge_into.result ≡ None → (edge : CellEdge) → edge.from ≡ c.args.k → edge.to ≡ Some c.loop-to.to
     → ¬ IsCellEdge v c.args.cells.now edge =
     λ e. subst (λ (o : Option CellEdge). IsEdgeInto v c.args.cells.now c.args.k c.loop-to.to o) e c.edge_into.ensures in

@@ -1,5 +1,4 @@
 use Rattle.std.proofs.Common.{◌≡◌, ◌-◌, true, false, ◌==◌}
-use Rattle.flat_networks.specs.Nests.{unit_at}
 use Rattle.list_pack.proofs.Neighbours.{bars-is}
 use Rattle.list_pack.proofs.nests.bars.Goals as goal
 

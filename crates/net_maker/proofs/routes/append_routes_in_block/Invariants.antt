@@ -6,4 +6,5 @@ use Rattle.net_maker.proofs.routes.append_routes_in_block.Given as goal
 
 abbrev pub invariant-loop-i : goal.invariant-loop-i
 invariant-loop-i l =
-    string_bytes l.out ++ flat_map (routes_of l.n) (from_to l.i (l.n - 1)) ≡ string_bytes l.initial.out ++ flat_map (routes_of l.n) (from_to 0 (l.n - 1))
+    string_bytes l.out ++ flat_map (routes_of l.n) (from_to l.i (l.n - 1))
+    ≡ string_bytes l.initial.out ++ flat_map (routes_of l.n) (from_to 0 (l.n - 1))

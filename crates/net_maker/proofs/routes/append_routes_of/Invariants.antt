@@ -6,4 +6,5 @@ use Rattle.net_maker.proofs.routes.append_routes_of.Given as goal
 
 abbrev pub invariant-loop-j : goal.invariant-loop-j
 invariant-loop-j l =
-    string_bytes l.out ++ flat_map (route_table l.i) (from_to l.j l.n) ≡ string_bytes l.initial.out ++ flat_map (route_table l.i) (from_to (l.i + 1) l.n)
+    string_bytes l.out ++ flat_map (route_table l.i) (from_to l.j l.n) ≡ string_bytes l.initial.out ++ flat_map (route_table l.i)
+    (from_to (l.i + 1) l.n)

@@ -6,4 +6,5 @@ use Rattle.net_maker.proofs.sids.append_end_xs.Given as goal
 
 abbrev pub invariant-loop-i : goal.invariant-loop-i
 invariant-loop-i l =
-    string_bytes l.out ++ flat_map end_x_table (from_to l.i (l.n - 1)) ≡ string_bytes l.initial.out ++ flat_map end_x_table (from_to 0 (l.n - 1))
+    string_bytes l.out ++ flat_map end_x_table (from_to l.i (l.n - 1)) ≡ string_bytes l.initial.out ++ flat_map end_x_table
+    (from_to 0 (l.n - 1))

@@ -30,7 +30,8 @@ returns-in-Some-first_of c =
     ap (λ (ss : List SidEntry). first_at hs at (entries_from sid_entry 0 ss)) (sym c.as_slice.ensures.value)
     ∙ (sym c.first_of.ensures ∙ c.in_default.is) in
     let second : first_at hs at nodes ≡ Some c.in-Some-first_of.hit =
-    ap (λ (ns : List Node). first_at hs at (entries_from address_entry 0 ns)) (sym c.as_slice-2.ensures.value) ∙ sym c.in-Some-first_of.ensures in
+    ap (λ (ns : List Node). first_at hs at (entries_from address_entry 0 ns)) (sym c.as_slice-2.ensures.value)
+    ∙ sym c.in-Some-first_of.ensures in
     sym (sym (first_of_all p c.args.hidden.now at)
     ∙ (first_at_right hs at sids (nodes ++ routes) none ∙ first_at_left hs at nodes routes c.in-Some-first_of.hit second))
 

@@ -26,11 +26,13 @@ returns-in_ok-insert_new-in-None-clause-ok c =
     let new = not_there old p c.in-None.ensures.value in
     let same = c.replace.ensures.entries ∙ with_none old p c.args.hit new in
     subst (λ (t : HitTable). SettlesIn p (Some c.args.hit) old t)
-    (sym (c.in_ok-insert_new-in-None.ensures.ok ∙ ap (λ (t : HitTable). t ++ (p, c.args.hit) ∷ []) same)) (settles_pushed old p c.args.hit new)
+    (sym (c.in_ok-insert_new-in-None.ensures.ok ∙ ap (λ (t : HitTable). t ++ (p, c.args.hit) ∷ []) same))
+    (settles_pushed old p c.args.hit new)
 
 pub returns-in_err-insert_new-in-None-clause-err : goal.returns-in_err-insert_new-in-None-clause-err
 returns-in_err-insert_new-in-None-clause-err c =
     let old = c.args.table.now in
     let p = c.args.p.now in
     on_err_always c.from_residual.result _
-    (c.in_err-insert_new-in-None.ensures.err ∙ (c.replace.ensures.entries ∙ with_none old p c.args.hit (not_there old p c.in-None.ensures.value)))
+    (c.in_err-insert_new-in-None.ensures.err ∙ (c.replace.ensures.entries
+    ∙ with_none old p c.args.hit (not_there old p c.in-None.ensures.value)))

@@ -9,7 +9,7 @@ use Rattle.endpoint_chain.specs.Outcomes.{HoldsAlone}
 use Rattle.node_stage.specs.declared.staged.Staged.{Staged}
 use Rattle.node_stage.specs.Fronted.{FrontedContent, fronted}
 use Rattle.node_stage.specs.Staging.{IsBigAfter, StagesAll}
-use Rattle.node_stage.proofs.BindingLemmas.{dropped-big}
+use Rattle.node_stage.proofs.BindingLemmas.{dropped-big, goes-on-bound}
 use Rattle.node_stage.proofs.FrontLemmas.{kept-back}
 use Rattle.node_stage.proofs.endpoint.bound_by.Goals as goal
 
@@ -60,6 +60,15 @@ returns-in-Ok c = λ net node number named there binds names is.
     subst P same (c.bound_in_room.ensures net node number front named there binds names is room)
 
 pub returns-in-Err : goal.returns-in-Err
-returns-in-Err c = λ net node number named there binds names is. kept-back c.args.packet c.into_bytes-bytes.result
-    c.reserve_front.new.self c.alone.result c.of.result c.in-Err.ensures.err c.into_bytes-bytes.ensures.packet
-    c.into_bytes-bytes.ensures.front c.alone.ensures c.of.ensures c.in-Err.ensures.want
+returns-in-Err c = λ net node number named there binds names is.
+    let s = c.args.entry.now in
+    let policy = c.args.policy.now in
+    let P : Bool → Type 0 =
+    λ b. IsBigAfter (at_sid s c.args.allow.now c.args.packet.packet) policy (behaviour_reduces s.behaviour) (Some b) in
+    let back = kept-back c.args.packet c.into_bytes-bytes.result c.reserve_front.new.self c.alone.result c.of.result c.in-Err.ensures.err
+    c.into_bytes-bytes.ensures.packet c.into_bytes-bytes.ensures.front c.alone.ensures c.of.ensures c.in-Err.ensures.want in (
+      back.0,
+      back.1,
+      goes-on-bound net node c.args.sid s c.args.allow.now c.args.packet.packet number named policy there binds names is
+          (subst P c.if-big.false c.requires.big),
+    )

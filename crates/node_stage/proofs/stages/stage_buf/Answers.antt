@@ -1,5 +1,8 @@
-use Rattle.std.proofs.Common.{◌∙◌, ap}
+use Rattle.std.proofs.Common.{◌∙◌, ap, subst}
+use Rattle.srv6_rules.specs.Packet.{Content}
+use Rattle.walk_rules.specs.Treatment.{step_of}
 use Rattle.node_stage.specs.Fronted.{FrontedContent, front_after}
+use Rattle.node_stage.specs.Staging.{PutsPolicy}
 use Rattle.node_stage.proofs.StageLemmas.{told_step, told_relation, told_tells, told_place}
 use Rattle.node_stage.proofs.stages.stage_buf.Goals as goal
 
@@ -25,3 +28,8 @@ returns-in-Ok-clause-front c =
     let told = c.in-Ok.field-0 in
     c.in-Ok.ensures.1
     ∙ ap (λ (v : FrontedContent). front_after c.args.net.now c.args.place.now.node v told.outcome) c.take.ensures
+
+pub returns-in-Err-clause-binds : goal.returns-in-Err-clause-binds
+returns-in-Err-clause-binds c =
+    let P : Content → Type 0 = λ x. PutsPolicy c.args.net.now (step_of c.args.net.now c.args.place.now x c.args.choice).outcome in
+    subst P (ap (λ (v : FrontedContent). v.content) c.take.ensures) c.in-Err.ensures.3

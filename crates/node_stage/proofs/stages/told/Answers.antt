@@ -12,6 +12,7 @@ returns-in-Drops c =
     let from = drops_from net node c.node.result.now c.in-Drops.reason c.in-Drops.detail c.in-Drops.content.content c.node.ensures in
     let drops = sym (ap (λ (s : Staged). gave_of net node s) c.in-Drops.is) in (
       tells_same c.dropped.result c.dropped.new.slot.items _ _ (from ∙ drops ∙ c.in_ok-staged.ensures.0) c.dropped.ensures.tells,
-      front-told net node c.args.content c.in-Drops.content c.in_ok-staged.staged c.dropped.result c.in-Drops.reason c.in-Drops.detail _ c.in-Drops.is
+      front-told net node c.args.content c.in-Drops.content c.in_ok-staged.staged c.dropped.result c.in-Drops.reason c.in-Drops.detail _
+          c.in-Drops.is
           c.in_ok-staged.ensures.1 c.dropped.ensures.after c.dropped.ensures.tells.0,
     )

@@ -11,4 +11,5 @@ returns-clause-end c = λ calls r runs done. runs-done r calls runs done
 
 pub returns-clause-fault : goal.returns-clause-fault
 returns-clause-fault c =
-    λ calls old new fault more runs takes not. runs-refused old new calls more fault runs (from_fault fault _ (Refused old new fault) not takes)
+    λ calls old new fault more runs takes not. runs-refused old new calls more fault runs
+    (from_fault fault _ (Refused old new fault) not takes)

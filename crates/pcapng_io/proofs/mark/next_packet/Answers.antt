@@ -34,7 +34,8 @@ pub each-preserved : goal.each-preserved
 each-preserved c =
     let front : IsFront c.args.input.now c.each.mark c.each.described.items (Ok (Some c.in-Ok-Some.whole)) = cc in
     record {
-      kept = kept-both c.args.described.now.items c.each.described.items c.pass.new.described.items c.each.invariant.kept c.pass.ensures.kept;
+      kept = kept-both c.args.described.now.items c.each.described.items c.pass.new.described.items c.each.invariant.kept
+          c.pass.ensures.kept;
       passed = passed-other c.args.input.now c.args.mark.now c.each.mark c.pass.new.mark c.args.described.now.items c.each.described.items
           c.pass.new.described.items c.in-Ok-Some.whole c.each.invariant.passed front c.in_ok-pass.ensures.ok c.in_default.not-Packet;
     }

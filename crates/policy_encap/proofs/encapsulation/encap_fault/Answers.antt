@@ -1,4 +1,4 @@
-use Rattle.std.proofs.Common.{◌≡◌, ◌≤◌, ◌∙◌, List, ℕ, length, sym, arith}
+use Rattle.std.proofs.Common.{◌≤◌, ◌∙◌, List, ℕ, length, sym, arith}
 use Rattle.srv6_rules.specs.Policies.{inner_hop, inner_lowered_bytes, outer_by}
 use Rattle.policy_encap.specs.Inner.{HoldsInner}
 use Rattle.policy_encap.proofs.EncapLemmas.{length-lowered, encap-refuses, encap-wants}

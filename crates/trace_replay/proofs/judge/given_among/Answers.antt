@@ -1,4 +1,4 @@
-use Rattle.std.proofs.Common.{◌≡◌, ◌≤◌, false, true, sym, ◌∙◌, arith}
+use Rattle.std.proofs.Common.{◌≡◌, ◌≤◌, false, true, ◌∙◌, arith}
 use Rattle.trace_replay.specs.Replays.{is_given}
 use Rattle.trace_replay.proofs.Choosing.{find-on}
 use Rattle.trace_replay.proofs.Judging.{given-same, gives-line, found-here, found-none}

@@ -1,4 +1,4 @@
-use Rattle.std.proofs.Common.{◌≡◌, ◌∙◌, ap, sym}
+use Rattle.std.proofs.Common.{◌∙◌, ap, sym}
 use Rattle.trace_replay.specs.declared.reading.Phase.{Phase}
 use Rattle.trace_replay.specs.Reading.{phase_behind}
 use Rattle.trace_replay.proofs.reading.phase_behind.Goals as goal

@@ -88,5 +88,6 @@ returns-in-Err-clause-err c =
     let entry = c.args.entry in
     let can = can_hide_of parts old entry (subst (λ (net : Network). CanHide net entry) (sym c.self.view_is) c.requires.there) in
     let hidden = subst (λ (net : Network). is_shown net.hidden (hit_of_entry entry) ≡ false) (sym c.self.view_is) c.requires.hidden in
-    marked_back parts old c.mark.new.hidden c.mark-in-Err.new.hidden entry can c.self.invariant.flags hidden c.mark.ensures c.mark-in-Err.ensures
+    marked_back parts old c.mark.new.hidden c.mark-in-Err.new.hidden entry can c.self.invariant.flags hidden c.mark.ensures
+    c.mark-in-Err.ensures
     ∙ c.self.view_is

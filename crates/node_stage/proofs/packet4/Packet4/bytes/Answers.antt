@@ -6,4 +6,5 @@ use Rattle.node_stage.proofs.packet4.Packet4.bytes.Goals as goal
 
 pub returns : goal.returns
 returns c =
-    c.view.ensures ∙ alone4-spelled c.self.inside.bytes.bytes c.self.invariant ∙ ap (λ (v : FrontedPacket4). spelling4 v.packet) c.self.view_is
+    c.view.ensures ∙ alone4-spelled c.self.inside.bytes.bytes c.self.invariant
+    ∙ ap (λ (v : FrontedPacket4). spelling4 v.packet) c.self.view_is

@@ -26,7 +26,8 @@ lower_ttl-requires-clause-some c =
 
 pub invariant_of-self : goal.invariant_of-self
 invariant_of-self c =
-    subst (λ xs. HoldsAlone4 xs) (sym (left c.self.inside.bytes.bytes c.view_mut.result.now c.lower_ttl.new.bytes c.self.invariant c.view_mut.ensures.value
+    subst (λ xs. HoldsAlone4 xs)
+    (sym (left c.self.inside.bytes.bytes c.view_mut.result.now c.lower_ttl.new.bytes c.self.invariant c.view_mut.ensures.value
     c.lower_ttl.ensures.bytes)) (lowered4-alone c.self.inside.bytes.bytes c.self.invariant)
 
 pub returns-clause-packet : goal.returns-clause-packet

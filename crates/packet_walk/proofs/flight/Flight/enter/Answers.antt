@@ -9,7 +9,9 @@ use Rattle.packet_walk.proofs.flight.Flight.enter.Goals as goal
 pub invariant_of-self : goal.invariant_of-self
 invariant_of-self c =
     placed-entered c.self.inside.net.now c.self.inside.packets c.enter.new.self
-    (entering (fronted (entered_as c.args.place.family c.args.buf.bytes) c.args.buf.front) c.args.place c.args.choices.now) c.enter.result c.self.invariant
+    (entering
+    (fronted (entered_as c.args.place.family c.args.buf.bytes) c.args.buf.front) c.args.place c.args.choices.now) c.enter.result
+    c.self.invariant
     (subst (λ (f : Flight). IsPlace f.net c.args.place) (sym c.self.view_is) c.requires.place)
     (c.enter.ensures c.self.inside.net.now)
 

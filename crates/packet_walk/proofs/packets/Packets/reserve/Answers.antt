@@ -1,7 +1,6 @@
-use Rattle.std.proofs.Common.{◌≡◌, ◌-◌, IfSome, None, slice_set, subst, sym, arith, refl}
-use Rattle.net_model.specs.Network.{Network}
+use Rattle.std.proofs.Common.{◌≡◌, ◌-◌, IfSome, None, slice_set, subst, sym, arith}
 use Rattle.walk_rules.specs.Relation.{IsPlace}
-use Rattle.packet_walk.specs.Flight.{Packets, Flight, ArePlaced, IsNumber, Reserves, packet_in, within}
+use Rattle.packet_walk.specs.Flight.{Packets, ArePlaced, IsNumber, Reserves, packet_in, within}
 use Rattle.packet_walk.proofs.Numbers.{placed-set, reserves}
 use Rattle.packet_walk.proofs.Rooms.{at-place, reserves-ended}
 use Rattle.packet_walk.proofs.packets.Packets.reserve.Goals as goal

@@ -1,5 +1,4 @@
-use Rattle.std.proofs.Common.{◌≡◌, ℕ, List, true, false, refl, length, get_or, sym, ap, ◌∙◌, subst, arith, below_more}
-use Rattle.std.specs.Prelude.{IsTrue}
+use Rattle.std.proofs.Common.{◌≡◌, ℕ, List, true, false, refl, length, get_or, sym, ap, subst, arith, below_more}
 use Rattle.std.proofs.lemmas.Bool.{both_ways}
 use Rattle.prefix_table.specs.Index.{HasBelow}
 use Rattle.prefix_table.proofs.IndexLemmas.{none_shorter}

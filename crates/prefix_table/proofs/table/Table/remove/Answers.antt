@@ -1,4 +1,4 @@
-use Rattle.std.proofs.Common.{◌≡◌, ◌<◌, length, slice_get, Some, None, refl, sym, ap, arith, ◌∙◌, subst}
+use Rattle.std.proofs.Common.{◌≡◌, slice_get, Some, None, refl, sym, ap, arith, ◌∙◌, subst}
 use Rattle.std.proofs.lemmas.Option.{slice_get-get_or}
 use Rattle.prefix_table.specs.Table.{value_at, without}
 use Rattle.prefix_table.specs.Index.{key_of, place_at, ClosesGap}
