@@ -2,7 +2,7 @@
 use Rattle.std.proofs.Common.{◌≡◌, ℕ, suc, ◌+◌, ◌-◌, ◌<◌, ◌≤◌, ◌⊎◌, inl, inr, true, List, [], ◌∷◌, drop, Option, Some, None, slice_get, refl, sym, ap, ◌∙◌, subst, arith}
 use Rattle.std.proofs.lemmas.Bool.{cases_lt}
 use Rattle.std.proofs.lemmas.Option.{same_Some}
-use Rattle.srv6_rules.specs.declared.sid.Family.{Family}
+use Rattle.srv6_rules.specs.declared.family.Family.{Family}
 use Rattle.srv6_rules.specs.declared.sid.SidEntry.{SidEntry}
 use Rattle.srv6_rules.specs.Behaviours.{exposes, goes_on}
 use Rattle.srv6_rules.specs.Policies.{inner_kind}

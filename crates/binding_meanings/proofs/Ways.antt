@@ -1,7 +1,7 @@
 -- Where a packet at a place of a list comes to by a ride from a start.
 use Rattle.std.proofs.Common.{◌≡◌, ℕ, ◌-◌, drop, Some, slice_get, sym, ap, ◌∙◌, subst}
 use Rattle.std.proofs.lemmas.Option.{same_Some}
-use Rattle.srv6_rules.specs.declared.sid.Family.TheVariants as families
+use Rattle.srv6_rules.specs.declared.family.Family.TheVariants as families
 use Rattle.srv6_rules.specs.declared.sid.SidEntry.{SidEntry}
 use Rattle.srv6_rules.specs.Packet.{Packet}
 use Rattle.net_model.specs.Network.{Network}

@@ -1,6 +1,6 @@
 -- What is handed over of a packet on its way along a list whose SIDs may bind policies (RFC 8986 sections 4.13, 4.14 and 4.16.3).
 use Rattle.std.specs.Prelude.{ℕ, false, List, [], ◌∷◌, slice_get, Option, Some, None}
-use Rattle.srv6_rules.specs.declared.sid.Family.TheVariants as families
+use Rattle.srv6_rules.specs.declared.family.Family.TheVariants as families
 use Rattle.srv6_rules.specs.declared.sid.SidEntry.{SidEntry}
 use Rattle.srv6_rules.specs.Behaviours.{behaviour_policy, behaviour_reduces}
 use Rattle.srv6_rules.specs.Packet.{Packet, Content, V6, V4, Unreadable}

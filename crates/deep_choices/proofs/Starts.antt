@@ -12,7 +12,7 @@ use Rattle.srv6_rules.specs.Endpoint.{at_sid}
 use Rattle.srv6_rules.specs.Srh.{Srh}
 use Rattle.srv6_rules.specs.Policies.{outer_by}
 use Rattle.srv6_rules.specs.declared.policy.Policy.{Policy}
-use Rattle.srv6_rules.specs.declared.sid.Family.TheVariants as families
+use Rattle.srv6_rules.specs.declared.family.Family.TheVariants as families
 use Rattle.pushed_headers.specs.Fronts.{AreFront, Fate, GoesOn, IsTakenOff, IsDelivered, IsDropped, IsFate, endpoint_of, filled, front_by}
 use Rattle.pushed_headers.proofs.PublicLaws.{one-fate, policy-front, policy-round}
 use Rattle.net_model.specs.declared.parts.Link.{Link}

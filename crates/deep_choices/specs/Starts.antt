@@ -1,6 +1,6 @@
 -- Where a packet goes on from behind a pushed header.
 use Rattle.std.specs.Prelude.{◌≡◌, ℕ, ◌≤◌, true, is_some, List, [], length, take, drop, Option, Some}
-use Rattle.srv6_rules.specs.declared.sid.Family.TheVariants as families
+use Rattle.srv6_rules.specs.declared.family.Family.TheVariants as families
 use Rattle.srv6_rules.specs.Packet.{Packet}
 use Rattle.srv6_rules.specs.Srh.{Srh}
 use Rattle.pushed_headers.specs.Fronts.{AreFront, filled}

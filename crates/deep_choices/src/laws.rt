@@ -5,7 +5,7 @@ ghost use Rattle.std.specs.Option.{option_and_then, option_map};
 ghost use Rattle.srv6_rules.specs.Packet.{Content, Packet, V6};
 ghost use Rattle.srv6_rules.specs.Policies.{outer_by};
 ghost use Rattle.srv6_rules.specs.declared.policy.Policy.{Policy};
-ghost use Rattle.srv6_rules.specs.declared.sid.Family.{Family};
+ghost use Rattle.srv6_rules.specs.declared.family.Family.{Family};
 ghost use Rattle.net_model.specs.Keeps.{Keeps};
 ghost use Rattle.net_model.specs.Network.{Network};
 ghost use Rattle.walk_rules.specs.declared.place.Place.{Place};

@@ -1,7 +1,7 @@
 -- Headers with the bytes of the packets below them.
 use Rattle.std.proofs.Common.{◌≡◌, ℕ, Bool, true, false, List, [], ◌∷◌, ◌++◌, Option, Some, None, refl, sym, ◌∙◌, ap, subst, append_assoc}
 use Rattle.srv6_rules.specs.declared.policy.Policy.{Policy}
-use Rattle.srv6_rules.specs.declared.sid.Family.TheVariants.{V6 as Ipv6}
+use Rattle.srv6_rules.specs.declared.family.Family.TheVariants.{V6 as Ipv6}
 use Rattle.srv6_rules.specs.declared.sid.SidEntry.{SidEntry}
 use Rattle.srv6_rules.specs.Packet.{Packet, Content, V6, V4, Unreadable, IsSpellable, spelling}
 use Rattle.srv6_rules.specs.Srh.{Srh, srh_spelling}

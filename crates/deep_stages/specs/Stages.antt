@@ -6,8 +6,8 @@
 -- pushed, in front of a packet that no bytes need to spell. No link has an MTU.
 use Rattle.std.specs.Prelude.{ℕ, Bool, false, ◌≡◌, is_some, List, [], ◌∷◌, slice_get, Option, Some, None}
 use Rattle.srv6_rules.specs.declared.sid.Behaviour.{Behaviour}
-use Rattle.srv6_rules.specs.declared.sid.Family.TheVariants as families
-use Rattle.srv6_rules.specs.declared.sid.Reason.TheVariants as reasons
+use Rattle.srv6_rules.specs.declared.family.Family.TheVariants as families
+use Rattle.srv6_rules.specs.declared.reason.Reason.TheVariants as reasons
 use Rattle.srv6_rules.specs.declared.sid.SidEntry.{SidEntry}
 use Rattle.srv6_rules.specs.Behaviours.{behaviour_policy, behaviour_reduces}
 use Rattle.srv6_rules.specs.Packet.{Packet, Content, V6, V4, Unreadable, read_as}

@@ -5,7 +5,7 @@ use Rattle.std.proofs.lemmas.Bool.{ltb-false}
 use Rattle.std.proofs.lemmas.List.{drop-drop, length-set}
 use Rattle.std.proofs.lemmas.List.Elements.{All-set}
 use Rattle.srv6_rules.specs.declared.numbers.TheConstants.{IPV6_VERSION}
-use Rattle.srv6_rules.specs.declared.sid.Reason.TheVariants.{Truncated, BadVersion}
+use Rattle.srv6_rules.specs.declared.reason.Reason.TheVariants.{Truncated, BadVersion}
 use Rattle.srv6_rules.specs.Packet.{Packet, IsSpellable, Spells, V6, Unreadable, header_len, content_of, packet_at, stated_len, spelling, address_bytes}
 use Rattle.srv6_rules.specs.Chain.{from_place}
 use Rattle.srv6_rules.specs.CompressedSteps.{Move, moved, with_hop_and_destination}

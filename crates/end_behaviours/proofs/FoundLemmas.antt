@@ -3,9 +3,9 @@ use Rattle.std.proofs.Common.{◌≡◌, ◌≢◌, ℕ, zero, suc, ◌+◌, ◌
 use Rattle.std.specs.Prelude.{Option, Some, None, IfSome}
 use Rattle.std.proofs.lemmas.Bool.{cases_Bool, and_parts, eq-eqb, eqb-false, eqb-true, ne_eqb}
 use Rattle.srv6_rules.specs.declared.numbers.TheConstants.{MAX_PACKET_LEN}
-use Rattle.srv6_rules.specs.declared.sid.Family.TheVariants.{V6}
-use Rattle.srv6_rules.specs.declared.sid.Reason.{Reason}
-use Rattle.srv6_rules.specs.declared.sid.Reason.TheVariants.{UnknownRouting, LateHopByHop, Fragment}
+use Rattle.srv6_rules.specs.declared.family.Family.TheVariants.{V6}
+use Rattle.srv6_rules.specs.declared.reason.Reason.{Reason}
+use Rattle.srv6_rules.specs.declared.reason.Reason.TheVariants.{UnknownRouting, LateHopByHop, Fragment}
 use Rattle.srv6_rules.specs.declared.sid.SidEntry.{SidEntry}
 use Rattle.srv6_rules.specs.Behaviours.{goes_on}
 use Rattle.srv6_rules.specs.Packet.{Packet, spelling}

@@ -2,7 +2,7 @@
 use Rattle.std.proofs.Common.{◌≡◌, ℕ, ◌+◌, ◌-◌, ◌≤◌, true, false, List, length, take, drop, refl, sym, ap, subst, ◌∙◌, arith}
 use Rattle.std.proofs.lemmas.List.{length-drop}
 use Rattle.srv6_rules.specs.declared.numbers.TheConstants.{MAX_PACKET_LEN}
-use Rattle.srv6_rules.specs.declared.sid.Reason.TheVariants.{BadChain}
+use Rattle.srv6_rules.specs.declared.reason.Reason.TheVariants.{BadChain}
 use Rattle.srv6_rules.specs.declared.sid.SidEntry.{SidEntry}
 use Rattle.srv6_rules.specs.Packet.{Packet, header_len, packet_at}
 use Rattle.srv6_rules.specs.Chain.{ChainPlace, Header, LiesIn, StandsIn, extension_bytes, from_place, is_extension, is_whole, place_behind}

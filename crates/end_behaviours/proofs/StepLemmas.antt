@@ -7,7 +7,7 @@ use Rattle.srv6_rules.specs.declared.compression.Compression.{Compression}
 use Rattle.srv6_rules.specs.declared.numbers.TheConstants.{MAX_PACKET_LEN}
 use Rattle.srv6_rules.specs.declared.sid.Csid.{Csid}
 use Rattle.srv6_rules.specs.declared.sid.Csid.TheVariants as csids
-use Rattle.srv6_rules.specs.declared.sid.Reason.{Reason}
+use Rattle.srv6_rules.specs.declared.reason.Reason.{Reason}
 use Rattle.srv6_rules.specs.declared.sid.SidEntry.{SidEntry}
 use Rattle.srv6_rules.specs.Packet.{Packet, IsSpellable, Spells, header_len, packet_at, spelling}
 use Rattle.srv6_rules.specs.Areas.{Fault, tlvs_fault}

@@ -4,7 +4,7 @@ use Rattle.std.specs.List.{filter}
 use Rattle.v6_addr.specs.Address.{PrefixValue, Holds, holds_address, IsInside, is_inside}
 use Rattle.srv6_rules.specs.declared.sid.Csid.{Csid}
 use Rattle.srv6_rules.specs.declared.sid.Csid.TheVariants as csids
-use Rattle.srv6_rules.specs.declared.sid.Family.TheVariants as families
+use Rattle.srv6_rules.specs.declared.family.Family.TheVariants as families
 use Rattle.srv6_rules.specs.declared.sid.SidEntry.{SidEntry}
 use Rattle.srv6_rules.specs.Behaviours.{goes_on}
 use Rattle.srv6_rules.specs.Compressed.{csid_of}

@@ -5,7 +5,7 @@ ghost use Rattle.v6_addr.specs.Address.{PrefixValue, IsInside};
 ghost use Rattle.srv6_rules.specs.Behaviours.{goes_on};
 ghost use Rattle.srv6_rules.specs.Compressed.{csid_of};
 ghost use Rattle.srv6_rules.specs.declared.sid.Csid.TheVariants.{Plain};
-ghost use Rattle.srv6_rules.specs.declared.sid.Family.TheVariants.{V6};
+ghost use Rattle.srv6_rules.specs.declared.family.Family.TheVariants.{V6};
 ghost use Rattle.srv6_rules.specs.declared.sid.SidEntry.{SidEntry};
 ghost use Rattle.net_model.specs.declared.net.Hit.TheVariants.{Sid};
 ghost use Rattle.net_model.specs.Network.{Network};

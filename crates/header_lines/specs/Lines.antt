@@ -5,8 +5,8 @@ use Rattle.std.specs.List.{range_with_len}
 use Rattle.std.specs.Fmt.{decimal}
 use Rattle.v6_addr.specs.Text.{address_text}
 use Rattle.v6_addr.specs.Text4.{address4_text}
-use Rattle.srv6_rules.specs.declared.sid.Reason.{Reason}
-use Rattle.srv6_rules.specs.declared.sid.Reason.TheVariants.{BadVersion}
+use Rattle.srv6_rules.specs.declared.reason.Reason.{Reason}
+use Rattle.srv6_rules.specs.declared.reason.Reason.TheVariants.{BadVersion}
 use Rattle.srv6_rules.specs.Packet.{Packet, Content, V6, V4, Unreadable, header_len}
 use Rattle.srv6_rules.specs.Packet4.{Packet4, ttl, protocol, source4, destination4, spelling4}
 use Rattle.srv6_rules.specs.Chain.{Header, ChainEnd, Upper, Cut, Chain, hop_by_hop, fragment, destination_options, chain_of, is_segment_routing, routing_type, segments_left}

@@ -4,7 +4,7 @@ ghost use Rattle.std.specs.Prelude.{◌≡◌, ◌++◌, List, ℕ, IfOk, OnOk, 
 ghost use Rattle.header_lines.specs.Lines.{content_lines, fault_line, ip4_line, ip6_line, number_line, packet_lines};
 ghost use Rattle.ip6_headers.specs.Reading4.{reason_of};
 ghost use Rattle.srv6_rules.specs.Packet.{content_of, read_as};
-ghost use Rattle.srv6_rules.specs.declared.sid.Family.TheVariants.{V4};
+ghost use Rattle.srv6_rules.specs.declared.family.Family.TheVariants.{V4};
 ghost use Rattle.v6_addr.specs.Text4.{address4_text};
 
 use crate::chain::append_chain;

@@ -2,7 +2,7 @@
 use Rattle.std.proofs.Common.{◌≡◌, ℕ, ◌≤◌, Bool, true, false, nat_lt, List, [], length, inl, inr, sym, ap, subst, ◌∙◌, arith}
 use Rattle.std.proofs.lemmas.Bool.{cases_Bool}
 use Rattle.srv6_rules.specs.declared.policy.Policy.{Policy}
-use Rattle.srv6_rules.specs.declared.sid.Family.{Family}
+use Rattle.srv6_rules.specs.declared.family.Family.{Family}
 use Rattle.srv6_rules.specs.Encapsulation.{header_bytes}
 use Rattle.srv6_rules.specs.Packet.{Packet, Spells, packet_at}
 use Rattle.srv6_rules.specs.Policies.{IsPolicy, Outer, outer_by, pushed_by}

@@ -1,6 +1,6 @@
 -- What comes of packets at a SID that differ in their hop limit alone.
 use Rattle.std.proofs.Common.{◌≡◌, ℕ, ◌+◌, Bool, true, false, ◌==◌, ◌&&◌, not, nat_le, if◌then◌else◌, List, [], ◌∷◌, Option, Some, None, refl}
-use Rattle.srv6_rules.specs.declared.sid.Reason.TheVariants as reasons
+use Rattle.srv6_rules.specs.declared.reason.Reason.TheVariants as reasons
 use Rattle.srv6_rules.specs.declared.sid.SidEntry.{SidEntry}
 use Rattle.srv6_rules.specs.Behaviours.{goes_on, exposes, family_inside}
 use Rattle.srv6_rules.specs.CompressedSteps.{compression_of, is_replace, shifted, is_at_end, lacks_entry, is_ended, has_bad_list, Move, move_of, moved, ReplaceStep, Moved, AtEnd, Dropped, unless_dropped, hop_limit_fault, replace_step, segments_fault}

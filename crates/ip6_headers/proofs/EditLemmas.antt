@@ -5,7 +5,7 @@ use Rattle.std.proofs.lemmas.List.{append-nil, append_assoc, drop_at, drop-drop,
 use Rattle.std.specs.Prelude.{◌/◌, ◌%◌, ◌==◌, nat_lt}
 use Rattle.byteorder.specs.Endian.{big_number, big_bytes}
 use Rattle.byteorder.specs.Numbers.{big_number-reads_back, length-bytes_high_first}
-use Rattle.srv6_rules.specs.declared.sid.Reason.TheVariants.{Truncated, BadVersion}
+use Rattle.srv6_rules.specs.declared.reason.Reason.TheVariants.{Truncated, BadVersion}
 use Rattle.srv6_rules.specs.Packet.{Packet, V6, Unreadable, content_of, packet_at, stated_len, header_len, two_bytes, address_bytes, two_number, four_number, address_number}
 use Rattle.srv6_rules.proofs.PublicLaws.{two_number-append, four_number-append, address_number-append}
 

@@ -2,7 +2,7 @@
 use Rattle.std.proofs.Common.{◌≡◌, ℕ, ◌+◌, ◌-◌, ◌*◌, ◌^◌, ◌<◌, ◌≤◌, List, ◌++◌, length, take, drop, slice_index, slice_set, All, refl, sym, ap, ◌∙◌, arith, append_assoc, length-append, length-drop}
 use Rattle.std.proofs.lemmas.List.{length-take-le, take_at, take-append-drop, drop-append-le, get_or-take}
 use Rattle.std.specs.Prelude.{Result, Ok, Err}
-use Rattle.srv6_rules.specs.declared.sid.Reason.{Reason}
+use Rattle.srv6_rules.specs.declared.reason.Reason.{Reason}
 use Rattle.srv6_rules.specs.Packet.{two_bytes, two_number, four_number}
 use Rattle.srv6_rules.specs.Packet4.{Packet4, IsSpellable4, spelling4, read4, packet4_at, stated_header_len, total_len, address4_at, header_checksum, checksum_lowered, ttl_lowered, lowered4}
 use Rattle.srv6_rules.proofs.PublicLaws.{read4-spelling, reads4-spellable, reads4-spelled, ttl_lowered-front, lowered4-spellable, two_number-append, four_number-append}

@@ -1,6 +1,6 @@
 -- What reading says of bytes.
 use Rattle.std.specs.Prelude.{◌≡◌, ℕ, ◌+◌, ◌<◌, ◌^◌, ◌≤◌, List, length, All, Option, Some, None, Result, Ok, Err}
-use Rattle.srv6_rules.specs.declared.sid.Reason.TheVariants as reasons
+use Rattle.srv6_rules.specs.declared.reason.Reason.TheVariants as reasons
 use Rattle.srv6_rules.specs.Packet.{Packet, Content, V6, Unreadable, header_len, content_of, packet_at, stated_len}
 use Rattle.ip6_headers.specs.declared.faults.ReadFault.{ReadFault}
 use Rattle.ip6_headers.specs.declared.faults.ReadFault.TheVariants.{Truncated, BadVersion}

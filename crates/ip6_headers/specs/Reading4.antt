@@ -1,8 +1,8 @@
 -- What reading says of bytes as IPv4.
 use Rattle.std.specs.Prelude.{◌≡◌, ℕ, ◌<◌, ◌^◌, ◌≤◌, List, length, All, Option, Some, None, Result, Ok, Err}
 use Rattle.srv6_rules.specs.declared.numbers.TheConstants.{IPV4_HEADER_LEN}
-use Rattle.srv6_rules.specs.declared.sid.Reason.{Reason}
-use Rattle.srv6_rules.specs.declared.sid.Reason.TheVariants as reasons
+use Rattle.srv6_rules.specs.declared.reason.Reason.{Reason}
+use Rattle.srv6_rules.specs.declared.reason.Reason.TheVariants as reasons
 use Rattle.srv6_rules.specs.Packet4.{Packet4, read4, packet4_at, stated_header_len, total_len}
 use Rattle.ip6_headers.specs.declared.faults.ReadFault.{ReadFault}
 use Rattle.ip6_headers.specs.declared.faults.ReadFault.TheVariants.{Truncated, BadVersion}

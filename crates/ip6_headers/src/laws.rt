@@ -2,7 +2,7 @@
 
 ghost use Rattle.std.specs.Prelude.{◌≡◌, ℕ, ◌+◌, ◌^◌, ◌<◌, ◌≤◌, List, ◌++◌, length, take, drop, slice_set};
 ghost use Rattle.srv6_rules.specs.declared.numbers.TheConstants.{PAYLOAD_LEN_AT, NEXT_HEADER_AT, HOP_LIMIT_AT, DESTINATION_AT};
-ghost use Rattle.srv6_rules.specs.declared.sid.Reason.TheVariants.{Truncated};
+ghost use Rattle.srv6_rules.specs.declared.reason.Reason.TheVariants.{Truncated};
 ghost use Rattle.srv6_rules.specs.Packet.{Packet, V6, Unreadable, content_of, header_len, two_bytes, address_bytes};
 
 /// Bytes that read as a packet read, where a field was written, as that packet with this field

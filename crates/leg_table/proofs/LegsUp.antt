@@ -9,7 +9,7 @@ use Rattle.srv6_rules.specs.declared.sid.Behaviour.{Behaviour}
 use Rattle.srv6_rules.specs.declared.sid.Behaviour.TheVariants as behaviours
 use Rattle.srv6_rules.specs.Behaviours.{behaviour_exposes, behaviour_policy, behaviour_takes_flavours, is_packet_inside, exposes}
 use Rattle.srv6_rules.specs.Policies.{inner_kind}
-use Rattle.srv6_rules.specs.declared.sid.Family.TheVariants as families
+use Rattle.srv6_rules.specs.declared.family.Family.TheVariants as families
 use Rattle.srv6_rules.specs.declared.sid.SidEntry.{SidEntry}
 use Rattle.srv6_rules.specs.Packet.{Packet, V6, read_as}
 use Rattle.net_model.specs.Network.{Network}

@@ -6,8 +6,8 @@ use Rattle.std.specs.Option.{option_map}
 use Rattle.std.proofs.lemmas.Bool.{cases_order}
 use Rattle.std.proofs.lemmas.List.{length-drop}
 use Rattle.std.proofs.lemmas.Option.{slice_get_within}
-use Rattle.srv6_rules.specs.declared.sid.Family.{Family}
-use Rattle.srv6_rules.specs.declared.sid.Family.TheVariants as families
+use Rattle.srv6_rules.specs.declared.family.Family.{Family}
+use Rattle.srv6_rules.specs.declared.family.Family.TheVariants as families
 use Rattle.srv6_rules.specs.declared.sid.SidEntry.{SidEntry}
 use Rattle.net_model.specs.Network.{Network}
 use Rattle.net_model.specs.Keeps.{Keeps}

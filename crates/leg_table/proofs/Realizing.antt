@@ -3,8 +3,8 @@ use Rattle.std.proofs.Common.{◌≡◌, ℕ, suc, ◌+◌, ◌<◌, List, [], �
 use Rattle.std.proofs.lemmas.List.{length-map}
 use Rattle.std.proofs.lemmas.List.Elements.{All-nil, All-cons}
 use Rattle.v6_addr.specs.Address.{PrefixValue}
-use Rattle.srv6_rules.specs.declared.sid.Family.{Family}
-use Rattle.srv6_rules.specs.declared.sid.Family.TheVariants as families
+use Rattle.srv6_rules.specs.declared.family.Family.{Family}
+use Rattle.srv6_rules.specs.declared.family.Family.TheVariants as families
 use Rattle.srv6_rules.specs.Packet.{Packet, Content, V6, V4, Unreadable, bytes_of, content4_by, read_as}
 use Rattle.srv6_rules.specs.Packet4.{lowered4, spelling4}
 use Rattle.srv6_rules.specs.Encapsulation.{inner_lowered}

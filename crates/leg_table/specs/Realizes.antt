@@ -1,7 +1,7 @@
 -- Lists of segments that realize an intent, and paths of legs.
 use Rattle.std.specs.Prelude.{◌≡◌, ℕ, ◌<◌, ◌≤◌, false, List, [], ◌∷◌, length, map, take, All, Option, Some, None, IsTrue}
-use Rattle.srv6_rules.specs.declared.sid.Family.{Family}
-use Rattle.srv6_rules.specs.declared.sid.Family.TheVariants as families
+use Rattle.srv6_rules.specs.declared.family.Family.{Family}
+use Rattle.srv6_rules.specs.declared.family.Family.TheVariants as families
 use Rattle.srv6_rules.specs.Packet.{Packet, Content, V6, V4, Unreadable, IsSpellable, bytes_of}
 use Rattle.srv6_rules.specs.Packet4.{IsSpellable4, ttl, lowered4}
 use Rattle.srv6_rules.specs.Encapsulation.{Encapsulation, inner_lowered}

@@ -1,7 +1,7 @@
 //! The ways from the nodes of an intent to all SIDs, each from those of the node after it.
 
 ghost use Rattle.std.specs.Prelude.{◌≡◌, ◌≤◌, ◌<◌, ℕ, length, IsTrue, is_some, Some, IfSome, IfOk};
-ghost use Rattle.srv6_rules.specs.declared.sid.Family.TheVariants.{V6};
+ghost use Rattle.srv6_rules.specs.declared.family.Family.TheVariants.{V6};
 ghost use Rattle.walk_rules.specs.Way.{way_in};
 ghost use Rattle.walk_rules.specs.Relation.{IsPlace};
 ghost use Rattle.intent_reader.specs.Rules as rules;

@@ -6,7 +6,7 @@ use Rattle.std.proofs.lemmas.List.{append-nil, reverse-append, length-map}
 use Rattle.std.proofs.lemmas.List.Elements.{All-nil, All-cons, All-head, All-tail, All-append, All-map}
 use Rattle.v6_addr.specs.Address.{PrefixValue, field_of, Holds}
 use Rattle.srv6_rules.specs.declared.sid.Csid.TheVariants.{Replace}
-use Rattle.srv6_rules.specs.declared.sid.Family.{Family}
+use Rattle.srv6_rules.specs.declared.family.Family.{Family}
 use Rattle.srv6_rules.specs.Packet.{Packet}
 use Rattle.srv6_rules.specs.Compressed.{csid_of, csid_count}
 use Rattle.srv6_rules.specs.Encapsulation.{Encapsulation, segment_list, has_segment_routing}

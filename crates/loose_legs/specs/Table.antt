@@ -1,7 +1,7 @@
 -- The table of an intent's legs along steps of which some may be to reach a node. (own rule)
 use Rattle.std.specs.Prelude.{◌≡◌, ℕ, ◌+◌, ◌<◌, ◌≤◌, if◌then◌else◌, List, [], length, slice_get, Option, Some, None}
 use Rattle.std.specs.Option.{option_and_then}
-use Rattle.srv6_rules.specs.declared.sid.Family.{Family}
+use Rattle.srv6_rules.specs.declared.family.Family.{Family}
 use Rattle.net_model.specs.Network.{Network}
 use Rattle.net_model.specs.Rules.{IsNetwork}
 use Rattle.flat_networks.specs.Flat.{IsFlat}

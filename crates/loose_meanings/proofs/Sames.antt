@@ -1,6 +1,6 @@
 -- In a flat network all choices come to the same for any two own addresses of a SID.
 use Rattle.std.proofs.Common.{◌≡◌, ℕ, zero, suc, List, [], ◌∷◌, ◌++◌, length, Some, slice_get, refl, sym, ap, ap₂, subst}
-use Rattle.srv6_rules.specs.declared.sid.Family.TheVariants as families
+use Rattle.srv6_rules.specs.declared.family.Family.TheVariants as families
 use Rattle.srv6_rules.specs.declared.sid.SidEntry.{SidEntry}
 use Rattle.net_model.specs.Network.{Network}
 use Rattle.flat_networks.specs.Nests.{IsOwn}

@@ -4,7 +4,7 @@ use Rattle.std.specs.Option.{option_and_then}
 use Rattle.std.proofs.lemmas.Bool.Decides.{leb_tells}
 use Rattle.srv6_rules.specs.Packet.{Packet, Content, V6}
 use Rattle.srv6_rules.specs.Endpoint.{at_address}
-use Rattle.srv6_rules.specs.declared.sid.Reason.TheVariants as reasons
+use Rattle.srv6_rules.specs.declared.reason.Reason.TheVariants as reasons
 use Rattle.net_model.specs.Network.{Network}
 use Rattle.walk_rules.specs.declared.place.How.TheVariants.{Arrived}
 use Rattle.walk_rules.specs.declared.place.Place.{Place}

@@ -3,7 +3,7 @@ use Rattle.std.proofs.Common.{◌≡◌, ℕ, ◌%◌, ◌<◌, ◌==◌, Bool, 
 use Rattle.std.proofs.lemmas.List.{get_or-map, length-map}
 use Rattle.srv6_rules.specs.Packet.{Packet, spelling}
 use Rattle.srv6_rules.specs.Behaviours.{behaviour_policy, behaviour_reduces}
-use Rattle.srv6_rules.specs.declared.sid.Family.TheVariants as families
+use Rattle.srv6_rules.specs.declared.family.Family.TheVariants as families
 use Rattle.srv6_rules.specs.Policies.{Encapsulating, Outer, TooBig, InnerHop, pushed_by}
 use Rattle.srv6_rules.specs.Endpoint.{Endpoint, Onward, Exposed, Delivered, Refused, at_sid}
 use Rattle.srv6_rules.specs.declared.sid.Behaviour.{Behaviour}

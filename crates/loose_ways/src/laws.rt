@@ -3,7 +3,7 @@
 ghost use Rattle.std.specs.Prelude.{◌≡◌, ◌-◌, ◌+◌, ◌*◌, ◌<◌, ◌≤◌, ◌↔◌, List, ℕ, drop, length, Some};
 ghost use Rattle.std.specs.Option.{option_map};
 ghost use Rattle.srv6_rules.specs.Packet.{Packet, V6};
-ghost use Rattle.srv6_rules.specs.declared.sid.Family.{Family};
+ghost use Rattle.srv6_rules.specs.declared.family.Family.{Family};
 ghost use Rattle.net_model.specs.Network.{Network};
 ghost use Rattle.net_model.specs.Keeps.{Keeps};
 ghost use Rattle.walk_rules.specs.declared.place.Place.{Place};

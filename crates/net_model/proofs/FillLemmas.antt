@@ -13,7 +13,7 @@ use Rattle.std.proofs.lemmas.List.{take_more, length-take-le}
 use Rattle.std.proofs.lemmas.List.Elements.{Contains-append_left, Contains-push, Contains-push_cases}
 use Rattle.v6_addr.specs.Address.{PrefixValue}
 use Rattle.prefix_table.specs.Table.{HasPrefix}
-use Rattle.srv6_rules.specs.declared.sid.Family.{Family}
+use Rattle.srv6_rules.specs.declared.family.Family.{Family}
 use Rattle.net_model.specs.declared.net.Hit.{Hit}
 use Rattle.net_model.specs.declared.route_set.EntryKey.{EntryKey}
 use Rattle.net_model.specs.declared.tables.TableKey.{TableKey}

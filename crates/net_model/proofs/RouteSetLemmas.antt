@@ -9,8 +9,8 @@ use Rattle.std.specs.List.{list_any}
 use Rattle.std.specs.BTreeSet.{BTreeSet}
 use Rattle.std.specs.BTreeSet as tree
 use Rattle.v6_addr.specs.Address.{PrefixValue}
-use Rattle.srv6_rules.specs.declared.sid.Family.{Family}
-use Rattle.srv6_rules.specs.declared.sid.Family.TheVariants as families
+use Rattle.srv6_rules.specs.declared.family.Family.{Family}
+use Rattle.srv6_rules.specs.declared.family.Family.TheVariants as families
 use Rattle.net_model.specs.declared.parts.Route.{Route}
 use Rattle.net_model.specs.declared.route_set.EntryKey.{EntryKey}
 use Rattle.net_model.specs.Rules.{same_family, same_route}

@@ -13,7 +13,7 @@ use Rattle.std.proofs.lemmas.Option.{none-some, same_Some}
 use Rattle.v6_addr.specs.Address.{PrefixValue}
 use Rattle.prefix_table.specs.Table.{HasPrefix, is_one_prefix, value_at, without, with_value}
 use Rattle.prefix_table.proofs.PublicLaws.{one_from, one_to, there_tells, value_pushed, value_without, value_with}
-use Rattle.srv6_rules.specs.declared.sid.Family.{Family}
+use Rattle.srv6_rules.specs.declared.family.Family.{Family}
 use Rattle.srv6_rules.specs.declared.sid.SidEntry.{SidEntry}
 use Rattle.net_model.specs.declared.parts.NetParts.{NetParts}
 use Rattle.net_model.specs.declared.parts.Route.{Route}

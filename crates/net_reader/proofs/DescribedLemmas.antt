@@ -10,7 +10,7 @@ use Rattle.v6_addr.specs.Text4.{IsPrefix4Text}
 use Rattle.v6_addr.specs.Grammar.{IsPrefixText}
 use Rattle.v6_addr.specs.declared.address.Addr.{Addr}
 use Rattle.v6_addr.proofs.PublicLaws.{address_text_is, address_below, prefix_text_is, prefix4_text_is}
-use Rattle.srv6_rules.specs.declared.sid.Family.TheVariants.{V6, V4}
+use Rattle.srv6_rules.specs.declared.family.Family.TheVariants.{V6, V4}
 use Rattle.srv6_rules.specs.declared.sid.Csid.TheVariants.{Plain}
 use Rattle.text_faults.specs.declared.place.FaultPlace.{FaultPlace}
 use Rattle.text_faults.specs.declared.place.Key.{Key}

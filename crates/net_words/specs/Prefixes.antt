@@ -9,8 +9,8 @@ use Rattle.text_faults.specs.declared.place.Key.{Key}
 use Rattle.text_faults.specs.declared.fault.TextFault.{TextFault}
 use Rattle.text_faults.specs.declared.kind.FaultKind.TheVariants as kinds
 use Rattle.text_faults.specs.Faults.{fault_at}
-use Rattle.srv6_rules.specs.declared.sid.Family.{Family}
-use Rattle.srv6_rules.specs.declared.sid.Family.TheVariants.{V6, V4}
+use Rattle.srv6_rules.specs.declared.family.Family.{Family}
+use Rattle.srv6_rules.specs.declared.family.Family.TheVariants.{V6, V4}
 use Rattle.net_words.specs.declared.family_prefix.FamilyPrefix.{FamilyPrefix}
 use Rattle.toml_words.specs.Reading.{◌>>=◌, or_fault}
 use Rattle.toml_words.specs.Tree.{text_in}

@@ -5,8 +5,8 @@ use Rattle.srv6_rules.specs.declared.sid.Csid.TheVariants as csids
 use Rattle.net_model.specs.declared.limits.TheConstants.{SHORT_CSID, LONG_CSID}
 use Rattle.net_model.specs.declared.parts.BlockKind.{BlockKind}
 use Rattle.net_model.specs.declared.parts.BlockKind.TheVariants as blocks
-use Rattle.srv6_rules.specs.declared.sid.Family.{Family}
-use Rattle.srv6_rules.specs.declared.sid.Family.TheVariants.{V6, V4}
+use Rattle.srv6_rules.specs.declared.family.Family.{Family}
+use Rattle.srv6_rules.specs.declared.family.Family.TheVariants.{V6, V4}
 use Rattle.net_words.specs.declared.sid.BehaviourWord.{BehaviourWord}
 use Rattle.net_words.specs.declared.sid.BehaviourWord.TheVariants as behaviours
 use Rattle.net_words.specs.declared.sid.Flavour.{Flavour}

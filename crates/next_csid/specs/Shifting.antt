@@ -1,7 +1,7 @@
 -- A packet's bytes before and after a shift.
 use Rattle.std.specs.Prelude.{◌≡◌, ℕ, List, Some, None}
 use Rattle.srv6_rules.specs.declared.compression.Compression.{Compression}
-use Rattle.srv6_rules.specs.declared.sid.Reason.TheVariants as reasons
+use Rattle.srv6_rules.specs.declared.reason.Reason.TheVariants as reasons
 use Rattle.srv6_rules.specs.Packet.{V6, content_of, packet_at}
 use Rattle.srv6_rules.specs.CompressedSteps.{hop_limit_fault, shifted, with_hop_and_destination}
 use Rattle.next_csid.specs.declared.next.ShiftOutcome.{ShiftOutcome}

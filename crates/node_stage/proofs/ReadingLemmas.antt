@@ -1,7 +1,7 @@
 -- IPv6 packets in bytes that spell them.
 use Rattle.std.proofs.Common.{◌≡◌, ℕ, ◌+◌, ◌-◌, ◌/◌, ◌≤◌, ◌==◌, Bool, true, false, nat_lt, if◌then◌else◌, List, length, take, slice_index, slice_set, refl, sym, ap, subst, ◌∙◌}
 use Rattle.std.proofs.lemmas.Bool.{ltb-false}
-use Rattle.srv6_rules.specs.declared.sid.Reason.TheVariants.{Truncated, BadVersion}
+use Rattle.srv6_rules.specs.declared.reason.Reason.TheVariants.{Truncated, BadVersion}
 use Rattle.srv6_rules.specs.Packet.{Packet, V6, Unreadable, IsSpellable, Spells, header_len, content_of, packet_at, spelling, stated_len}
 use Rattle.srv6_rules.proofs.PublicLaws.{content_of-spelling_alone, length-spelling, all-spelling, edit-hop_limit, lowered-spellable}
 use Rattle.ip6_headers.specs.Reading.{HoldsPacket}

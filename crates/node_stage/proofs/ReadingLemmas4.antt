@@ -4,8 +4,8 @@ use Rattle.std.proofs.lemmas.Bool.{ltb-false}
 use Rattle.std.proofs.lemmas.List.{take_all}
 use Rattle.std.proofs.lemmas.List.Elements.{All-append}
 use Rattle.std.specs.Prelude.{Result, Ok, Err}
-use Rattle.srv6_rules.specs.declared.sid.Reason.{Reason}
-use Rattle.srv6_rules.specs.declared.sid.Reason.TheVariants.{Truncated, BadVersion}
+use Rattle.srv6_rules.specs.declared.reason.Reason.{Reason}
+use Rattle.srv6_rules.specs.declared.reason.Reason.TheVariants.{Truncated, BadVersion}
 use Rattle.srv6_rules.specs.Packet as packets
 use Rattle.srv6_rules.specs.Packet4.{Packet4, IsSpellable4, packet4_at, read4, spelling4, stated_header_len, total_len, ttl_lowered, lowered4}
 use Rattle.srv6_rules.proofs.PublicLaws.{read4-alone, lowered4-spelling, lowered4-spellable}

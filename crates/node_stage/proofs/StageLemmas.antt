@@ -1,7 +1,7 @@
 -- What a stage gives is an outcome of the relation, and leads to a place.
 use Rattle.std.proofs.Common.{◌≡◌, ℕ, List, Option, Some, None, IfSome, slice_get, refl, sym, subst, ap}
 use Rattle.srv6_rules.specs.Packet.{Content}
-use Rattle.srv6_rules.specs.declared.sid.Reason.{Reason}
+use Rattle.srv6_rules.specs.declared.reason.Reason.{Reason}
 use Rattle.net_model.specs.declared.parts.Node.{Node}
 use Rattle.net_model.specs.Network.{Network}
 use Rattle.net_model.specs.Keeps.{Keeps}

@@ -1,10 +1,10 @@
 -- What a stage of the code gives and tells.
 use Rattle.std.specs.Prelude.{◌≡◌, ◌≢◌, ℕ, ◌<◌, Bool, true, false, List, slice_get, is_some, IsSome, Option, Some, None, Result, Ok, Err}
 use Rattle.srv6_rules.specs.Behaviours.{behaviour_policy}
-use Rattle.srv6_rules.specs.declared.sid.Reason.{Reason}
+use Rattle.srv6_rules.specs.declared.reason.Reason.{Reason}
 use Rattle.srv6_rules.specs.declared.sid.SidEntry.{SidEntry}
 use Rattle.srv6_rules.specs.declared.policy.Policy.{Policy}
-use Rattle.srv6_rules.specs.declared.sid.Family.TheVariants as families
+use Rattle.srv6_rules.specs.declared.family.Family.TheVariants as families
 use Rattle.srv6_rules.specs.Endpoint.{Endpoint, Onward}
 use Rattle.srv6_rules.specs.Packet.{Content, Packet, spelling}
 use Rattle.srv6_rules.specs.Policies.{Outer, TooBig, pushed_by}

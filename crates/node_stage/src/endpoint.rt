@@ -6,7 +6,7 @@ ghost use Rattle.srv6_rules.specs.CompressedSteps.{SuitsCompression, is_next};
 ghost use Rattle.srv6_rules.specs.Endpoint.{Onward, at_address, at_sid};
 ghost use Rattle.srv6_rules.specs.Packet.{Packet as PacketValue, V6, content_of, packet_at};
 ghost use Rattle.srv6_rules.specs.Encapsulation.{header_bytes};
-ghost use Rattle.srv6_rules.specs.declared.sid.Family.TheVariants.{V6 as V6Family};
+ghost use Rattle.srv6_rules.specs.declared.family.Family.TheVariants.{V6 as V6Family};
 ghost use Rattle.srv6_rules.specs.Policies.{IsPolicy, Outer, pushed_by};
 ghost use Rattle.net_model.specs.Network.{Network};
 ghost use Rattle.pkt_buf.specs.BufferView.{Buffer};

@@ -1,7 +1,7 @@
 //! Bytes read as a packet of a family, in place.
 
 ghost use Rattle.std.specs.Prelude.{◌≡◌};
-ghost use Rattle.srv6_rules.specs.declared.sid.Family.TheVariants.{V4};
+ghost use Rattle.srv6_rules.specs.declared.family.Family.TheVariants.{V4};
 ghost use Rattle.srv6_rules.specs.Packet.{content_of, read_as, entered};
 ghost use Rattle.node_stage.specs.Fronted.{fronted};
 

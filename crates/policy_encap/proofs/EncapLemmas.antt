@@ -3,8 +3,8 @@ use Rattle.std.proofs.Common.{◌≡◌, ℕ, ◌+◌, ◌-◌, ◌^◌, ◌<◌
 use Rattle.std.proofs.lemmas.List.{take_all, length-set}
 use Rattle.std.proofs.lemmas.List.Elements.{All-drop}
 use Rattle.srv6_rules.specs.declared.policy.Policy.{Policy}
-use Rattle.srv6_rules.specs.declared.sid.Family.{Family}
-use Rattle.srv6_rules.specs.declared.sid.Family.TheVariants.{V6, V4}
+use Rattle.srv6_rules.specs.declared.family.Family.{Family}
+use Rattle.srv6_rules.specs.declared.family.Family.TheVariants.{V6, V4}
 use Rattle.srv6_rules.specs.Packet.{Packet, IsSpellable, Spells, header_len, most_len, stated_len, packet_at, spelling, two_number}
 use Rattle.srv6_rules.specs.Packet4.{total_len, packet4_at, spelling4, ttl_lowered}
 use Rattle.srv6_rules.specs.Policies.{IsPolicy, encapsulation_by, inner_hop, inner_lowered_bytes, outer_by, pushed_by, encapsulated_by, TooBig}

@@ -1,7 +1,7 @@
 -- The packet that is encapsulated, in bytes.
 use Rattle.std.specs.Prelude.{◌≡◌, ℕ, ◌+◌, List, length}
-use Rattle.srv6_rules.specs.declared.sid.Family.{Family}
-use Rattle.srv6_rules.specs.declared.sid.Family.TheVariants.{V6, V4}
+use Rattle.srv6_rules.specs.declared.family.Family.{Family}
+use Rattle.srv6_rules.specs.declared.family.Family.TheVariants.{V6, V4}
 use Rattle.srv6_rules.specs.Packet.{header_len, stated_len}
 use Rattle.srv6_rules.specs.Packet4.{total_len}
 use Rattle.ip6_headers.specs.Reading.{HoldsPacket}

@@ -3,7 +3,7 @@
 ghost use Rattle.std.specs.Prelude.{◌≡◌, ◌-◌, ◌<◌, ◌≤◌, ℕ, List, nat_lt, length, IfErr, OnErr, OnOk};
 ghost use Rattle.srv6_rules.specs.Encapsulation.{header_bytes};
 ghost use Rattle.srv6_rules.specs.Policies.{IsPolicy, most_payload, outer_by, pushed_by, encapsulated_by};
-ghost use Rattle.srv6_rules.specs.declared.sid.Family.{Family as FamilyValue};
+ghost use Rattle.srv6_rules.specs.declared.family.Family.{Family as FamilyValue};
 ghost use Rattle.policy_encap.specs.Answers.{IsPushed, IsEncapsulated, IsFaultOf, judged_by};
 ghost use Rattle.policy_encap.specs.Inner.{HoldsInner};
 ghost use Rattle.policy_encap.specs.declared.faults.PushFault.TheVariants as pushing;

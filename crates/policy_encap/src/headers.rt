@@ -5,7 +5,7 @@ ghost use Rattle.srv6_rules.specs.Packet.{spelling};
 ghost use Rattle.srv6_rules.specs.Encapsulation.{header_bytes};
 ghost use Rattle.srv6_rules.specs.Policies.{IsPolicy, inner_kind, outer_by};
 ghost use Rattle.srv6_rules.specs.Srh.{srh_spelling};
-ghost use Rattle.srv6_rules.specs.declared.sid.Family.{Family as FamilyValue};
+ghost use Rattle.srv6_rules.specs.declared.family.Family.{Family as FamilyValue};
 ghost use Rattle.srh_codec.specs.Writing.{header_over, numbers_of};
 ghost use Rattle.policy_encap.specs.Headers.{FitsOuter, framed, listed, routing_bytes};
 

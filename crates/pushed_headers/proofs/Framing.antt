@@ -1,7 +1,7 @@
 -- Answers of bytes that are one fate, and how they are put together.
 use Rattle.std.proofs.Common.{◌≡◌, ℕ, Bool, true, false, if◌then◌else◌, List, Option, Some, None, refl, ◌∙◌}
-use Rattle.srv6_rules.specs.declared.sid.Family.TheVariants.{V6}
-use Rattle.srv6_rules.specs.declared.sid.Reason.{Reason}
+use Rattle.srv6_rules.specs.declared.family.Family.TheVariants.{V6}
+use Rattle.srv6_rules.specs.declared.reason.Reason.{Reason}
 use Rattle.srv6_rules.specs.Packet.{Packet}
 use Rattle.srv6_rules.specs.Srh.{Srh}
 use Rattle.srv6_rules.specs.Areas.{Fault}

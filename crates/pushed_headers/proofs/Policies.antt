@@ -1,7 +1,7 @@
 -- The header that a policy makes is one in front of an IPv6 packet.
 use Rattle.std.proofs.Common.{◌≡◌, ℕ, Bool, true, false, if◌then◌else◌, List, [], ◌++◌, Option, Some, None, refl, ap, ◌∙◌, arith}
 use Rattle.srv6_rules.specs.declared.policy.Policy.{Policy}
-use Rattle.srv6_rules.specs.declared.sid.Family.TheVariants.{V6}
+use Rattle.srv6_rules.specs.declared.family.Family.TheVariants.{V6}
 use Rattle.srv6_rules.specs.Packet.{Packet}
 use Rattle.srv6_rules.specs.Srh.{Srh, srh_spelling}
 use Rattle.srv6_rules.specs.Chain.{routing}

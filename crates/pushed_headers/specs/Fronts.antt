@@ -2,8 +2,8 @@
 -- section 3, RFC 8754 section 2, RFC 8986 section 4).
 use Rattle.std.specs.Prelude.{◌≡◌, ℕ, ◌*◌, Bool, if◌then◌else◌, List, ◌++◌, length, Option, Some, None}
 use Rattle.srv6_rules.specs.declared.policy.Policy.{Policy}
-use Rattle.srv6_rules.specs.declared.sid.Family.TheVariants.{V6}
-use Rattle.srv6_rules.specs.declared.sid.Reason.{Reason}
+use Rattle.srv6_rules.specs.declared.family.Family.TheVariants.{V6}
+use Rattle.srv6_rules.specs.declared.reason.Reason.{Reason}
 use Rattle.srv6_rules.specs.Packet.{Packet}
 use Rattle.srv6_rules.specs.Srh.{Srh, srh_spelling}
 use Rattle.srv6_rules.specs.Chain.{routing}

@@ -6,7 +6,7 @@ ghost use Rattle.srv6_rules.specs.Packet.{Packet};
 ghost use Rattle.srv6_rules.specs.Policies.{outer_by};
 ghost use Rattle.srv6_rules.specs.Srh.{Srh};
 ghost use Rattle.srv6_rules.specs.declared.policy.Policy.{Policy};
-ghost use Rattle.srv6_rules.specs.declared.sid.Family.TheVariants.{V6};
+ghost use Rattle.srv6_rules.specs.declared.family.Family.TheVariants.{V6};
 ghost use Rattle.srv6_rules.specs.declared.sid.SidEntry.{SidEntry};
 ghost use Rattle.pushed_headers.specs.Fronts.{AreFront, Fate, IsFate, endpoint_of, filled, front_by};
 

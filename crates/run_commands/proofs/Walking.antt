@@ -2,7 +2,7 @@
 use Rattle.std.proofs.Common.{◌≡◌, ℕ, suc, ◌+◌, Bool, true, false, is_some, List, [], ◌∷◌, ◌++◌, Option, Some, None, refl, sym, ap, ◌∙◌, append_assoc, append-nil, subst}
 use Rattle.pcap_io.specs.Capture.{written_frame_bytes}
 use Rattle.srx_edge.specs.Steps.{Ending, Whole, Memory}
-use Rattle.srv6_rules.specs.declared.sid.Reason.{Reason}
+use Rattle.srv6_rules.specs.declared.reason.Reason.{Reason}
 use Rattle.srv6_rules.specs.Packet.{Packet, Content}
 use Rattle.icmp6_errors.specs.Answer.{error_bytes}
 use Rattle.net_model.specs.Network.{Network}

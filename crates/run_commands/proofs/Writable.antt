@@ -4,12 +4,12 @@ use Rattle.std.specs.Prelude.{Result, Ok, Err, IfOk}
 use Rattle.std.proofs.lemmas.List.{take_min, take-take}
 use Rattle.std.proofs.lemmas.List.Elements.{All-drop}
 use Rattle.srv6_rules.specs.declared.sid.Behaviour.{Behaviour}
-use Rattle.srv6_rules.specs.declared.sid.Reason.{Reason}
-use Rattle.srv6_rules.specs.declared.sid.Reason.TheVariants as reasons
+use Rattle.srv6_rules.specs.declared.reason.Reason.{Reason}
+use Rattle.srv6_rules.specs.declared.reason.Reason.TheVariants as reasons
 use Rattle.srv6_rules.specs.declared.sid.SidEntry.{SidEntry}
 use Rattle.srv6_rules.specs.Behaviours.{behaviour_policy, behaviour_reduces}
-use Rattle.srv6_rules.specs.declared.sid.Family.{Family}
-use Rattle.srv6_rules.specs.declared.sid.Family.TheVariants as families
+use Rattle.srv6_rules.specs.declared.family.Family.{Family}
+use Rattle.srv6_rules.specs.declared.family.Family.TheVariants as families
 use Rattle.srv6_rules.specs.Policies.{Encapsulating, Outer, TooBig, InnerHop, pushed_by}
 use Rattle.srv6_rules.specs.Packet.{Packet, Content, V6, V4, Unreadable, IsContent, bytes_of, entered, most_len, read_as, spelling}
 use Rattle.srv6_rules.specs.Packet as packets

@@ -6,7 +6,7 @@ use Rattle.std.specs.Fmt.{decimal}
 use Rattle.pcap_io.specs.declared.frame.Body.{Body}
 use Rattle.pcap_io.specs.declared.frame.Body.TheVariants as bodies
 use Rattle.pcap_io.specs.declared.frame.Frame.{Frame}
-use Rattle.srv6_rules.specs.declared.sid.Family.TheVariants.{V6, V4}
+use Rattle.srv6_rules.specs.declared.family.Family.TheVariants.{V6, V4}
 use Rattle.srv6_rules.specs.Packet.{read_as}
 use Rattle.header_lines.specs.Lines.{packet_lines}
 use Rattle.command_inputs.specs.declared.packets.Packets.{Packets}

@@ -4,7 +4,7 @@ use Rattle.std.proofs.Math.Bool.{or-true}
 use Rattle.std.proofs.lemmas.Bool.{cases_Bool, or_from, lt-ltb, ltb-true, le-ltb, le-leb, lt-leb}
 use Rattle.std.proofs.lemmas.List.{append-nil, drop_all, drop_at, take_at, get_or-drop, get_or-reverse, length-reverse}
 use Rattle.std.proofs.lemmas.List.Elements.{All-drop}
-use Rattle.srv6_rules.specs.declared.sid.Reason.TheVariants as reasons
+use Rattle.srv6_rules.specs.declared.reason.Reason.TheVariants as reasons
 use Rattle.srv6_rules.specs.Behaviours.{ipv6_inside}
 use Rattle.srv6_rules.specs.declared.numbers.TheConstants.{NEXT_HEADER_AT}
 use Rattle.std.specs.Prelude.{None}

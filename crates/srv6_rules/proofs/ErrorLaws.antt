@@ -7,8 +7,8 @@ use Rattle.std.specs.List.{list_any}
 use Rattle.v6_addr.specs.Kinds.{is_unspecified, is_multicast}
 use Rattle.srv6_rules.specs.declared.icmp.IcmpKind.{IcmpKind}
 use Rattle.srv6_rules.specs.declared.icmp.IcmpKind.TheVariants.{Unreachable, PacketTooBig, TimeExceeded, Parameter}
-use Rattle.srv6_rules.specs.declared.sid.Reason.{Reason}
-use Rattle.srv6_rules.specs.declared.sid.Reason.TheVariants as reasons
+use Rattle.srv6_rules.specs.declared.reason.Reason.{Reason}
+use Rattle.srv6_rules.specs.declared.reason.Reason.TheVariants as reasons
 use Rattle.srv6_rules.specs.Packet.{Packet, IsSpellable, spelling, header_len, address_bytes, two_bytes, four_bytes}
 use Rattle.srv6_rules.specs.Chain.{ChainPlace, Header, Upper, Cut, Chain, is_extension, is_whole, header_in, behind_in, behind, start_of, from_place, chain_from, chain_at}
 use Rattle.srv6_rules.specs.Checksum.{all_ones, word_sum, carried, pseudo_header, upper_layer_sum, checksum_of, Verifies}

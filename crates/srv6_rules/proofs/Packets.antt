@@ -3,8 +3,8 @@ use Rattle.std.proofs.Common.{◌/◌, ◌%◌, ◌≡◌, ℕ, ◌+◌, ◌-◌
 use Rattle.std.proofs.lemmas.Bool.{eqb-true, ltb-false, eq-eqb, ne_eqb, le-ltb}
 use Rattle.std.proofs.lemmas.List.{append_assoc, append-nil, drop-drop, drop_all, take_at, length-take-le, take-append-drop, drop_more, get_or-append-add}
 use Rattle.std.proofs.lemmas.List.Elements.{All-append, All-cons, All-take, All-drop}
-use Rattle.srv6_rules.specs.declared.sid.Reason.{Reason}
-use Rattle.srv6_rules.specs.declared.sid.Reason.TheVariants.{Truncated, BadVersion}
+use Rattle.srv6_rules.specs.declared.reason.Reason.{Reason}
+use Rattle.srv6_rules.specs.declared.reason.Reason.TheVariants.{Truncated, BadVersion}
 use Rattle.srv6_rules.specs.Packet.{Packet, V6, Unreadable, IsSpellable, Spells, spelling, header_spelling, first_word, two_bytes, four_bytes, address_bytes, two_number, four_number, address_number, stated_len, packet_at, content_of}
 use Rattle.srv6_rules.proofs.Bytes.{length-two_bytes, length-four_bytes, length-address_bytes, all-two_bytes, all-four_bytes, all-address_bytes, two_number-below, address_number-below, two_number-bytes, four_number-bytes, address_number-bytes, two_bytes-number, four_bytes-number, address_bytes-number, byte_below}
 use Rattle.srv6_rules.proofs.PacketWords.{laid, drop4-laid, drop8-laid, drop24-laid, drop40-laid, six-laid, seven-laid, length-laid, agree-laid, first_word-below, first_word-class, first_word-label, first_word-parts, first_word-version, four_number-version}

@@ -6,8 +6,8 @@ use Rattle.std.proofs.lemmas.List.Elements.{All-take, All-drop}
 use Rattle.std.proofs.Math.Seq.{take-add}
 use Rattle.std.specs.Prelude.{Result, Ok, Err}
 use Rattle.byteorder.specs.Endian.{big_number}
-use Rattle.srv6_rules.specs.declared.sid.Reason.{Reason}
-use Rattle.srv6_rules.specs.declared.sid.Reason.TheVariants.{Truncated, BadVersion}
+use Rattle.srv6_rules.specs.declared.reason.Reason.{Reason}
+use Rattle.srv6_rules.specs.declared.reason.Reason.TheVariants.{Truncated, BadVersion}
 use Rattle.srv6_rules.specs.Packet.{two_number}
 use Rattle.srv6_rules.specs.Packet4.{Packet4, IsSpellable4, Spells4, spelling4, read4, is_cut4, packet4_at, stated_header_len, total_len, header_checksum}
 use Rattle.srv6_rules.proofs.Bytes.{two_number-append}

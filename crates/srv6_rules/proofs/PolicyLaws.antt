@@ -5,8 +5,8 @@ use Rattle.std.proofs.lemmas.List.{length-map, drop_at, append_assoc}
 use Rattle.std.proofs.lemmas.List.Elements.{All-cons, All-tail}
 use Rattle.v6_addr.specs.declared.address.Addr.{Addr}
 use Rattle.srv6_rules.specs.declared.policy.Policy.{Policy}
-use Rattle.srv6_rules.specs.declared.sid.Family.{Family}
-use Rattle.srv6_rules.specs.declared.sid.Family.TheVariants.{V6, V4}
+use Rattle.srv6_rules.specs.declared.family.Family.{Family}
+use Rattle.srv6_rules.specs.declared.family.Family.TheVariants.{V6, V4}
 use Rattle.srv6_rules.specs.Packet.{Packet, IsSpellable, most_len, header_spelling, spelling, two_bytes, address_bytes}
 use Rattle.srv6_rules.specs.Srh.{Srh, srh_spelling, segment_routing}
 use Rattle.srv6_rules.specs.Chain.{routing}

@@ -8,7 +8,7 @@ use Rattle.v6_addr.specs.Address.{field_of, with_field_of}
 use Rattle.v6_addr.proofs.PublicLaws.{with_field_of_bound}
 use Rattle.srv6_rules.specs.declared.compression.Compression.{Compression}
 use Rattle.srv6_rules.specs.Packet.{Packet, IsSpellable, header_len}
-use Rattle.srv6_rules.specs.declared.sid.Reason.TheVariants.{HopLimit}
+use Rattle.srv6_rules.specs.declared.reason.Reason.TheVariants.{HopLimit}
 use Rattle.srv6_rules.specs.Srh.{Srh, srh_of, entry_of, segments_left_at}
 use Rattle.srv6_rules.specs.Chain.{Header, LiesIn}
 use Rattle.srv6_rules.specs.Areas.{Fault, tlvs_fault}

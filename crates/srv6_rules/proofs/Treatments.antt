@@ -2,8 +2,8 @@
 use Rattle.std.proofs.Common.{◌≡◌, ℕ, ◌+◌, ◌<◌, ◌≤◌, Bool, true, false, ◌==◌, ◌&&◌, if◌then◌else◌, length, refl, sym, ap, subst, ◌∙◌, ◌⊎◌, arith, inl, inr}
 use Rattle.std.specs.Prelude.{Option, Some, None}
 use Rattle.std.proofs.lemmas.Bool.{cases_Bool, eq-eqb, ne_eqb, eqb-true}
-use Rattle.srv6_rules.specs.declared.sid.Reason.{Reason}
-use Rattle.srv6_rules.specs.declared.sid.Reason.TheVariants as reasons
+use Rattle.srv6_rules.specs.declared.reason.Reason.{Reason}
+use Rattle.srv6_rules.specs.declared.reason.Reason.TheVariants as reasons
 use Rattle.srv6_rules.specs.declared.sid.SidEntry.{SidEntry}
 use Rattle.srv6_rules.specs.Behaviours.{goes_on}
 use Rattle.srv6_rules.specs.Packet.{Packet}

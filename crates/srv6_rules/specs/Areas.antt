@@ -1,8 +1,8 @@
 -- Areas of items that each begin with a type: the options of a header (RFC 8200 section 4.2) and the type-length-value
 -- area of a segment routing header (RFC 8754 section 2.1). Places count from the packet's first byte.
 use Rattle.std.specs.Prelude.{ℕ, zero, suc, ◌+◌, ◌-◌, ◌*◌, ◌/◌, Bool, ◌==◌, ◌||◌, nat_lt, if◌then◌else◌, List, [], ◌∷◌, length, drop, slice_index, Option, Some, None}
-use Rattle.srv6_rules.specs.declared.sid.Reason.{Reason}
-use Rattle.srv6_rules.specs.declared.sid.Reason.TheVariants as reasons
+use Rattle.srv6_rules.specs.declared.reason.Reason.{Reason}
+use Rattle.srv6_rules.specs.declared.reason.Reason.TheVariants as reasons
 use Rattle.srv6_rules.specs.declared.numbers.TheConstants.{PAD1, PADN, HMAC, OPTIONS_AT, SEGMENT_LIST_AT, SEGMENT_LEN}
 use Rattle.srv6_rules.specs.Chain.{Header}
 use Rattle.srv6_rules.specs.Srh.{Srh, tlv_bytes}

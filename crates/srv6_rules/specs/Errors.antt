@@ -5,8 +5,8 @@ use Rattle.v6_addr.specs.Kinds.{is_unspecified, is_multicast}
 use Rattle.srv6_rules.specs.declared.numbers.TheConstants.{ICMPV6, ICMPV6_HOP_LIMIT, MAX_QUOTE_LEN, DESTINATION_UNREACHABLE, PACKET_TOO_BIG, TIME_EXCEEDED, PARAMETER_PROBLEM, FIRST_INFORMATIONAL, REDIRECT, WRONG_FIELD, WRONG_NEXT_HEADER, UNKNOWN_OPTION, WRONG_UPPER_LAYER, FRAGMENT_OFFSET_AT, FRAGMENT_OFFSET_UNIT}
 use Rattle.srv6_rules.specs.declared.icmp.IcmpKind.{IcmpKind}
 use Rattle.srv6_rules.specs.declared.icmp.IcmpKind.TheVariants.{Unreachable, PacketTooBig, TimeExceeded, Parameter}
-use Rattle.srv6_rules.specs.declared.sid.Reason.{Reason}
-use Rattle.srv6_rules.specs.declared.sid.Reason.TheVariants as reasons
+use Rattle.srv6_rules.specs.declared.reason.Reason.{Reason}
+use Rattle.srv6_rules.specs.declared.reason.Reason.TheVariants as reasons
 use Rattle.srv6_rules.specs.Packet.{Packet, spelling, two_bytes, four_bytes, two_number}
 use Rattle.srv6_rules.specs.Chain.{Header, ChainEnd, Upper, Cut, Chain, fragment, from_place, chain_of}
 use Rattle.srv6_rules.specs.Checksum.{checksum_of}

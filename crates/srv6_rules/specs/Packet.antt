@@ -2,10 +2,10 @@
 use Rattle.std.specs.Prelude.{◌≡◌, ℕ, ◌+◌, ◌*◌, ◌/◌, ◌%◌, ◌^◌, ◌<◌, ◌==◌, nat_lt, if◌then◌else◌, List, ◌∷◌, ◌++◌, length, take, drop, slice_index, All, Result, Ok, Err}
 use Rattle.byteorder.specs.Endian.{big_number, big_bytes}
 use Rattle.srv6_rules.specs.declared.numbers.TheConstants.{IPV6_HEADER_LEN, MAX_PACKET_LEN, IPV6_VERSION, PAYLOAD_LEN_AT, NEXT_HEADER_AT, HOP_LIMIT_AT, SOURCE_AT, DESTINATION_AT}
-use Rattle.srv6_rules.specs.declared.sid.Family.{Family}
-use Rattle.srv6_rules.specs.declared.sid.Family.TheVariants as families
-use Rattle.srv6_rules.specs.declared.sid.Reason.{Reason}
-use Rattle.srv6_rules.specs.declared.sid.Reason.TheVariants.{Truncated, BadVersion}
+use Rattle.srv6_rules.specs.declared.family.Family.{Family}
+use Rattle.srv6_rules.specs.declared.family.Family.TheVariants as families
+use Rattle.srv6_rules.specs.declared.reason.Reason.{Reason}
+use Rattle.srv6_rules.specs.declared.reason.Reason.TheVariants.{Truncated, BadVersion}
 use Rattle.srv6_rules.specs.Packet4.{Packet4, IsSpellable4, spelling4, read4}
 
 -- a packet: the fields of its IPv6 header but for the version and the payload length, and the bytes after that header

@@ -2,8 +2,8 @@
 use Rattle.std.specs.Prelude.{◌≡◌, ℕ, ◌+◌, ◌-◌, ◌*◌, ◌/◌, ◌%◌, ◌^◌, ◌<◌, ◌≤◌, Bool, ◌==◌, ◌||◌, nat_lt, if◌then◌else◌, List, ◌++◌, length, take, drop, slice_index, slice_set, All, Result, Ok, Err}
 use Rattle.byteorder.specs.Endian.{big_number, big_bytes}
 use Rattle.srv6_rules.specs.declared.numbers.TheConstants.{IPV4_VERSION, IPV4_HEADER_LEN, IPV4_LEN_UNIT, TOTAL_LEN_AT, TTL_AT, PROTOCOL_AT, CHECKSUM_AT, IPV4_SOURCE_AT, IPV4_DESTINATION_AT, TTL_WEIGHT, CHECKSUM_WRAP}
-use Rattle.srv6_rules.specs.declared.sid.Reason.{Reason}
-use Rattle.srv6_rules.specs.declared.sid.Reason.TheVariants.{Truncated, BadVersion}
+use Rattle.srv6_rules.specs.declared.reason.Reason.{Reason}
+use Rattle.srv6_rules.specs.declared.reason.Reason.TheVariants.{Truncated, BadVersion}
 
 -- a packet: the bytes of its header, options among them, and the bytes after it
 pub record Packet4 : Type 0 where

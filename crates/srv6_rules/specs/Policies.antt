@@ -4,8 +4,8 @@ use Rattle.std.specs.Prelude.{ℕ, ◌-◌, ◌^◌, ◌<◌, ◌≤◌, Bool, n
 use Rattle.v6_addr.specs.declared.address.Addr.{Addr}
 use Rattle.srv6_rules.specs.declared.numbers.TheConstants.{MAX_SEGMENTS}
 use Rattle.srv6_rules.specs.declared.policy.Policy.{Policy}
-use Rattle.srv6_rules.specs.declared.sid.Family.{Family}
-use Rattle.srv6_rules.specs.declared.sid.Family.TheVariants.{V6, V4}
+use Rattle.srv6_rules.specs.declared.family.Family.{Family}
+use Rattle.srv6_rules.specs.declared.family.Family.TheVariants.{V6, V4}
 use Rattle.srv6_rules.specs.Packet.{Packet, header_len, most_len, packet_at, spelling}
 use Rattle.srv6_rules.specs.Packet4.{packet4_at, spelling4, ttl, lowered4}
 use Rattle.srv6_rules.specs.Srh.{Srh, srh_spelling}

@@ -1,7 +1,7 @@
 -- The names of the reasons for which a node drops a packet.
 use Rattle.std.specs.Prelude.{ℕ, List, codes}
-use Rattle.srv6_rules.specs.declared.sid.Reason.{Reason}
-use Rattle.srv6_rules.specs.declared.sid.Reason.TheVariants as reasons
+use Rattle.srv6_rules.specs.declared.reason.Reason.{Reason}
+use Rattle.srv6_rules.specs.declared.reason.Reason.TheVariants as reasons
 
 -- a reason's name, as it is shown (own rule)
 unfoldable pub reason_name : Reason → List ℕ

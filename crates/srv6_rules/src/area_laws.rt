@@ -6,7 +6,7 @@ ghost use Rattle.srv6_rules.specs.Areas.{Fault, item_bytes, first_of, area_fault
 ghost use Rattle.srv6_rules.specs.Chain.{Header, LiesIn};
 ghost use Rattle.srv6_rules.specs.Packet.{Packet};
 ghost use Rattle.srv6_rules.specs.Srh.{srh_of, segment_routing};
-ghost use Rattle.srv6_rules.specs.declared.sid.Reason.TheVariants.{BadChain, OptionDiscard, OptionUnknown, HmacTlv, BadTlv};
+ghost use Rattle.srv6_rules.specs.declared.reason.Reason.TheVariants.{BadChain, OptionDiscard, OptionUnknown, HmacTlv, BadTlv};
 
 /// An area of items has the first fault of its items: that of its first item, or else that of the
 /// area after that item, whose length is its own; an area of no bytes has none (RFC 8200 section

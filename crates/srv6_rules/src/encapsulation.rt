@@ -8,8 +8,8 @@ ghost use Rattle.srv6_rules.specs.Endpoint.{Onward, Exposed, Delivered, Refused,
 ghost use Rattle.srv6_rules.specs.Packet.{Packet, V6 as V6Content, IsSpellable, most_len, header_len, spelling, read_as, address_bytes};
 ghost use Rattle.srv6_rules.specs.Srh.{srh_spelling, segments_left_at};
 ghost use Rattle.srv6_rules.specs.declared.sid.Csid.TheVariants.{Plain};
-ghost use Rattle.srv6_rules.specs.declared.sid.Family.TheVariants.{V6};
-ghost use Rattle.srv6_rules.specs.declared.sid.Reason.TheVariants.{HopLimit, BadSegments, UpperLayer};
+ghost use Rattle.srv6_rules.specs.declared.family.Family.TheVariants.{V6};
+ghost use Rattle.srv6_rules.specs.declared.reason.Reason.TheVariants.{HopLimit, BadSegments, UpperLayer};
 ghost use Rattle.srv6_rules.specs.declared.sid.SidEntry.{SidEntry};
 
 /// A packet as it is made has its first segment active, which is its destination, and as many

@@ -9,7 +9,7 @@ ghost use Rattle.srv6_rules.specs.Endpoint.{Endpoint, Onward, Refused, MovesWith
 ghost use Rattle.srv6_rules.specs.Packet.{Packet, header_len};
 ghost use Rattle.srv6_rules.specs.Srh.{srh_of, segments_left_at, routing_type_at};
 ghost use Rattle.srv6_rules.specs.declared.sid.Csid.TheVariants.{Plain};
-ghost use Rattle.srv6_rules.specs.declared.sid.Reason.TheVariants.{LateHopByHop, Fragment, BadSegments, UnknownRouting};
+ghost use Rattle.srv6_rules.specs.declared.reason.Reason.TheVariants.{LateHopByHop, Fragment, BadSegments, UnknownRouting};
 ghost use Rattle.srv6_rules.specs.declared.sid.SidEntry.{SidEntry};
 
 /// Headers that are passed over change nothing: after them the outcome is that of the headers

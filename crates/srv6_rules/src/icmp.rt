@@ -9,10 +9,10 @@ ghost use Rattle.srv6_rules.specs.Packet.{Packet, IsSpellable, spelling, header_
 ghost use Rattle.srv6_rules.specs.declared.numbers.TheConstants.{ICMPV6, MIN_MTU};
 ghost use Rattle.srv6_rules.specs.declared.icmp.IcmpKind.{IcmpKind as IcmpKindValue};
 ghost use Rattle.srv6_rules.specs.declared.icmp.IcmpKind.TheVariants.{Unreachable, PacketTooBig, TimeExceeded, Parameter};
-ghost use Rattle.srv6_rules.specs.declared.sid.Reason.{Reason as ReasonValue};
+ghost use Rattle.srv6_rules.specs.declared.reason.Reason.{Reason as ReasonValue};
 
 use crate::numbers::{UNKNOWN_OPTION, WRONG_FIELD, WRONG_NEXT_HEADER, WRONG_UPPER_LAYER};
-use crate::sid::Reason;
+use crate::reason::Reason;
 
 /// An ICMPv6 error (RFC 4443 section 3).
 #[derive(Clone, Copy, Debug, PartialEq, Eq)]

@@ -4,7 +4,7 @@ ghost use Rattle.std.specs.Prelude.{◌≡◌, ◌≢◌, ◌<◌, ◌≤◌, �
 ghost use Rattle.srv6_rules.specs.Checksum.{all_ones, ones_sum};
 ghost use Rattle.srv6_rules.specs.Packet4.{Packet4, IsSpellable4, Spells4, spelling4, read4, packet4_at, stated_header_len, total_len, ttl, header_checksum, checksum_lowered, ttl_lowered, lowered4};
 ghost use Rattle.srv6_rules.specs.declared.numbers.TheConstants.{IPV4_VERSION, IPV4_HEADER_LEN};
-ghost use Rattle.srv6_rules.specs.declared.sid.Reason.TheVariants.{Truncated, BadVersion};
+ghost use Rattle.srv6_rules.specs.declared.reason.Reason.TheVariants.{Truncated, BadVersion};
 
 /// Reading a packet's spelling gives the packet back, whatever stands after it (RFC 791 section
 /// 3.1).

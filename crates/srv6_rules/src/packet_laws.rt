@@ -4,7 +4,7 @@ ghost use Rattle.std.specs.Prelude.{◌≡◌, ◌<◌, ◌≤◌, ◌+◌, ◌*
 ghost use Rattle.srv6_rules.specs.Chain.{segments_left};
 ghost use Rattle.srv6_rules.specs.Packet.{Packet, V6, IsSpellable, IsContent, Spells, spelling, content_of, read_as, entered, bytes_of, header_len, stated_len, packet_at, two_bytes, four_bytes, first_word, address_bytes, two_number, four_number, address_number};
 ghost use Rattle.srv6_rules.specs.Srh.{Srh, IsSrhSpellable, srh_of, srh_spelling, segment_routing};
-ghost use Rattle.srv6_rules.specs.declared.sid.Family.{Family};
+ghost use Rattle.srv6_rules.specs.declared.family.Family.{Family};
 
 /// A number has 2, 4 or 16 bytes, each below 256 (RFC 791 appendix B).
 pub fn numbers_have_bytes()

@@ -8,8 +8,8 @@ ghost use Rattle.srv6_rules.specs.Packet.{IsSpellable, most_len, spelling, addre
 ghost use Rattle.srv6_rules.specs.Policies.{Outer, TooBig, InnerHop, inner_kind, routing_header, pushed_round, outer_by, pushed_by, headend_by};
 ghost use Rattle.srv6_rules.specs.Srh.{srh_spelling};
 ghost use Rattle.srv6_rules.specs.declared.policy.Policy.{Policy};
-ghost use Rattle.srv6_rules.specs.declared.sid.Family.{Family};
-ghost use Rattle.srv6_rules.specs.declared.sid.Family.TheVariants.{V6, V4};
+ghost use Rattle.srv6_rules.specs.declared.family.Family.{Family};
+ghost use Rattle.srv6_rules.specs.declared.family.Family.TheVariants.{V6, V4};
 
 /// The last header in front of the inner packet names its family: the segment routing header, or
 /// the IPv6 header where the form has none. But for that an outer packet is the same round packets

@@ -1,7 +1,6 @@
-//! SIDs and their behaviours, sets of links, and the reasons for which a node drops a packet.
+//! SIDs and their behaviours, and sets of links.
 
-ghost use Rattle.std.specs.Prelude.{◌≡◌, Some};
-ghost use Rattle.srv6_rules.specs.Reasons.{reason_name};
+ghost use Rattle.std.specs.Prelude.{◌≡◌};
 ghost use Rattle.srv6_rules.specs.Behaviours.{behaviour_goes_on, behaviour_exposes, behaviour_takes_links, behaviour_table, behaviour_policy, behaviour_reduces, behaviour_takes_flavours};
 ghost use Rattle.srv6_rules.specs.Behaviours.{goes_on, exposes};
 ghost use Rattle.srv6_rules.specs.CompressedSteps.{compression_of};
@@ -9,18 +8,7 @@ ghost use Rattle.srv6_rules.specs.CompressedSteps.{compression_of};
 use crate::compression::Compression;
 use crate::numbers::{IPV4_INSIDE, IPV6_INSIDE};
 use base::Seq;
-use std::fmt;
-use std::fmt::{Display, Formatter};
 use v6_addr::Prefix;
-
-/// The family of a packet (RFC 8200, RFC 791).
-#[derive(Clone, Copy, Debug, PartialEq, Eq)]
-pub enum Family {
-    /// IPv6 (RFC 8200).
-    V6,
-    /// IPv4 (RFC 791).
-    V4,
-}
 
 /// How a SID's part of a segment list is compressed (RFC 9800 sections 4.1 and 4.2).
 #[derive(Clone, Copy, Debug, PartialEq, Eq)]
@@ -77,81 +65,6 @@ pub enum Behaviour {
         /// The policy's number.
         policy: u32,
     },
-}
-
-/// Why a node dropped a packet (own rule).
-#[derive(Clone, Copy, Debug, PartialEq, Eq)]
-pub enum Reason {
-    /// Fewer bytes than the header and the lengths in it say, or IPv4 lengths that do not fit one
-    /// another.
-    Truncated,
-    /// The first half byte is not the family's version.
-    BadVersion,
-    /// The destination is multicast.
-    Multicast,
-    /// Nothing in the table holds the destination.
-    NoRoute,
-    /// The hop limit is at most 1 and would have to be lowered.
-    HopLimit,
-    /// An extension header is cut, or an option passes its header's end.
-    BadChain,
-    /// A Hop-by-Hop Options header that the IPv6 header does not name.
-    LateHopByHop,
-    /// An option of an unknown type whose two highest bits are 01.
-    OptionDiscard,
-    /// An option of an unknown type whose highest bit is 1.
-    OptionUnknown,
-    /// A Fragment header that would have to be processed.
-    Fragment,
-    /// Segments Left or Last Entry is out of range, or a segment is left at a SID that
-    /// decapsulates.
-    BadSegments,
-    /// An HMAC in a segment routing header.
-    HmacTlv,
-    /// An item of a segment routing header's type-length-value area passes the area's end.
-    BadTlv,
-    /// A routing header with segments left that the node does not know; at its own address it knows
-    /// none.
-    UnknownRouting,
-    /// An upper layer that the node does not allow at a SID.
-    UpperLayer,
-    /// The TTL of an IPv4 packet is at most 1 and would have to be lowered.
-    Ttl,
-    /// With another header in front the packet would be longer than its payload length can state.
-    TooBig,
-    /// The hop limit or TTL of a packet that is to be encapsulated is at most 1.
-    InnerHop,
-    /// The packet is longer than the MTU of the link that was taken.
-    MtuExceeded,
-}
-
-impl Display for Reason {
-    ghost output = { λ reason. Some (reason_name reason) };
-
-    #[tactic(auto, unfolding(crate::specs::Reasons::reason_name))]
-    fn fmt<W: fmt::Write>(&self, f: &mut Formatter<W>) -> fmt::Result {
-        f.write_str(match self {
-            Reason::Truncated => "Truncated",
-            Reason::BadVersion => "BadVersion",
-            Reason::Multicast => "Multicast",
-            Reason::NoRoute => "NoRoute",
-            Reason::HopLimit => "HopLimit",
-            Reason::BadChain => "BadChain",
-            Reason::LateHopByHop => "LateHopByHop",
-            Reason::OptionDiscard => "OptionDiscard",
-            Reason::OptionUnknown => "OptionUnknown",
-            Reason::Fragment => "Fragment",
-            Reason::BadSegments => "BadSegments",
-            Reason::HmacTlv => "HmacTlv",
-            Reason::BadTlv => "BadTlv",
-            Reason::UnknownRouting => "UnknownRouting",
-            Reason::UpperLayer => "UpperLayer",
-            Reason::Ttl => "Ttl",
-            Reason::TooBig => "TooBig",
-            Reason::InnerHop => "InnerHop",
-            Reason::MtuExceeded => "MtuExceeded",
-        })
-    }
 }
 
 /// A set of equal next hops, as numbers of links in the order of the description (own rule).

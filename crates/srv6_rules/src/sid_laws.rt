@@ -7,8 +7,8 @@ ghost use Rattle.srv6_rules.specs.Packet4.{Packet4, spelling4};
 ghost use Rattle.srv6_rules.specs.Endpoint.{Onward, Exposed, Delivered, Refused, StepsTo, StepsWithPsp, TakesWhole, ChangesFewBytes, ExposesFrom, at_sid, at_address};
 ghost use Rattle.srv6_rules.specs.Packet.{Packet, V6, V4, Unreadable, IsSpellable, IsContent, spelling, read_as, bytes_of, header_len};
 ghost use Rattle.srv6_rules.specs.declared.sid.Behaviour.TheVariants.{End, EndX, EndT, Dx6, Dx4, Dt6, Dt4, Dt46, B6, B6Red};
-ghost use Rattle.srv6_rules.specs.declared.sid.Family.{Family};
-ghost use Rattle.srv6_rules.specs.declared.sid.Reason.{Reason};
+ghost use Rattle.srv6_rules.specs.declared.family.Family.{Family};
+ghost use Rattle.srv6_rules.specs.declared.reason.Reason.{Reason};
 ghost use Rattle.srv6_rules.specs.declared.sid.SidEntry.{SidEntry};
 
 /// Which SIDs go on to the next segment, and which expose the packet inside: End, End.X, End.T,

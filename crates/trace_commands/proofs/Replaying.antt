@@ -6,8 +6,8 @@ use Rattle.std.proofs.lemmas.Option.{slice_get_within}
 use Rattle.pcap_io.specs.declared.frame.Body.{Body}
 use Rattle.pcap_io.specs.declared.frame.Body.TheVariants as bodies
 use Rattle.pcap_io.specs.declared.frame.Frame.{Frame}
-use Rattle.srv6_rules.specs.declared.sid.Family.{Family}
-use Rattle.srv6_rules.specs.declared.sid.Family.TheVariants as families
+use Rattle.srv6_rules.specs.declared.family.Family.{Family}
+use Rattle.srv6_rules.specs.declared.family.Family.TheVariants as families
 use Rattle.srv6_rules.specs.Packet.{entered}
 use Rattle.net_model.specs.Keeps.{Keeps}
 use Rattle.net_model.specs.Named.{node_numbered}

@@ -4,8 +4,8 @@ use Rattle.std.specs.List.{flat_map}
 use Rattle.pcap_io.specs.declared.frame.Body.{Body}
 use Rattle.pcap_io.specs.declared.frame.Body.TheVariants as bodies
 use Rattle.pcap_io.specs.declared.frame.Frame.{Frame}
-use Rattle.srv6_rules.specs.declared.sid.Family.{Family}
-use Rattle.srv6_rules.specs.declared.sid.Family.TheVariants.{V6, V4}
+use Rattle.srv6_rules.specs.declared.family.Family.{Family}
+use Rattle.srv6_rules.specs.declared.family.Family.TheVariants.{V6, V4}
 use Rattle.srv6_rules.specs.Packet.{Content, entered}
 use Rattle.net_model.specs.Network.{Network}
 use Rattle.walk_rules.specs.Walk.{choice_at}

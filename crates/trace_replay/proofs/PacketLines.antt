@@ -6,7 +6,7 @@ use Rattle.std.proofs.lemmas.Bool.{both_ways}
 use Rattle.std.proofs.lemmas.List.{length-take, take_all}
 use Rattle.std.proofs.lemmas.List.Elements.{All-cons, All-nil, All-take}
 use Rattle.std.proofs.lemmas.Slice.Eq.{bytes_eq-Decides}
-use Rattle.srv6_rules.specs.declared.sid.Family.{Family}
+use Rattle.srv6_rules.specs.declared.family.Family.{Family}
 use Rattle.srv6_rules.specs.Packet.{Content, IsContent, Unreadable, V4, V6, bytes_of, entered, most_len, read_as, spelling}
 use Rattle.srv6_rules.specs.Packet4.{spelling4}
 use Rattle.srv6_rules.proofs.PublicLaws.{entered-back, entered-is_content, read_as-spelled, read_as-spelled4, read_as-unreadable}

@@ -6,8 +6,8 @@ use Rattle.srv6_rules.specs.declared.icmp.IcmpKind.{IcmpKind}
 use Rattle.srv6_rules.specs.declared.icmp.IcmpKind.TheVariants.{Unreachable, PacketTooBig, TimeExceeded, Parameter}
 use Rattle.srv6_rules.specs.declared.numbers.TheConstants.{MAX_QUOTE_LEN}
 use Rattle.srv6_rules.specs.declared.sid.Behaviour.{Behaviour}
-use Rattle.srv6_rules.specs.declared.sid.Reason.{Reason}
-use Rattle.srv6_rules.specs.declared.sid.Reason.TheVariants as reasons
+use Rattle.srv6_rules.specs.declared.reason.Reason.{Reason}
+use Rattle.srv6_rules.specs.declared.reason.Reason.TheVariants as reasons
 use Rattle.srv6_rules.specs.Behaviours.{behaviour_table, behaviour_takes_links}
 use Rattle.srv6_rules.specs.Endpoint.{Delivered, Endpoint, Exposed, Onward, Refused, at_address, at_sid}
 use Rattle.srv6_rules.specs.Errors.{code_of, error_about, error_checksum, error_packet, is_unanswered, kind_of, message_head, last_word_of, quote_of, type_of}

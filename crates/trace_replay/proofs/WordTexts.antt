@@ -18,8 +18,8 @@ use Rattle.v6_addr.specs.Grammar.{IsAddressText, IsGroupText, IsGroupsText}
 use Rattle.v6_addr.specs.Text.{length_text, prefix_text}
 use Rattle.v6_addr.proofs.PrefixGrammar.{length_text-1, length_text-2, length_text-3, prefix_text_is}
 use Rattle.v6_addr.proofs.RoundTrip.{prefix_read_back}
-use Rattle.srv6_rules.specs.declared.sid.Family.{Family}
-use Rattle.srv6_rules.specs.declared.sid.Family.TheVariants as families
+use Rattle.srv6_rules.specs.declared.family.Family.{Family}
+use Rattle.srv6_rules.specs.declared.family.Family.TheVariants as families
 use Rattle.net_model.specs.Rules.{is_name, is_name_byte}
 use Rattle.trace_replay.specs.Grammar.{bytes_decoded, family_read, hex_read, is_digits, is_hex, is_lower_digit, is_number, is_numeral, is_prefix}
 use Rattle.trace_replay.specs.Lines.{family_number, hex_text}

@@ -1,7 +1,7 @@
 -- A trace of packets as it is written (own rule): the text, and the lines that it has.
 use Rattle.std.specs.Prelude.{◌≡◌, ℕ, ◌^◌, ◌<◌, List, [], ◌∷◌, ◌++◌, length, slice_get, Option, Some, All}
 use Rattle.std.specs.List.{flat_map}
-use Rattle.srv6_rules.specs.declared.sid.Family.{Family}
+use Rattle.srv6_rules.specs.declared.family.Family.{Family}
 use Rattle.srv6_rules.specs.Packet.{Content, bytes_of, entered}
 use Rattle.net_model.specs.Network.{Network}
 use Rattle.walk_rules.specs.declared.place.How.TheVariants.{Arrived}

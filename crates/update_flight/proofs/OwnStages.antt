@@ -1,7 +1,7 @@
 -- A stage that has a route in a packet's own description is the same by tables that keep its matches.
 use Rattle.std.proofs.Common.{◌≡◌, ◌≢◌, ℕ, Bool, true, false, if◌then◌else◌, is_some, refl, sym, ap, ◌∙◌}
-use Rattle.srv6_rules.specs.declared.sid.Family.{Family}
-use Rattle.srv6_rules.specs.declared.sid.Reason.TheVariants as reasons
+use Rattle.srv6_rules.specs.declared.family.Family.{Family}
+use Rattle.srv6_rules.specs.declared.reason.Reason.TheVariants as reasons
 use Rattle.srv6_rules.specs.Packet.{Content, Packet, V6, V4, Unreadable}
 use Rattle.srv6_rules.specs.Packet4.{Packet4, destination4}
 use Rattle.net_model.specs.declared.net.Hit.{Hit}

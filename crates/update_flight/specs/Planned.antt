@@ -1,7 +1,7 @@
 -- The edits of an accepted plan, and tables that show what its edits leave (own rules).
 use Rattle.std.specs.Prelude.{◌≡◌, ℕ, suc, ◌-◌, Bool, false, ◌==◌, not, List, ◌++◌, length, take, drop}
 use Rattle.std.specs.List.{list_any}
-use Rattle.srv6_rules.specs.declared.sid.Family.{Family}
+use Rattle.srv6_rules.specs.declared.family.Family.{Family}
 use Rattle.net_model.specs.declared.net.Hit.{Hit}
 use Rattle.net_model.specs.declared.net.Hit.TheVariants as hits
 use Rattle.net_model.specs.Network.{Network}

@@ -5,7 +5,7 @@ ghost use Rattle.net_model.specs.Best.{lookup_of};
 ghost use Rattle.net_model.specs.Network.{Network};
 ghost use Rattle.net_model.specs.Rules.{IsNetwork};
 ghost use Rattle.srv6_rules.specs.Packet.{Content};
-ghost use Rattle.srv6_rules.specs.declared.sid.Family.{Family};
+ghost use Rattle.srv6_rules.specs.declared.family.Family.{Family};
 ghost use Rattle.walk_rules.specs.Walk.{stage_of};
 ghost use Rattle.walk_rules.specs.declared.place.Place.{Place};
 ghost use Rattle.packet_walk.specs.Flight.{InFlight, IsCounted, packet_in};

@@ -9,8 +9,8 @@ use Rattle.std.specs.Ordering.{nat_cmp, bool_cmp, is_eq}
 use Rattle.std.specs.BTreeMap.{BTreeMap}
 use Rattle.std.specs.BTreeMap as map
 use Rattle.v6_addr.specs.Address.{PrefixValue}
-use Rattle.srv6_rules.specs.declared.sid.Family.{Family}
-use Rattle.srv6_rules.specs.declared.sid.Family.TheVariants as families
+use Rattle.srv6_rules.specs.declared.family.Family.{Family}
+use Rattle.srv6_rules.specs.declared.family.Family.TheVariants as families
 use Rattle.net_model.specs.declared.parts.Route.{Route}
 use Rattle.net_model.specs.Rules.{are_distinct, same_bytes, same_family, same_prefix, same_route}
 use Rattle.net_model.proofs.RouteSetLemmas.{number_is_eq, family_is_eq, both_eq}

@@ -1,6 +1,6 @@
 -- The entries of a description as they are compared: a title goes by its number in the description's own list.
 use Rattle.std.specs.Prelude.{◌≡◌, ◌≢◌, ℕ, ◌+◌, ◌-◌, ◌<◌, ◌^◌, Bool, true, not, List, [], ◌∷◌, ◌++◌, length, slice_get, Option, None, option_and_then, Result, Ok, Err}
-use Rattle.srv6_rules.specs.declared.sid.Family.TheVariants as families
+use Rattle.srv6_rules.specs.declared.family.Family.TheVariants as families
 use Rattle.srv6_rules.specs.declared.sid.SidEntry.{SidEntry}
 use Rattle.text_faults.specs.declared.place.TableKind.TheVariants as tables
 use Rattle.net_model.specs.declared.parts.Node.{Node}

@@ -3,8 +3,8 @@ use Rattle.std.proofs.Common.{◌≡◌, ℕ, suc, ◌+◌, Bool, true, false, i
 use Rattle.std.proofs.lemmas.Bool.{and_parts, eqb-true}
 use Rattle.v6_addr.specs.Address.{PrefixValue}
 use Rattle.v6_addr.specs.declared.address.Addr.{Addr}
-use Rattle.srv6_rules.specs.declared.sid.Family.{Family}
-use Rattle.srv6_rules.specs.declared.sid.Family.TheVariants as families
+use Rattle.srv6_rules.specs.declared.family.Family.{Family}
+use Rattle.srv6_rules.specs.declared.family.Family.TheVariants as families
 use Rattle.net_model.specs.declared.parts.Block.{Block}
 use Rattle.net_model.specs.declared.parts.BlockKind.{BlockKind}
 use Rattle.net_model.specs.declared.parts.BlockKind.TheVariants as kinds

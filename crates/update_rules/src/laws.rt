@@ -1,7 +1,7 @@
 //! Laws of the definitions: each is the contract of an empty function.
 
 ghost use Rattle.std.specs.Prelude.{◌≡◌, ◌≢◌, ℕ, Bool, true, List, [], slice_get, Some, Ok};
-ghost use Rattle.srv6_rules.specs.declared.sid.Family.{Family};
+ghost use Rattle.srv6_rules.specs.declared.family.Family.{Family};
 ghost use Rattle.srv6_rules.specs.declared.sid.SidEntry.{SidEntry};
 ghost use Rattle.net_model.specs.declared.parts.Route.{Route};
 ghost use Rattle.net_model.specs.declared.net.Hit.{Hit};

@@ -1,7 +1,7 @@
 -- What is so of each pair of same outcomes.
 use Rattle.std.proofs.Common.{ℕ, Bool, subst}
-use Rattle.srv6_rules.specs.declared.sid.Family.{Family}
-use Rattle.srv6_rules.specs.declared.sid.Reason.{Reason}
+use Rattle.srv6_rules.specs.declared.family.Family.{Family}
+use Rattle.srv6_rules.specs.declared.reason.Reason.{Reason}
 use Rattle.net_model.specs.Network.{Network}
 use Rattle.walk_rules.specs.declared.place.How.{How}
 use Rattle.walk_rules.specs.declared.place.Outcome.{Outcome}

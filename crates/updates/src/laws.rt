@@ -4,7 +4,7 @@ ghost use Rattle.std.specs.Prelude.{◌≡◌, ℕ, suc, [], All, List, Ok, if�
 ghost use Rattle.net_model.specs.Best.{lookup_of};
 ghost use Rattle.net_model.specs.Network.{Network};
 ghost use Rattle.net_model.specs.Rules.{IsNetwork};
-ghost use Rattle.srv6_rules.specs.declared.sid.Family.{Family};
+ghost use Rattle.srv6_rules.specs.declared.family.Family.{Family};
 ghost use Rattle.packet_walk.specs.Flight.{InFlight, IsCounted};
 ghost use Rattle.packet_walk.specs.Rest.{rest_of};
 ghost use Rattle.update_rules.specs.Changes.{added_entries, removed_entries};

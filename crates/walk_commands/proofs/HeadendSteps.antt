@@ -5,8 +5,8 @@ use Rattle.std.proofs.lemmas.Bool.{ltb-false}
 use Rattle.std.proofs.lemmas.List.{length-take-le}
 use Rattle.srv6_rules.specs.declared.numbers.TheConstants.{IPV6_VERSION}
 use Rattle.srv6_rules.specs.declared.policy.Policy.{Policy}
-use Rattle.srv6_rules.specs.declared.sid.Family.TheVariants as families
-use Rattle.srv6_rules.specs.declared.sid.Reason.TheVariants.{Truncated, BadVersion}
+use Rattle.srv6_rules.specs.declared.family.Family.TheVariants as families
+use Rattle.srv6_rules.specs.declared.reason.Reason.TheVariants.{Truncated, BadVersion}
 use Rattle.srv6_rules.specs.Encapsulation.{inner_lowered}
 use Rattle.srv6_rules.specs.Packet.{Content, Packet, V6, Unreadable, IsSpellable, header_len, most_len, spelling, content_of, packet_at, stated_len, entered}
 use Rattle.srv6_rules.specs.Policies.{Encapsulating, headend_by, encapsulated_by}

@@ -6,9 +6,9 @@ use Rattle.std.proofs.lemmas.List.{length-take-le}
 use Rattle.std.proofs.lemmas.List.Elements.{All-append}
 use Rattle.srv6_rules.specs.declared.numbers.TheConstants.{IPV4_VERSION, IPV4_HEADER_LEN}
 use Rattle.srv6_rules.specs.declared.policy.Policy.{Policy}
-use Rattle.srv6_rules.specs.declared.sid.Family.TheVariants as families
-use Rattle.srv6_rules.specs.declared.sid.Reason.{Reason}
-use Rattle.srv6_rules.specs.declared.sid.Reason.TheVariants.{Truncated, BadVersion}
+use Rattle.srv6_rules.specs.declared.family.Family.TheVariants as families
+use Rattle.srv6_rules.specs.declared.reason.Reason.{Reason}
+use Rattle.srv6_rules.specs.declared.reason.Reason.TheVariants.{Truncated, BadVersion}
 use Rattle.srv6_rules.specs.Packet.{Unreadable, content4_by, most_len}
 use Rattle.srv6_rules.specs.Packet4.{Packet4, IsSpellable4, ttl, spelling4, read4, packet4_at, stated_header_len, total_len, lowered4}
 use Rattle.srv6_rules.specs.Policies.{headend_by, encapsulated_by}

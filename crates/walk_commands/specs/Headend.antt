@@ -1,8 +1,8 @@
 -- Inner packets without what stands after their ends, at the headend.
 use Rattle.std.specs.Prelude.{◌≡◌, ℕ, ◌≤◌, List, length}
 use Rattle.srv6_rules.specs.declared.policy.Policy.{Policy}
-use Rattle.srv6_rules.specs.declared.sid.Family.{Family}
-use Rattle.srv6_rules.specs.declared.sid.Reason.{Reason}
+use Rattle.srv6_rules.specs.declared.family.Family.{Family}
+use Rattle.srv6_rules.specs.declared.reason.Reason.{Reason}
 use Rattle.srv6_rules.specs.Packet.{entered, most_len}
 use Rattle.srv6_rules.specs.Policies.{encapsulated_by}
 use Rattle.policy_encap.specs.Inner.{HoldsInner}

@@ -2,7 +2,7 @@
 
 ghost use Rattle.std.specs.Prelude.{◌≡◌, ◌≤◌, MatchResult, length, take};
 ghost use Rattle.srv6_rules.specs.Packet.{most_len};
-ghost use Rattle.srv6_rules.specs.declared.sid.Family.TheVariants as families;
+ghost use Rattle.srv6_rules.specs.declared.family.Family.TheVariants as families;
 ghost use Rattle.walk_commands.specs.Headend.{AreDropped, IsInnerOf};
 
 use ip6_headers::{Ip4View, Ip6View};

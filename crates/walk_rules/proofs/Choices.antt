@@ -1,7 +1,7 @@
 -- What a stage has in common at all choices.
 use Rattle.std.proofs.Common.{◌≡◌, ◌≢◌, ℕ, ◌⊎◌, inl, inr, ◌↔◌, Bool, true, false, nat_le, ◌&&◌, if◌then◌else◌, List, [], Option, slice_get, refl, sym, ◌∙◌, ap, arith}
-use Rattle.srv6_rules.specs.declared.sid.Reason.{Reason}
-use Rattle.srv6_rules.specs.declared.sid.Reason.TheVariants as reasons
+use Rattle.srv6_rules.specs.declared.reason.Reason.{Reason}
+use Rattle.srv6_rules.specs.declared.reason.Reason.TheVariants as reasons
 use Rattle.srv6_rules.specs.Packet.{Packet, Content, V6, V4, Unreadable}
 use Rattle.srv6_rules.specs.Packet4.{Packet4, ttl, destination4}
 use Rattle.srv6_rules.specs.Endpoint.{at_address}

@@ -1,7 +1,7 @@
 -- Where a stage executes a SID: the SID is there and stands at the node, and the hop limit falls by one before a packet
 -- goes on.
 use Rattle.std.proofs.Common.{◌≡◌, ℕ, ◌+◌, ◌<◌, List, Some, None, slice_get, refl, sym, ◌∙◌, subst, ap}
-use Rattle.srv6_rules.specs.declared.sid.Family.{Family}
+use Rattle.srv6_rules.specs.declared.family.Family.{Family}
 use Rattle.srv6_rules.specs.declared.sid.SidEntry.{SidEntry}
 use Rattle.srv6_rules.specs.Behaviours.{behaviour_policy}
 use Rattle.srv6_rules.specs.Packet.{Packet, Content, V6, V4, Unreadable}

@@ -1,6 +1,6 @@
 -- Stages as a relation and as a function: each outcome of the relation is the function's at some choice.
 use Rattle.std.proofs.Common.{◌≡◌, ℕ, ◌<◌, length, Option, refl}
-use Rattle.srv6_rules.specs.declared.sid.Reason.TheVariants as reasons
+use Rattle.srv6_rules.specs.declared.reason.Reason.TheVariants as reasons
 use Rattle.srv6_rules.specs.Packet.{Packet, Content, V6, V4, Unreadable}
 use Rattle.srv6_rules.specs.Packet4.{Packet4, ttl, destination4}
 use Rattle.net_model.specs.Network.{Network}

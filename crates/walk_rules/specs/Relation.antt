@@ -1,8 +1,8 @@
 -- One node's treatment of one packet, as a relation by cases: which outcomes there are, and the packet and the error
 -- after each (RFC 8200, RFC 8754 and RFC 8986 by their sections as in `Treatment`).
 use Rattle.std.specs.Prelude.{◌≡◌, ◌⊎◌, ℕ, ◌<◌, ◌≤◌, Bool, true, false, is_some, List, length, slice_get, Option, Some, None, Contains}
-use Rattle.srv6_rules.specs.declared.sid.Reason.{Reason}
-use Rattle.srv6_rules.specs.declared.sid.Reason.TheVariants as reasons
+use Rattle.srv6_rules.specs.declared.reason.Reason.{Reason}
+use Rattle.srv6_rules.specs.declared.reason.Reason.TheVariants as reasons
 use Rattle.srv6_rules.specs.declared.sid.SidEntry.{SidEntry}
 use Rattle.srv6_rules.specs.Packet.{Packet, Content, V6, V4, Unreadable}
 use Rattle.srv6_rules.specs.Packet4.{Packet4, ttl, destination4}

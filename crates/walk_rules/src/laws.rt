@@ -9,8 +9,8 @@ ghost use Rattle.srv6_rules.specs.Packet.{Content, IsContent, Packet, V4, V6, by
 ghost use Rattle.srv6_rules.specs.Packet4.{IsSpellable4, Packet4, total_len, ttl};
 ghost use Rattle.srv6_rules.specs.Behaviours.{behaviour_policy};
 ghost use Rattle.srv6_rules.specs.declared.sid.Behaviour.TheVariants.{B6, B6Red, Dt4, Dt46, Dt6, Dx4, Dx6, End, EndT, EndX};
-ghost use Rattle.srv6_rules.specs.declared.sid.Family.{Family};
-ghost use Rattle.srv6_rules.specs.declared.sid.Reason.{Reason};
+ghost use Rattle.srv6_rules.specs.declared.family.Family.{Family};
+ghost use Rattle.srv6_rules.specs.declared.reason.Reason.{Reason};
 ghost use Rattle.srv6_rules.specs.declared.sid.SidEntry.{SidEntry};
 ghost use Rattle.walk_rules.specs.Laws.{AreStages, Executes, IsDeliveredBehindUsp, IsLoweredByOne, PushesOne, TakenApart, TellsOfError, family_after, hops_at};
 ghost use Rattle.walk_rules.specs.Relation.{IsFreeStage, IsHow, IsPlace, IsStage};

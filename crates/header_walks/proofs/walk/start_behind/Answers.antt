@@ -1,5 +1,5 @@
 use Rattle.std.proofs.Common.{◌≡◌, ◌≤◌, true, Some, [], Bool, List, length, reverse, ap, sym, ◌∙◌, subst}
-use Rattle.srv6_rules.specs.declared.sid.Family.TheVariants as families
+use Rattle.srv6_rules.specs.declared.family.Family.TheVariants as families
 use Rattle.srv6_rules.specs.Behaviours.{behaviour_policy, goes_on}
 use Rattle.srv6_rules.specs.Policies.{outer_by}
 use Rattle.walk_rules.specs.declared.place.How.{How}

@@ -1,5 +1,5 @@
 use Rattle.std.proofs.Common.{◌≡◌, Bool, ap, sym, subst, ◌∙◌, List, ℕ, arith}
-use Rattle.srv6_rules.specs.declared.sid.Family.TheVariants as families
+use Rattle.srv6_rules.specs.declared.family.Family.TheVariants as families
 use Rattle.srv6_rules.specs.Behaviours.{behaviour_reduces}
 use Rattle.srv6_rules.specs.Packet.{Packet, V6, packet_at, spelling}
 use Rattle.srv6_rules.specs.Policies.{pushed_by}

@@ -1,7 +1,7 @@
 use Rattle.std.proofs.Common.{ap, sym, ◌∙◌, ◌≡◌, []}
 use Rattle.net_model.specs.declared.parts.NamedPolicy.{NamedPolicy}
 use Rattle.srv6_rules.specs.declared.policy.Policy.{Policy}
-use Rattle.srv6_rules.specs.declared.sid.Family.TheVariants as families
+use Rattle.srv6_rules.specs.declared.family.Family.TheVariants as families
 use Rattle.srv6_rules.specs.Policies.{outer_by}
 use Rattle.std.proofs.lemmas.Option.{same_Some}
 use Rattle.node_stage.proofs.EndpointLemmas.{policy-is}

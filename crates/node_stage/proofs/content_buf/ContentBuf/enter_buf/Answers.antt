@@ -1,6 +1,6 @@
 use Rattle.std.proofs.Common.{◌≡◌, ℕ, List, length, take, min, ap, ◌∙◌}
 use Rattle.std.proofs.lemmas.List.{take_min}
-use Rattle.srv6_rules.specs.declared.sid.Family.{Family}
+use Rattle.srv6_rules.specs.declared.family.Family.{Family}
 use Rattle.srv6_rules.specs.Packet.{Content, read_as, most_len}
 use Rattle.pkt_buf.specs.BufferView.{Buffer}
 use Rattle.node_stage.specs.Fronted.{FrontedContent, fronted}
