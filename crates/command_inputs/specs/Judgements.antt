@@ -1,4 +1,4 @@
--- The judgements of files and words: what each gives, or its refusal.
+-- The judgements of files and words: what each gives, or its refusal (own rule).
 use Rattle.std.specs.Prelude.{ℕ, nat_lt, if◌then◌else◌, List, length, Option, Some, None, Result, Ok, Err, Bool, false, is_ok, [], ◌∷◌}
 use Rattle.text_faults.specs.declared.fault.TextFault.{TextFault}
 use Rattle.net_model.specs.Network.{Network}

@@ -1,4 +1,4 @@
--- What the steps of a command answer, by cases.
+-- What the steps of a command answer, by cases (own rule).
 use Rattle.std.specs.Prelude.{◌≡◌, ℕ, true, List, [], ◌∷◌, ◌++◌, IfSome, IsSomeAnd, Result, Ok, Err, ⊤}
 use Rattle.srx_edge.specs.Edge.{file_named}
 use Rattle.srx_edge.specs.FilesRead.{FilesSeen, FailsAt, asked_for, failed}

@@ -1,4 +1,4 @@
--- How a call ended, and what it took of the files and of the input.
+-- How a call ended, and what it took of the files and of the input (own rule).
 use Rattle.std.specs.Prelude.{◌≡◌, ◌⊎◌, ◌==◌, true, false, not, [], length, Option, IfSome, ⊤}
 use Rattle.srx_edge.specs.FilesRead.{FilesSeen}
 use Rattle.srx_edge.specs.Sources.{SourceSeen}

@@ -1,4 +1,4 @@
--- What the faults of the crates below become where a command passes them on.
+-- What the faults of the crates below become where a command passes them on (own rule).
 use Rattle.std.specs.Prelude.{slice_get}
 use Rattle.srx_edge.specs.declared.file_access.FileFault.{FileFault}
 use Rattle.srx_edge.specs.declared.file_access.FileFault.TheVariants as files

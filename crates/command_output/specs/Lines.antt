@@ -1,4 +1,4 @@
--- The lines on `err`.
+-- The lines on `err` (own rule).
 use Rattle.std.specs.Prelude.{ℕ, ◌+◌, List, [], ◌∷◌, ◌++◌, codes, slice_get, string_bytes}
 use Rattle.std.specs.Fmt.{decimal}
 use Rattle.v6_addr.specs.Text.{prefix_text}

@@ -1,4 +1,4 @@
--- Outputs of a refusal, of a report, and of a judgement.
+-- Outputs of a refusal, of a report, and of a judgement (own rule).
 use Rattle.std.specs.Prelude.{ℕ, List, [], ◌∷◌, ◌++◌, Option, Some, None, Result, Ok, Err}
 use Rattle.command_output.specs.declared.refusal.Refusal.{Refusal}
 use Rattle.command_output.specs.declared.status.Status.{Status}

@@ -1,4 +1,4 @@
--- Files, the input and the sinks round a call, by where it stopped.
+-- Files, the input and the sinks round a call, by where it stopped (own rule).
 use Rattle.std.specs.Prelude.{◌≡◌, ◌⊎◌, ℕ, ◌+◌, ◌<◌, ◌≤◌, List, [], ◌∷◌, ◌++◌, length, IfSome, ⊤}
 use Rattle.srx_edge.specs.FilesRead.{FilesSeen, FailsAt, asked_for, failed}
 use Rattle.srx_edge.specs.Sources.{SourceSeen, DrawnUpTo, drained, taken, failed as input_failed}

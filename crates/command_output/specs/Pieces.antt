@@ -1,4 +1,4 @@
--- Output as pieces, in the order in which they are written, and how far they have gone out.
+-- Output as pieces, in the order in which they are written, and how far they have gone out (own rule).
 use Rattle.std.specs.Prelude.{◌≡◌, ℕ, List, [], ◌∷◌, ◌++◌, map, Option, None, Some}
 use Rattle.std.specs.List.{flat_map}
 use Rattle.srx_edge.specs.Sinks.{SinkSeen, sent}

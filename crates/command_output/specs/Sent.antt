@@ -1,4 +1,4 @@
--- What a walk's end names is there.
+-- What a walk's end names is there (own rule).
 use Rattle.std.specs.Prelude.{◌<◌, length, ⊤}
 use Rattle.net_model.specs.Network.{Network}
 use Rattle.walk_rules.specs.declared.place.Ended.{Ended}

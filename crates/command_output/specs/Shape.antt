@@ -1,4 +1,4 @@
--- The shape of a command: what it reads, and what is wanted of it.
+-- The shape of a command: what it reads, and what is wanted of it (own rule).
 use Rattle.std.specs.Prelude.{◌≡◌, ◌⊎◌, ℕ, Bool, true, false, ◌==◌, not, if◌then◌else◌, List, [], ◌∷◌, ◌++◌, length, Option, None, Some, ⊤}
 use Rattle.srx_edge.specs.Edge.{file_named}
 use Rattle.command_output.specs.declared.status.Status.{Status}

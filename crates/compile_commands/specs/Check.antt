@@ -1,4 +1,4 @@
--- The command `check`: the verdict on a certificate for the intent of a file in the network that another describes.
+-- The command `check`: the verdict on a certificate for the intent of a file in the network that another describes (own rule).
 use Rattle.std.specs.Prelude.{◌≡◌, ℕ, Bool, true, false, List, [], ◌∷◌, ◌++◌, codes, Option, Result, Ok, Err, IsSomeAnd, is_ok, ⊤, Some, None, if◌then◌else◌}
 use Rattle.std.specs.Fmt.{decimal}
 use Rattle.net_model.specs.Network.{Network}

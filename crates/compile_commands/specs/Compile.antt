@@ -1,4 +1,4 @@
--- The command `compile`: a list for the intent of a file in the network that another describes.
+-- The command `compile`: a list for the intent of a file in the network that another describes (own rule).
 use Rattle.std.specs.Prelude.{◌≡◌, ℕ, true, false, List, [], ◌∷◌, ◌++◌, codes, Option, Result, Ok, Err, IsSomeAnd, ⊤, Some, None}
 use Rattle.std.specs.List.{All, flat_map}
 use Rattle.std.specs.Fmt.{decimal}

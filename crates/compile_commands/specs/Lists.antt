@@ -1,4 +1,4 @@
--- What an intent is compiled to, for the commands that stand on it.
+-- What an intent is compiled to, for the commands that stand on it (own rule).
 pub use Rattle.intent_legs.specs.Answers.{IntentAnswers, IsCompiledFor, IsLeastFor, NoneLessFor}
 pub use Rattle.intent_legs.specs.Kinds.{BindsNothing, ReachesNothing}
 pub use Rattle.intent_legs.specs.Legs.{ListExecutesFor, ListHandsFor, ListRealizesFor}

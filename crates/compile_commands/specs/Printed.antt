@@ -1,4 +1,4 @@
--- What `check` says of what `compile` printed.
+-- What `check` says of what `compile` printed (own rule).
 use Rattle.std.specs.Prelude.{◌≡◌, ◌↔◌, ℕ, ◌≤◌, List, [], length, Some, Result, Ok, Err, IsSomeAnd}
 use Rattle.net_model.specs.Network.{Network}
 use Rattle.intent_reader.specs.declared.intent.Intent.{Intent}

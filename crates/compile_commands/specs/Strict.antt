@@ -1,5 +1,5 @@
 -- What is wanted of `compile` and of `check` where no step is to reach a node and no SID of the network binds a policy: what answers and
--- verdicts over the strict steps of the intent want.
+-- verdicts over the strict steps of the intent want (own rule).
 use Rattle.std.specs.Prelude.{◌≡◌, List, Option, Result, Ok, Err, IsSomeAnd, ℕ}
 use Rattle.net_model.specs.Network.{Network}
 use Rattle.flat_networks.specs.declared.not_flat.NotFlat.{NotFlat}

@@ -1,4 +1,4 @@
--- What decides what comes of a packet at a SID, before anything is written.
+-- What decides what comes of a packet at a SID, before anything is written (RFC 8986 section 4).
 use Rattle.std.specs.Prelude.{◌≡◌, ℕ, ◌+◌, ◌-◌, ◌≤◌, Bool, true, false, ◌==◌, if◌then◌else◌, List, length, take, Option, Some, None}
 use Rattle.srv6_rules.specs.declared.numbers.TheConstants.{MAX_PACKET_LEN}
 use Rattle.srv6_rules.specs.declared.sid.SidEntry.{SidEntry}

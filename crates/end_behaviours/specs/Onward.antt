@@ -1,4 +1,4 @@
--- How long a packet would be after the step of a SID that goes on.
+-- How long a packet would be after the step of a SID that goes on (own rule).
 use Rattle.std.specs.Prelude.{◌≡◌, ◌≢◌, ℕ, ◌+◌, ◌-◌, ◌≤◌, Bool, ◌&&◌, if◌then◌else◌, length, Option, Some, None}
 use Rattle.srv6_rules.specs.declared.sid.SidEntry.{SidEntry}
 use Rattle.srv6_rules.specs.Packet.{Packet, header_len}

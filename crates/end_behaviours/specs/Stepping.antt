@@ -1,4 +1,4 @@
--- Steps judged and written, and what is left of a packet.
+-- Steps judged and written, and what is left of a packet (RFC 8986 section 4.1).
 use Rattle.std.specs.Prelude.{◌≡◌, ℕ, ◌+◌, ◌<◌, ◌≤◌, ◌==◌, List, length}
 use Rattle.srv6_rules.specs.Packet.{Packet}
 use Rattle.srv6_rules.specs.Srh.{Srh}

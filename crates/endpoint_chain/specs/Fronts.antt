@@ -1,4 +1,4 @@
--- What is spare in front of a packet after what came of it at a SID.
+-- What is spare in front of a packet after what came of it at a SID (own rule).
 use Rattle.std.specs.Prelude.{◌≡◌, ℕ, ◌+◌, ◌≤◌, length, drop}
 use Rattle.pkt_buf.specs.BufferView.{Buffer}
 use Rattle.endpoint_chain.specs.declared.outcome.EndOutcome.{EndOutcome}

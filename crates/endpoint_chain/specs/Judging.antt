@@ -1,4 +1,4 @@
--- What is judged of a header at a node, and of a packet at the node's own address.
+-- What is judged of a header at a node, and of a packet at the node's own address (RFC 8200 section 4).
 use Rattle.std.specs.Prelude.{◌≡◌, Option, Some, None}
 use Rattle.srv6_rules.specs.Packet.{Packet}
 use Rattle.srv6_rules.specs.Endpoint.{Endpoint, Delivered, Refused, unless_fault}

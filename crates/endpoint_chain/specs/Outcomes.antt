@@ -1,4 +1,4 @@
--- What comes of a packet at a SID, in its bytes.
+-- What comes of a packet at a SID, in its bytes (RFC 8986 section 4).
 use Rattle.std.specs.Prelude.{◌≡◌, ℕ, ◌+◌, List, length}
 use Rattle.srv6_rules.specs.Packet.{Packet, Spells, header_len, stated_len}
 use Rattle.srv6_rules.specs.Areas.{Fault}

@@ -1,4 +1,4 @@
--- Nested SIDs as tests.
+-- Nested SIDs as tests (own rule).
 use Rattle.std.specs.Prelude.{◌+◌, Bool, true, false, ◌==◌, ◌&&◌, not, nat_le, count_by, List, Option, Some, None}
 use Rattle.v6_addr.specs.Address.{PrefixValue, is_inside}
 use Rattle.srv6_rules.specs.declared.sid.SidEntry.{SidEntry}

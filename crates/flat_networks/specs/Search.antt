@@ -1,4 +1,4 @@
--- How the first nested pair is searched for, and what a table of SIDs' prefixes tells of the entries that lie inside them.
+-- How the first nested pair is searched for, and what a table of SIDs' prefixes tells of the entries that lie inside them (own rule).
 use Rattle.std.specs.Prelude.{◌≡◌, ℕ, ◌<◌, Bool, true, false, ◌&&◌, not, List, [], ◌∷◌, find, Option, slice_get, Some, Result, Ok, Contains}
 use Rattle.v6_addr.specs.Address.{PrefixValue, IsInside, is_inside}
 use Rattle.srv6_rules.specs.declared.sid.SidEntry.{SidEntry}

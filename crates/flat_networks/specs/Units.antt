@@ -1,4 +1,4 @@
--- The units of the SIDs nested in a SID.
+-- The units of the SIDs nested in a SID (own rule).
 use Rattle.std.specs.Prelude.{◌≡◌, ◌⊎◌, ◌↔◌, ℕ, ◌+◌, ◌<◌, List, slice_get, Some, Contains}
 use Rattle.v6_addr.specs.Address.{PrefixValue, IsInside}
 use Rattle.srv6_rules.specs.declared.sid.SidEntry.{SidEntry}

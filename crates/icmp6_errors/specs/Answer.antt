@@ -1,4 +1,4 @@
--- The bytes of an error that is made or not.
+-- The bytes of an error that is made or not (RFC 4443 section 2.4).
 use Rattle.std.specs.Prelude.{ℕ, List, [], Option, Some, None}
 use Rattle.srv6_rules.specs.Packet.{Packet, spelling}
 

@@ -1,4 +1,4 @@
--- What holds of what an intent's text says, and the intent over its names whether or not it keeps the rules.
+-- What holds of what an intent's text says, and the intent over its names whether or not it keeps the rules (own rule).
 use Rattle.std.specs.Prelude.{◌≤◌, List, [], ◌∷◌, length, Option, Some, option_map}
 use Rattle.std.specs.Option.{option_and_then}
 use Rattle.net_model.specs.declared.limits.TheConstants.{LAST_FLOW_LABEL}

@@ -1,4 +1,4 @@
--- Functions, the SIDs with a title, by their titles' texts.
+-- Functions, the SIDs with a title, by their titles' texts (own rule).
 use Rattle.std.specs.Prelude.{◌≡◌, ◌≢◌, ℕ, Bool, false, List, slice_get, Option, Some, None, bytes_eq, position}
 use Rattle.srv6_rules.specs.declared.sid.SidEntry.{SidEntry}
 use Rattle.net_model.specs.Network.{Network}

@@ -1,4 +1,4 @@
--- What holds of an intent that keeps the rules in its network, fact by fact.
+-- What holds of an intent that keeps the rules in its network, fact by fact (own rule).
 use Rattle.std.specs.Prelude.{◌≡◌, ◌≢◌, ℕ, ◌+◌, ◌-◌, ◌^◌, ◌<◌, ◌≤◌, List, length, slice_get, Some, take, Contains, IsTrue}
 use Rattle.srv6_rules.specs.declared.sid.SidEntry.{SidEntry}
 use Rattle.net_model.specs.declared.parts.Link.{Link}

@@ -1,4 +1,4 @@
--- What reading an intent gives: a value, or the first fault.
+-- What reading an intent gives: a value, or the first fault (own rule).
 use Rattle.std.specs.Prelude.{Bool, List, [], ◌∷◌, Result, Ok, Err, if◌then◌else◌}
 use Rattle.text_faults.specs.declared.fault.TextFault.{TextFault}
 use Rattle.toml_words.specs.Reading.{◌>>=◌}

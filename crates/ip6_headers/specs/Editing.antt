@@ -1,4 +1,4 @@
--- What an edit of a packet's header holds.
+-- What an edit of a packet's header holds (RFC 8200 section 3).
 use Rattle.std.specs.Prelude.{List, ℕ}
 use Rattle.std.specs.Borrow.{GName}
 use Rattle.ip6_headers.specs.declared.edit.Ip6Edit.{Ip6Edit}

@@ -1,4 +1,4 @@
--- The items of an area, and the fault that is found there.
+-- The items of an area, and the fault that is found there (RFC 8200 section 4.2, RFC 8754 section 2.1).
 use Rattle.std.specs.Prelude.{◌≡◌, ℕ, ◌≤◌, true, false, List, length, Option, Some, None, Result, Ok, Err}
 use Rattle.srv6_rules.specs.Areas as areas
 use Rattle.srv6_rules.specs.Areas.{item_bytes, passes_end}

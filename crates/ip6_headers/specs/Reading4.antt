@@ -1,4 +1,4 @@
--- What reading says of bytes as IPv4.
+-- What reading says of bytes as IPv4 (RFC 791 section 3.1).
 use Rattle.std.specs.Prelude.{◌≡◌, ℕ, ◌<◌, ◌^◌, ◌≤◌, List, length, All, Option, Some, None, Result, Ok, Err}
 use Rattle.srv6_rules.specs.declared.numbers.TheConstants.{IPV4_HEADER_LEN}
 use Rattle.srv6_rules.specs.declared.reason.Reason.{Reason}

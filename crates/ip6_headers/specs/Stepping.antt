@@ -1,4 +1,4 @@
--- What stands at a place of a chain of extension headers, and the step from there.
+-- What stands at a place of a chain of extension headers, and the step from there (RFC 8200 section 4).
 use Rattle.std.specs.Prelude.{◌≡◌, ℕ, ◌≤◌, true, false, List, [], take, length, Result, Ok, Err}
 use Rattle.srv6_rules.specs.declared.numbers.TheConstants.{NEXT_HEADER_AT, EXTENSION_UNIT}
 use Rattle.srv6_rules.specs.Packet.{Packet, header_len}

@@ -1,4 +1,4 @@
--- Ways of a packet to the next SID that is executed, along the steps of an intent, whichever equal next hop is chosen.
+-- Ways of a packet to the next SID that is executed, along the steps of an intent, whichever equal next hop is chosen (own rule).
 use Rattle.std.specs.Prelude.{ℕ, ◌<◌, Bool, List, [], ◌∷◌, length, Option, Some, None, IsTrue}
 use Rattle.srv6_rules.specs.Packet.{Content}
 use Rattle.net_model.specs.Network.{Network}

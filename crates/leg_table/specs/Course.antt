@@ -1,4 +1,4 @@
--- The code's view of rides.
+-- The code's view of rides (own rule).
 use Rattle.std.specs.Prelude.{ℕ, drop, Option, Some, None}
 use Rattle.std.specs.Option.{option_map, option_and_then}
 use Rattle.net_model.specs.Network.{Network}

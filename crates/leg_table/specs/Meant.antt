@@ -1,4 +1,5 @@
--- Lists of segments that realize what legs are for, of any kind: as `Realizes` says it of strict legs, over the kind's own hand-over.
+-- Lists of segments that realize what legs are for, of any kind: as `Realizes` says it of strict legs, over the kind's own hand-over (own
+-- rule).
 use Rattle.std.specs.Prelude.{◌≡◌, ℕ, ◌<◌, ◌≤◌, false, List, length, All, Some, None}
 use Rattle.srv6_rules.specs.Packet.{Content}
 use Rattle.walk_rules.specs.Walk.{choice_at}

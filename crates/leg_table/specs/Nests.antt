@@ -1,5 +1,5 @@
 -- SIDs nested in another by the 16 bits after it, along lists: which SIDs may follow one directly in its container, and what is kept of
--- that at the places of a list.
+-- that at the places of a list (RFC 9800 section 4.1; which lists are legal is an own rule).
 use Rattle.std.specs.Prelude.{◌≡◌, ℕ, ◌+◌, Bool, true, ◌==◌, ◌&&◌, not, length, List, map, slice_get, All, Option, Some, None}
 use Rattle.std.specs.List.{list_any}
 use Rattle.srv6_rules.specs.declared.sid.SidEntry.{SidEntry}

@@ -1,4 +1,5 @@
--- Laws of one leg and of one finish, for each kind of legs: what becomes of a packet on its way along a list, from one SID to the next.
+-- Laws of one leg and of one finish, for each kind of legs: what becomes of a packet on its way along a list, from one SID to the next (own
+-- rule).
 use Rattle.std.specs.Prelude.{◌≡◌, ℕ, ◌+◌, ◌-◌, ◌<◌, ◌≤◌, Bool, false, List, [], ◌∷◌, ◌++◌, All, Option, Some, None}
 use Rattle.std.specs.Option.{option_map}
 use Rattle.v6_addr.specs.Address.{PrefixValue}

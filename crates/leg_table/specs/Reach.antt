@@ -1,4 +1,4 @@
--- The ways from a node to all SIDs, along the steps of an intent that are left.
+-- The ways from a node to all SIDs, along the steps of an intent that are left (own rule).
 use Rattle.std.specs.Prelude.{◌≡◌, ℕ, ◌+◌, ◌-◌, ◌<◌, ◌≤◌, Bool, true, false, ◌==◌, if◌then◌else◌, List, [], ◌∷◌, length, take, drop, slice_get, Option, Some, None, is_some, IsTrue}
 use Rattle.std.specs.Option.{option_map}
 use Rattle.srv6_rules.specs.declared.family.Family.TheVariants as families

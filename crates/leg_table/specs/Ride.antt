@@ -1,4 +1,4 @@
--- Rides: the way of a packet to the next SID that is executed, by look-ups alone.
+-- Rides: the way of a packet to the next SID that is executed, by look-ups alone (own rule).
 use Rattle.std.specs.Prelude.{ℕ, ◌+◌, ◌-◌, ◌<◌, Bool, true, false, if◌then◌else◌, List, [], ◌∷◌, Option, Some, None, IsTrue}
 use Rattle.std.specs.List.{list_all}
 use Rattle.std.specs.Option.{option_map}

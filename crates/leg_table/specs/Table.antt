@@ -1,4 +1,4 @@
--- The table of an intent's legs.
+-- The table of an intent's legs (own rule).
 use Rattle.std.specs.Prelude.{◌≡◌, ℕ, ◌+◌, ◌≤◌, false, List, length, slice_get, Option, Some, None}
 use Rattle.srv6_rules.specs.declared.sid.Csid.TheVariants.{Plain}
 use Rattle.srv6_rules.specs.declared.sid.SidEntry.{SidEntry}

@@ -1,4 +1,4 @@
--- Traces that keep to the steps of an intent.
+-- Traces that keep to the steps of an intent (own rule).
 use Rattle.std.specs.Prelude.{ℕ, Bool, true, false, ◌==◌, ◌&&◌, if◌then◌else◌, List, [], ◌∷◌, length, Option, Some, None}
 use Rattle.std.specs.List.{list_any}
 use Rattle.std.specs.Option.{option_and_then}

@@ -1,4 +1,4 @@
--- Traces of walks: the links that are crossed and the functions that are executed, in order.
+-- Traces of walks: the links that are crossed and the functions that are executed, in order (own rule).
 use Rattle.std.specs.Prelude.{ℕ, Bool, false, if◌then◌else◌, is_some, List, [], ◌∷◌, ◌++◌, slice_get, Option, Some, None}
 use Rattle.std.specs.Option.{option_map}
 use Rattle.srv6_rules.specs.declared.sid.SidEntry.{SidEntry}

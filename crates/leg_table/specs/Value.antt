@@ -1,4 +1,4 @@
--- What the table of an intent's legs is to a search, and what becomes of packets on them.
+-- What the table of an intent's legs is to a search, and what becomes of packets on them (own rule).
 use Rattle.std.specs.Prelude.{ℕ, if◌then◌else◌, List, [], drop, length, Option, Some, None}
 use Rattle.srv6_rules.specs.Packet.{Packet, V6}
 use Rattle.list_pack.specs.Value.{LegsValue}

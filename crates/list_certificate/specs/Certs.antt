@@ -1,4 +1,4 @@
--- What the lines of a certificate say of states, and what a certificate is to its check.
+-- What the lines of a certificate say of states, and what a certificate is to its check (own rule).
 use Rattle.std.specs.Prelude.{◌≡◌, ℕ, ◌+◌, ◌<◌, Bool, true, false, ◌==◌, ◌&&◌, if◌then◌else◌, List, [], ◌∷◌, length, Option, Some, None, All, AllPairs}
 use Rattle.list_pack.specs.declared.types.Cost.{Cost}
 use Rattle.list_pack.specs.declared.types.State.{State}

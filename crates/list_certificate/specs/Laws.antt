@@ -1,4 +1,4 @@
--- What a verdict shows, what the certificate of a solution shows, and what may stand in front of its text.
+-- What a verdict shows, what the certificate of a solution shows, and what may stand in front of its text (own rule).
 use Rattle.std.specs.Prelude.{◌≡◌, ℕ, List, [], ◌∷◌, ◌++◌, flat_map, slice_index, Contains, Some, None}
 use Rattle.list_pack.specs.declared.types.Cost.{Cost}
 use Rattle.list_pack.specs.declared.types.PathStep.{PathStep}

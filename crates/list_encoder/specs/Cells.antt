@@ -1,4 +1,4 @@
--- Cells: the start, and the SIDs of all positions.
+-- Cells: the start, and the SIDs of all positions (own rule).
 use Rattle.std.specs.Prelude.{◌≡◌, ℕ, ◌<◌, ◌≤◌, List, length, slice_get, Option, Some, None, Contains}
 use Rattle.list_encoder.specs.declared.cells.Cell.{Cell}
 use Rattle.list_encoder.specs.declared.cells.TheConstants.{MAX_CELLS}

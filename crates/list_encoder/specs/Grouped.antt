@@ -1,4 +1,4 @@
--- The edges within a position by the cell that they lead to.
+-- The edges within a position by the cell that they lead to (own rule).
 use Rattle.std.specs.Prelude.{◌≡◌, ℕ, ◌<◌, ◌⊎◌, List, length, slice_get, Some, Contains, Vec}
 use Rattle.std.specs.Global.{Global}
 use Rattle.list_encoder.specs.declared.table.CellEdge.{CellEdge}

@@ -1,4 +1,4 @@
--- The listing of a table's costs, up to a place of the table.
+-- The listing of a table's costs, up to a place of the table (own rule).
 use Rattle.std.specs.Prelude.{◌≡◌, ℕ, ◌+◌, ◌*◌, ◌<◌, ◌≤◌, List, slice_get, Some, All, Contains, AllPairs}
 use Rattle.list_pack.specs.declared.types.Cost.{Cost}
 use Rattle.list_pack.specs.declared.types.Potential.{Potential}

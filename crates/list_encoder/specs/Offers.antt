@@ -1,4 +1,4 @@
--- What a settled state offers to those in front of it.
+-- What a settled state offers to those in front of it (own rule).
 use Rattle.std.specs.Prelude.{◌≡◌, ℕ, ◌+◌, ◌*◌, ◌<◌, ◌≤◌, Bool, true, false, List, length, slice_get, Option, Some, None, Contains}
 use Rattle.std.specs.BTreeSet.{BTreeSet}
 use Rattle.list_pack.specs.declared.types.Cost.{Cost}

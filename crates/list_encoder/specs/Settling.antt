@@ -1,4 +1,4 @@
--- The states that wait are settled, from the least cost up.
+-- The states that wait are settled, from the least cost up (own rule).
 use Rattle.std.specs.Prelude.{◌≡◌, ℕ, ◌+◌, ◌*◌, ◌<◌, ◌≤◌, Bool, true, List, length, slice_get, Some}
 use Rattle.std.specs.BTreeSet.{BTreeSet}
 use Rattle.list_pack.specs.declared.types.Cost.{Cost}

@@ -1,4 +1,4 @@
--- The states that wait, by cost, and those that are settled.
+-- The states that wait, by cost, and those that are settled (own rule).
 use Rattle.std.specs.Prelude.{◌≡◌, ℕ, ◌<◌, Bool, true, false, List, length, slice_index_or, slice_set, Some, IsTrue}
 use Rattle.std.specs.declared.cmp.Ordering.{Ordering}
 use Rattle.std.specs.Ordering.{nat_cmp, ordering_then}

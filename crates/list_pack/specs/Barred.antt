@@ -1,4 +1,4 @@
--- What may not come directly after a SID in a full container: what the code of `is_legal` goes by.
+-- What may not come directly after a SID in a full container: what the code of `is_legal` goes by (own rule).
 use Rattle.std.specs.Prelude.{◌≡◌, ◌+◌, Contains}
 use Rattle.v6_addr.specs.Address.{PrefixValue}
 use Rattle.srv6_rules.specs.declared.sid.SidEntry.{SidEntry}

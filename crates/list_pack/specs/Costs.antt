@@ -1,4 +1,4 @@
--- Edges between states, and what paths cost.
+-- Edges between states, and what paths cost (own rule).
 use Rattle.std.specs.Prelude.{◌≡◌, ℕ, ◌+◌, ◌<◌, ◌≤◌, Bool, false, not, ◌&&◌, if◌then◌else◌, List, [], ◌∷◌, Option, Some, None, IsTrue, Contains}
 use Rattle.std.specs.Option.{option_map, option_and_then}
 use Rattle.list_pack.specs.declared.types.Cost.{Cost}

@@ -1,4 +1,4 @@
--- Least costs, potentials, the first least path, and what a search has to find.
+-- Least costs, potentials, the first least path, and what a search has to find (own rule).
 use Rattle.std.specs.Prelude.{◌≡◌, ℕ, Bool, false, if◌then◌else◌, List, [], ◌∷◌, map, Option, Some, None, IsTrue, Contains, AllPairs}
 use Rattle.std.specs.Option.{option_map}
 use Rattle.list_pack.specs.declared.types.Cost.{Cost}

@@ -1,4 +1,4 @@
--- What legs mean: their paths are the legal lists of a network that realize what the legs are for.
+-- What legs mean: their paths are the legal lists of a network that realize what the legs are for (own rule).
 use Rattle.std.specs.Prelude.{◌≡◌, ℕ, ◌<◌, ◌≤◌, List, length, map, slice_get, Some}
 use Rattle.srv6_rules.specs.declared.sid.SidEntry.{SidEntry}
 use Rattle.net_model.specs.Network.{Network}

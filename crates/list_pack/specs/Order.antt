@@ -1,5 +1,5 @@
 -- The order of lists of numbers: at the first difference the lower number comes first, and a list comes before each longer one that
--- begins with it.
+-- begins with it (own rule).
 use Rattle.std.specs.Prelude.{ℕ, Bool, true, false, ◌==◌, ◌&&◌, ◌||◌, nat_lt, List, [], ◌∷◌}
 
 abbrev pub lex_before : List ℕ → List ℕ → Bool

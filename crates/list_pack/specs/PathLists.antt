@@ -1,4 +1,4 @@
--- Paths of states as lists of containers: each step that opens a container makes one, of its SID and of those that stay in it.
+-- Paths of states as lists of containers: each step that opens a container makes one, of its SID and of those that stay in it (own rule).
 use Rattle.std.specs.Prelude.{◌≡◌, ℕ, ◌+◌, if◌then◌else◌, List, [], ◌∷◌, ◌++◌, length, map, take, Option, Some, None, All}
 use Rattle.v6_addr.specs.Address.{PrefixValue}
 use Rattle.net_model.specs.Network.{Network}

@@ -1,4 +1,4 @@
--- Paths of states as lists of SIDs: what rooms and legs say of a path apart, and what the SIDs of a search are to lists.
+-- Paths of states as lists of SIDs: what rooms and legs say of a path apart, and what the SIDs of a search are to lists (own rule).
 use Rattle.std.specs.Prelude.{◌≡◌, ℕ, ◌+◌, ◌-◌, ◌≤◌, Bool, true, false, if◌then◌else◌, List, [], ◌∷◌, map, Option, Some, None, IsTrue, IsSome, ◌↔◌}
 use Rattle.std.specs.Option.{option_map}
 use Rattle.v6_addr.specs.Address.{PrefixValue}

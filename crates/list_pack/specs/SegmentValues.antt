@@ -1,4 +1,4 @@
--- What the values of containers are made from.
+-- What the values of containers are made from (RFC 9800 section 4).
 use Rattle.std.specs.Prelude.{◌≡◌, ℕ, ◌+◌, ◌-◌, ◌<◌, ◌≤◌, List, [], ◌∷◌}
 use Rattle.v6_addr.specs.Address.{PrefixValue}
 use Rattle.v6_addr.specs.declared.address.Addr.{Addr}

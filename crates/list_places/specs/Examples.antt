@@ -1,4 +1,4 @@
--- Two lists by hand, with their values and the destinations on the way written out.
+-- Two lists by hand, with their values and the destinations on the way written out (RFC 9800 section 4).
 use Rattle.std.specs.Prelude.{ℕ, List, [], ◌∷◌, Some}
 use Rattle.srv6_rules.specs.declared.sid.Csid.{Csid}
 use Rattle.srv6_rules.specs.declared.sid.Csid.TheVariants.{Plain, Next, Replace}

@@ -1,4 +1,4 @@
--- SIDs executed one after the other on a packet, with sends between.
+-- SIDs executed one after the other on a packet, with sends between (RFC 8986 section 4, RFC 9800 section 4).
 use Rattle.std.specs.Prelude.{◌≡◌, ℕ, zero, suc, ◌≤◌, List, [], ◌∷◌, Option, Some, None}
 use Rattle.std.specs.Option.{option_and_then}
 use Rattle.srv6_rules.specs.declared.sid.SidEntry.{SidEntry}

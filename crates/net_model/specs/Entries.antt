@@ -1,4 +1,4 @@
--- What the entries of a node's table are, by what they are.
+-- What the entries of a node's table are, by what they are (own rule).
 use Rattle.std.specs.Prelude.{◌≡◌, ℕ, true, slice_get, Some}
 use Rattle.v6_addr.specs.Address.{PrefixValue}
 use Rattle.srv6_rules.specs.declared.family.Family.{Family}

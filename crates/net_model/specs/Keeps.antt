@@ -1,4 +1,4 @@
--- What holds of a network that keeps the rules, fact by fact.
+-- What holds of a network that keeps the rules, fact by fact (own rule).
 use Rattle.std.specs.Prelude.{◌≡◌, ◌≢◌, ◌⊎◌, ℕ, ◌+◌, ◌%◌, ◌<◌, ◌≤◌, ◌^◌, true, false, count_by, List, [], length, slice_get, Option, Some, None, IfSome, MatchBool, IsTrue, Contains}
 use Rattle.v6_addr.specs.Address.{PrefixValue, IsPrefix, Holds, IsInside}
 use Rattle.v6_addr.specs.declared.address.Addr.{Addr}

@@ -1,4 +1,5 @@
--- The tables in which addresses are looked up: one for each node, table number and family that has entries.
+-- The tables in which addresses are looked up: one for each node, table number and family that has entries (RFC 8986 sections 4.3 and 4.6
+-- to 4.8; one for each number is an own rule).
 use Rattle.std.specs.List.{filter}
 use Rattle.std.specs.Prelude.{slice_get, ◌≡◌, ◌↔◌, ℕ, ◌+◌, Bool, true, ◌==◌, ◌&&◌, if◌then◌else◌, List, [], ◌∷◌, ◌++◌, Option, Some, None}
 use Rattle.std.specs.Option.{unwrap_or}

@@ -1,4 +1,4 @@
--- SIDs that share a title, for the test that each title stands at one SID.
+-- SIDs that share a title, for the test that each title stands at one SID (own rule).
 use Rattle.std.specs.Prelude.{ℕ, Bool, false, ◌==◌, Option, Some, None}
 use Rattle.srv6_rules.specs.declared.sid.SidEntry.{SidEntry}
 

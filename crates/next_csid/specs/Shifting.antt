@@ -1,4 +1,4 @@
--- A packet's bytes before and after a shift.
+-- A packet's bytes before and after a shift (RFC 9800 section 4.1).
 use Rattle.std.specs.Prelude.{◌≡◌, ℕ, List, Some, None}
 use Rattle.srv6_rules.specs.declared.compression.Compression.{Compression}
 use Rattle.srv6_rules.specs.declared.reason.Reason.TheVariants as reasons

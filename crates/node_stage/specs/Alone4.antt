@@ -1,4 +1,4 @@
--- An IPv4 packet in bytes that spell it.
+-- An IPv4 packet in bytes that spell it (RFC 791 section 3.1).
 use Rattle.std.specs.Prelude.{◌≡◌, ℕ, List, length}
 use Rattle.srv6_rules.specs.Packet4.{total_len}
 use Rattle.ip6_headers.specs.Reading4.{HoldsPacket4}

@@ -1,4 +1,4 @@
--- Packets with spare bytes in front of them, and what is spare after a stage.
+-- Packets with spare bytes in front of them, and what is spare after a stage (own rule).
 use Rattle.std.specs.Prelude.{ℕ, ◌+◌, ◌-◌, max, List, length, slice_get, Option, Some, None}
 use Rattle.srv6_rules.specs.declared.sid.Behaviour.{Behaviour}
 use Rattle.srv6_rules.specs.declared.sid.SidEntry.{SidEntry}

@@ -1,4 +1,4 @@
--- Frames that are lent from the bytes of a capture.
+-- Frames that are lent from the bytes of a capture (own rule).
 use Rattle.pcap_io.specs.declared.frame.Body.{Body}
 use Rattle.pcap_io.specs.declared.frame.Body.TheVariants as bodies
 use Rattle.pcap_io.specs.declared.lent.LentBody.{LentBody}

@@ -1,4 +1,4 @@
--- A capture that is fed in pieces: what its reader lends, and calls one after the other.
+-- A capture that is fed in pieces: what its reader lends, and calls one after the other (own rule).
 use Rattle.std.specs.Prelude.{◌≡◌, ℕ, ◌+◌, ◌-◌, List, [], ◌∷◌, ◌++◌, Option, Some, None, Result, Ok, Err}
 use Rattle.pcap_io.specs.declared.fault.FrameLimit.{FrameLimit}
 use Rattle.pcap_io.specs.declared.frame.Frame.{Frame}

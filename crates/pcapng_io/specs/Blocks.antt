@@ -1,5 +1,5 @@
 -- The blocks of a pcapng file (draft-ietf-opsawg-pcapng sections 3.1 and 4): type, total length, body, and the total length
--- once more, 4 bytes each but the body. Numbers have the byte order of their section; offsets count from the block's first byte.
+-- once more, 4 bytes each but the body. Numbers have the byte order of their section; offsets count from the block's first byte (own rule).
 use Rattle.std.specs.Prelude.{ℕ, ◌+◌, ◌-◌, ◌*◌, ◌/◌, ◌%◌, min, ◌==◌, ◌&&◌, nat_lt, nat_le, if◌then◌else◌, Bool, true, false, List, [], length, take, drop, slice_get, Option, Some, None, Result, Ok, Err}
 use Rattle.pcap_io.specs.declared.fault.CaptureFault.{CaptureFault}
 use Rattle.pcap_io.specs.declared.frame.Body.{Body}

@@ -1,4 +1,4 @@
--- What the marks of a reader in its input stand for, and what passing blocks leaves of them.
+-- What the marks of a reader in its input stand for, and what passing blocks leaves of them (own rule).
 use Rattle.std.specs.Prelude.{◌≡◌, ℕ, ◌+◌, ◌*◌, ◌<◌, ◌≤◌, ◌^◌, List, [], ◌∷◌, ◌++◌, length, drop, Option, Some, None, Result, Ok, Err}
 use Rattle.pcap_io.specs.declared.frame.Frame.{Frame}
 use Rattle.pcap_io.specs.declared.numbers.TheConstants.{MAX_FRAMES}

@@ -1,4 +1,4 @@
--- The frames of a file that stands in memory whole, one by one.
+-- The frames of a file that stands in memory whole, one by one (own rule).
 use Rattle.std.specs.Prelude.{◌≡◌, ℕ, ◌+◌, ◌≤◌, ◌<◌, List, [], ◌∷◌, length, Result, Ok, Err, ⊤}
 use Rattle.base.specs.declared.no_memory.NoMemory.{NoMemory}
 use Rattle.pcap_io.specs.declared.frame.Frame.{Frame}

@@ -1,4 +1,4 @@
--- Calls of a reader one after the other, however the bytes are cut into pieces.
+-- Calls of a reader one after the other, however the bytes are cut into pieces (own rule).
 use Rattle.std.specs.Prelude.{◌≡◌, ℕ, List, [], ◌∷◌, ◌++◌, Some, None, Ok}
 use Rattle.pcap_io.specs.declared.frame.Frame.{Frame}
 use Rattle.pcapng_io.specs.Taking.{NgSeen, after_feed, Takes}

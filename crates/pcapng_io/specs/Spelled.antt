@@ -1,5 +1,5 @@
 -- How a pcapng file is spelled: one section with one interface, and enhanced packets of it (draft-ietf-opsawg-pcapng sections
--- 3.1 and 4.1 to 4.3).
+-- 3.1 and 4.1 to 4.3) (own rule).
 use Rattle.std.specs.Prelude.{◌≡◌, ℕ, ◌+◌, ◌%◌, ◌^◌, ◌<◌, nat_lt, if◌then◌else◌, Bool, Option, List, [], ◌∷◌, ◌++◌, length}
 use Rattle.std.specs.List.{flat_map}
 use Rattle.pcap_io.specs.declared.frame.Frame.{Frame}

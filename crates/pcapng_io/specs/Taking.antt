@@ -1,4 +1,4 @@
--- What is seen of a reader, and what its calls give.
+-- What is seen of a reader, and what its calls give (own rule).
 use Rattle.std.specs.Prelude.{◌≡◌, ℕ, ◌+◌, List, [], ◌∷◌, ◌++◌, length, Option, Some, None, Result, Ok, Err}
 use Rattle.pcap_io.specs.declared.frame.Frame.{Frame}
 use Rattle.pcapng_io.specs.declared.fault.NgFault.{NgFault}

@@ -1,4 +1,4 @@
--- What a packet buffer holds: the packet's bytes, and how many bytes are spare in front of them.
+-- What a packet buffer holds: the packet's bytes, and how many bytes are spare in front of them (own rule).
 use Rattle.std.specs.Prelude.{ℕ, List}
 
 pub record Buffer : Type 0 where

@@ -1,4 +1,4 @@
--- What a packet buffer ends as, where its bytes are lent.
+-- What a packet buffer ends as, where its bytes are lent (own rule).
 use Rattle.std.specs.Prelude.{ℕ, List, ◌++◌, length, take, drop}
 use Rattle.std.specs.Borrow.{Lends, MutBor, Fml, Array, u8}
 use Rattle.pkt_buf.specs.BufferView.{Buffer}

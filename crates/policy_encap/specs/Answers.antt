@@ -1,4 +1,4 @@
--- What is answered where a policy's header is put in front of a packet, by what comes of it.
+-- What is answered where a policy's header is put in front of a packet, by what comes of it (RFC 8986 section 5).
 use Rattle.std.specs.Prelude.{◌≡◌, ℕ, Bool, if◌then◌else◌, List, length, Option, Some, None, Result, Ok, Err}
 use Rattle.srv6_rules.specs.Packet.{Packet, Spells}
 use Rattle.srv6_rules.specs.Policies.{Encapsulating, Outer, TooBig, InnerHop}

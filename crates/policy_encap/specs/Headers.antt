@@ -1,4 +1,4 @@
--- The headers that a policy puts in front of a packet.
+-- The headers that a policy puts in front of a packet (RFC 8986 section 5).
 use Rattle.std.specs.Prelude.{ℕ, Bool, ◌+◌, ◌*◌, ◌^◌, ◌<◌, ◌==◌, if◌then◌else◌, List, length, drop, map, slice_index}
 use Rattle.v6_addr.specs.declared.address.Addr.{Addr}
 use Rattle.srv6_rules.specs.declared.numbers.TheConstants.{SEGMENT_LIST_AT, SEGMENT_LEN}

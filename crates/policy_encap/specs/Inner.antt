@@ -1,4 +1,4 @@
--- The packet that is encapsulated, in bytes.
+-- The packet that is encapsulated, in bytes (RFC 8986 section 5).
 use Rattle.std.specs.Prelude.{◌≡◌, ℕ, ◌+◌, List, length}
 use Rattle.srv6_rules.specs.declared.family.Family.{Family}
 use Rattle.srv6_rules.specs.declared.family.Family.TheVariants.{V6, V4}

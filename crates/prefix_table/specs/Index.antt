@@ -1,4 +1,4 @@
--- Where the entries of a table stand, by the lengths and the first bits of their prefixes.
+-- Where the entries of a table stand, by the lengths and the first bits of their prefixes (own rule).
 use Rattle.std.specs.Prelude.{◌≡◌, ℕ, ◌-◌, ◌/◌, ◌^◌, ◌<◌, ◌≤◌, nat_lt, if◌then◌else◌, cond, option_map, List, length, slice_get, slice_index, Option, Some, None, IsSome}
 use Rattle.std.specs.declared.cmp.Ordering.{Ordering}
 use Rattle.std.specs.Ordering.{nat_cmp, ordering_then, is_eq}

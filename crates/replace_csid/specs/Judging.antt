@@ -1,4 +1,4 @@
--- What is judged of a segment routing header.
+-- What is judged of a segment routing header (RFC 9800 section 4.2).
 use Rattle.std.specs.Prelude.{◌≡◌, ℕ, ◌<◌}
 use Rattle.srv6_rules.specs.Packet.{Packet}
 use Rattle.srv6_rules.specs.CompressedSteps.{Move, ReplaceStep, Moved, AtEnd, Dropped, moved}

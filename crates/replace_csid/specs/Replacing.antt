@@ -1,4 +1,4 @@
--- A packet's bytes before and after the step over its segment routing header.
+-- A packet's bytes before and after the step over its segment routing header (RFC 9800 section 4.2).
 use Rattle.std.specs.Prelude.{◌≡◌, ◌≢◌, ℕ, ◌+◌, ◌-◌, Bool, List, slice_set, Option, Some, None}
 use Rattle.srv6_rules.specs.declared.compression.Compression.{Compression}
 use Rattle.srv6_rules.specs.Packet.{Packet, V6, content_of, packet_at}

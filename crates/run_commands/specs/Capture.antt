@@ -1,4 +1,4 @@
--- Which frames the capture that is written has: those of packets that are sent, and of ICMPv6 errors.
+-- Which frames the capture that is written has: those of packets that are sent, and of ICMPv6 errors (own rule).
 use Rattle.std.specs.Prelude.{ℕ, ◌+◌, ◌<◌, ◌≤◌, List, [], length, Option, None, Some, ⊤}
 use Rattle.std.specs.List.{flat_map}
 use Rattle.pcap_io.specs.Capture.{written_frame_bytes}

@@ -1,4 +1,4 @@
--- The command `run`: the packets of the input, from a node of the network that a file describes, in the order of a schedule.
+-- The command `run`: the packets of the input, from a node of the network that a file describes, in the order of a schedule (own rule).
 use Rattle.std.specs.Prelude.{◌≡◌, ℕ, Bool, true, false, List, [], ◌∷◌, codes, Option, Some, None, Result, Ok, Err, IsSomeAnd, is_ok}
 use Rattle.pcap_io.specs.declared.frame.Frame.{Frame}
 use Rattle.net_model.specs.Network.{Network}

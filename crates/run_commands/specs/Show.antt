@@ -1,4 +1,4 @@
--- The command `show`: the headers of the packets of the input, as lines.
+-- The command `show`: the headers of the packets of the input, as lines (own rule).
 use Rattle.std.specs.Prelude.{◌≡◌, ℕ, Bool, true, false, List, [], ◌∷◌, ◌++◌, codes}
 use Rattle.std.specs.List.{flat_map}
 use Rattle.std.specs.Str.{bytes_eq}

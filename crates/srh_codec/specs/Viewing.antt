@@ -1,4 +1,4 @@
--- The segment routing header that a view shows.
+-- The segment routing header that a view shows (RFC 8754 section 2).
 use Rattle.std.specs.Prelude.{◌≡◌, ◌+◌, ◌*◌, ◌^◌, ◌<◌, length, slice_index, All}
 use Rattle.srv6_rules.specs.declared.numbers.TheConstants.{EXTENSION_UNIT, EXTENSION_LEN_AT}
 use Rattle.srv6_rules.specs.Srh.{Srh, srh_of}

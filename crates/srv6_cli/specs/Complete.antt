@@ -1,4 +1,4 @@
--- A call over files that are sure and hold what the command comes to.
+-- A call over files that are sure and hold what the command comes to (own rule).
 use Rattle.std.specs.Prelude.{◌≡◌, ◌⊎◌, ℕ, IsTrue, IsSome, IsSomeAnd, List, [], ◌∷◌, ⊤}
 use Rattle.srx_edge.specs.Edge.{next_count, file_named}
 use Rattle.srx_edge.specs.FilesRead.{FilesSeen}

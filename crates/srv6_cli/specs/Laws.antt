@@ -1,4 +1,4 @@
--- What `Serves` says of each fault and of each want of memory in a sink by itself.
+-- What `Serves` says of each fault and of each want of memory in a sink by itself (own rule).
 use Rattle.std.specs.Prelude.{◌≡◌, ◌≢◌, ◌⊎◌, ℕ, true, IsTrue, List, []}
 use Rattle.srx_edge.specs.Edge.{next_count}
 use Rattle.srx_edge.specs.Fakes.{FilesState, SureSinkState, SureSourceState, sure_sink_seen, sure_source_seen}

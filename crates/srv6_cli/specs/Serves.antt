@@ -1,4 +1,4 @@
--- What a call of `serve` leaves.
+-- What a call of `serve` leaves (own rule).
 use Rattle.std.specs.Prelude.{◌≡◌, true}
 use Rattle.srx_edge.specs.Sources.{drained}
 use Rattle.command_output.specs.declared.status.Status.{Status}

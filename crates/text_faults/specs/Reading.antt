@@ -1,4 +1,4 @@
--- What reading a text gives: a value, or the first fault F.
+-- What reading a text gives: a value, or the first fault F (own rule).
 use Rattle.std.specs.Prelude.{◌≡◌, Result, Ok, Err}
 use Rattle.text_faults.specs.declared.fault.OrNoMemory.{OrNoMemory}
 use Rattle.text_faults.specs.declared.fault.OrNoMemory.TheVariants.{Fault}

@@ -1,4 +1,4 @@
--- What reading gives: a value, or the first fault. What follows a value is the same for every kind of fault F.
+-- What reading gives: a value, or the first fault. What follows a value is the same for every kind of fault F (own rule).
 use Rattle.std.specs.Prelude.{ℕ, List, Option, Some, None, Result, Ok, Err, if◌then◌else◌}
 use Rattle.std.specs.Str.{is_utf8}
 use Rattle.toml.specs.Data.{Members}

@@ -1,4 +1,4 @@
--- The command `replay`: the trace of a file, run again in the network that another describes.
+-- The command `replay`: the trace of a file, run again in the network that another describes (own rule).
 use Rattle.std.specs.Prelude.{◌≡◌, ℕ, true, false, List, [], ◌∷◌, ◌++◌, codes, Option, Some, None, Result, Ok, Err, IsSomeAnd, ⊤}
 use Rattle.std.specs.Fmt.{decimal}
 use Rattle.net_model.specs.Network.{Network}

@@ -1,4 +1,4 @@
--- What `replay` says of the text that `trace` writes.
+-- What `replay` says of the text that `trace` writes (own rule).
 use Rattle.std.specs.Prelude.{◌≡◌, ◌↔◌, ℕ, ◌+◌, ◌^◌, ◌<◌, ◌≤◌, All, List, [], length, Some, Ok}
 use Rattle.net_model.specs.Network.{Network}
 use Rattle.trace_replay.specs.declared.verdict.Replayed.{Replayed}

@@ -1,4 +1,4 @@
--- The command `trace`: the walks of the packets of the input, from a node of the network that a file describes, as text.
+-- The command `trace`: the walks of the packets of the input, from a node of the network that a file describes, as text (own rule).
 use Rattle.std.specs.Prelude.{◌≡◌, ℕ, false, List, [], ◌∷◌, codes, Option, Some, None, IsSomeAnd, true}
 use Rattle.std.specs.List.{flat_map}
 use Rattle.pcap_io.specs.declared.frame.Body.{Body}

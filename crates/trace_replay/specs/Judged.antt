@@ -1,4 +1,4 @@
--- A stage's line, judged by what each choice gives.
+-- A stage's line, judged by what each choice gives (own rule).
 use Rattle.std.specs.Prelude.{◌≡◌, ℕ, List, Option, Some, None, string_bytes}
 use Rattle.srv6_rules.specs.Packet.{Content}
 use Rattle.net_model.specs.Network.{Network}

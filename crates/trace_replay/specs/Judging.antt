@@ -1,4 +1,4 @@
--- What the code's judgements say.
+-- What the code's judgements say (own rule).
 use Rattle.std.specs.Prelude.{◌≡◌, List, ℕ, Some, None, Result, Ok, Err}
 use Rattle.net_model.specs.Network.{Network}
 use Rattle.walk_rules.specs.Relation.{IsPlace}

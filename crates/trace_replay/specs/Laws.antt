@@ -1,4 +1,4 @@
--- What the laws about traces say, in words.
+-- What the laws about traces say, in words (own rule).
 use Rattle.std.specs.Prelude.{◌≡◌, ℕ, List, [], ◌∷◌, ◌++◌, map, Option, Some, None, Result, Ok, Err}
 use Rattle.srv6_rules.specs.Packet.{Content, Packet, bytes_of}
 use Rattle.icmp6_errors.specs.Answer.{error_bytes}

@@ -1,4 +1,4 @@
--- Outcomes whose numbers are those of a network's items.
+-- Outcomes whose numbers are those of a network's items (own rule).
 use Rattle.std.specs.Prelude.{◌<◌, length}
 use Rattle.net_model.specs.Network.{Network}
 use Rattle.walk_rules.specs.declared.place.Outcome.{Outcome}

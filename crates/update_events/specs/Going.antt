@@ -1,4 +1,4 @@
--- Packets and tables on their way, as the code holds them.
+-- Packets and tables on their way, as the code holds them (own rule).
 use Rattle.std.specs.Prelude.{◌≡◌, ℕ, ◌+◌, ◌<◌, ◌^◌, Bool, true, false, List, [], ◌∷◌, length, slice_get, Option, Some, None, is_some}
 use Rattle.net_model.specs.Network.{Network}
 use Rattle.packet_walk.specs.Flight.{InFlight, IsNumber, packet_in, with_front}

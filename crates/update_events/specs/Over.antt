@@ -1,4 +1,4 @@
--- What is there after events.
+-- What is there after events (own rule).
 use Rattle.std.specs.Prelude.{◌≡◌, ℕ, true, List, [], ◌∷◌, slice_get}
 use Rattle.update_flight.specs.declared.edit.Edit.TheVariants.{Finished}
 use Rattle.update_flight.specs.Transition.{next_edit}

@@ -1,4 +1,4 @@
--- The entries of a description as they are compared: a title goes by its number in the description's own list.
+-- The entries of a description as they are compared: a title goes by its number in the description's own list (own rule).
 use Rattle.std.specs.Prelude.{◌≡◌, ◌≢◌, ℕ, ◌+◌, ◌-◌, ◌<◌, ◌^◌, Bool, true, not, List, [], ◌∷◌, ◌++◌, length, slice_get, Option, None, option_and_then, Result, Ok, Err}
 use Rattle.srv6_rules.specs.declared.family.Family.TheVariants as families
 use Rattle.srv6_rules.specs.declared.sid.SidEntry.{SidEntry}

@@ -1,4 +1,4 @@
--- What tells a route from others, in an order, so that a map can give the number of a route.
+-- What tells a route from others, in an order, so that a map can give the number of a route (own rule).
 use Rattle.std.specs.Prelude.{◌≡◌, ℕ, Bool, true, false, List, slice_get, Option, Some, None}
 use Rattle.std.specs.List.{list_any}
 use Rattle.std.specs.declared.cmp.Ordering.{Ordering}

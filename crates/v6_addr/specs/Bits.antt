@@ -1,4 +1,4 @@
--- The bits of numbers. `rest` is how many bits stand after the ones that are meant
+-- The bits of numbers. `rest` is how many bits stand after the ones that are meant (own rule).
 use Rattle.std.specs.Prelude.{ℕ, ◌+◌, ◌*◌, ◌/◌, ◌%◌, ◌^◌}
 
 -- the number in `width` bits

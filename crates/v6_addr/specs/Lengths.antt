@@ -1,4 +1,4 @@
--- Decimal numbers without leading zeros, and the lengths of prefixes, byte by byte
+-- Decimal numbers without leading zeros, and the lengths of prefixes, byte by byte (own rule).
 use Rattle.std.specs.Prelude.{◌≡◌, ℕ, ◌+◌, ◌-◌, ◌*◌, ◌%◌, ◌^◌, ◌≤◌, ◌==◌, ◌&&◌, nat_le, if◌then◌else◌, List, Option, Some, None, option_map, option_and_then}
 use Rattle.std.specs.Char.{digit_value, is_digit}
 use Rattle.v6_addr.specs.Text.{length_text}

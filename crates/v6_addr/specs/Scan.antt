@@ -1,4 +1,4 @@
--- The texts of addresses byte by byte: what stands before a byte, and what may follow. 58 is the colon
+-- The texts of addresses byte by byte: what stands before a byte, and what may follow. 58 is the colon (RFC 4291 section 2.2).
 use Rattle.std.specs.Prelude.{ℕ, ◌+◌, ◌-◌, ◌==◌, Bool, true, false, nat_lt, if◌then◌else◌, List, [], ◌∷◌, Option, Some, None, option_and_then}
 use Rattle.std.specs.Char.{is_digit}
 use Rattle.v6_addr.specs.declared.scan.Scanned.{Scanned}

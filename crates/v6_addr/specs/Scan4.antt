@@ -1,4 +1,4 @@
--- The texts of IPv4 addresses byte by byte, and those of prefixes. 46 is the dot, 47 the slash
+-- The texts of IPv4 addresses byte by byte, and those of prefixes. 46 is the dot, 47 the slash (own rule).
 use Rattle.std.specs.Prelude.{ℕ, ◌+◌, ◌*◌, ◌^◌, ◌<◌, ◌≤◌, ◌==◌, nat_le, nat_lt, if◌then◌else◌, List, Option, Some, None, IfSome, option_map, option_and_then}
 use Rattle.v6_addr.specs.declared.scan4.Place4.{Place4}
 use Rattle.std.specs.List.{before_first, after_first}

@@ -1,4 +1,4 @@
--- Inner packets without what stands after their ends, at the headend.
+-- Inner packets without what stands after their ends, at the headend (own rule).
 use Rattle.std.specs.Prelude.{◌≡◌, ℕ, ◌≤◌, List, length}
 use Rattle.srv6_rules.specs.declared.policy.Policy.{Policy}
 use Rattle.srv6_rules.specs.declared.family.Family.{Family}

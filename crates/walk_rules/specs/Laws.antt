@@ -1,4 +1,4 @@
--- What the laws about stages and walks say, in words.
+-- What the laws about stages and walks say, in words (own rule).
 use Rattle.std.specs.Prelude.{◌≡◌, ◌≢◌, ℕ, true, ◌+◌, ◌<◌, List, [], ◌∷◌, slice_get, Option, Some, None, is_some, Contains}
 use Rattle.srv6_rules.specs.declared.family.Family.{Family}
 use Rattle.srv6_rules.specs.declared.sid.SidEntry.{SidEntry}
