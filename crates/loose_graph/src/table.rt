@@ -19,7 +19,7 @@ pub fn entry(table: &[Option<Found>], v: u32) -> Option<Found>
     }
 }
 
-/// what is known of all spots of a set
+/// What is known of all spots of a set. (own rule)
 fn find_over(table: &[Option<Found>], set: &[u32]) -> Option<Found>
     ensures { result ≡ found_over (known_at table.now) set.now }
 {
@@ -38,7 +38,7 @@ fn find_over(table: &[Option<Found>], set: &[u32]) -> Option<Found>
     Some(found)
 }
 
-/// the lowerings of a move
+/// The lowerings of a move. (own rule)
 fn one_if(lowers: bool) -> u32
     ensures value { result ≡ (if lowers then 1 else 0) }
     ensures few { result ≤ 1 }
@@ -46,7 +46,7 @@ fn one_if(lowers: bool) -> u32
     if lowers { 1 } else { 0 }
 }
 
-/// what is known by what a packet meets
+/// What is known by what a packet meets. (own rule)
 fn find_by(table: &[Option<Found>], lowers: bool, spot: &Spot) -> Option<Found>
     requires { AreLow table.now }
     ensures { result ≡ found_by lowers (known_at table.now) spot.now }
@@ -67,7 +67,8 @@ fn find_by(table: &[Option<Found>], lowers: bool, spot: &Spot) -> Option<Found>
     }
 }
 
-/// adds to a table what follows from it for one spot, if that isn't known; says whether it did
+/// Adds to a table what follows from it for one spot, if that isn't known, and says whether it did.
+/// (own rule)
 fn fill(spots: &[Spot], table: &mut [Option<Found>], v: u32) -> bool
     requires one_each { length table.old ≡ length spots.now }
     requires few { length spots.now < 2 ^ 32 }
@@ -87,14 +88,14 @@ fn fill(spots: &[Spot], table: &mut [Option<Found>], v: u32) -> bool
     }
 }
 
-/// one of two is so
+/// Whether one of two is so. (own rule)
 fn either(a: bool, b: bool) -> bool
     ensures { result ≡ (a || b) }
 {
     a || b
 }
 
-/// goes over the spots of an order once; says whether anything was added
+/// Goes over the spots of an order once, and says whether anything was added. (own rule)
 fn go_over(spots: &[Spot], table: &mut [Option<Found>], order: &[u32]) -> bool
     requires one_each { length table.old ≡ length spots.now }
     requires few { length spots.now < 2 ^ 32 }
@@ -108,7 +109,7 @@ fn go_over(spots: &[Spot], table: &mut [Option<Found>], order: &[u32]) -> bool
     added
 }
 
-/// goes over all spots once; says whether anything was added
+/// Goes over all spots once, and says whether anything was added. (own rule)
 fn go_round(spots: &[Spot], table: &mut [Option<Found>]) -> bool
     requires one_each { length table.old ≡ length spots.now }
     requires few { length spots.now < 2 ^ 32 }
@@ -124,7 +125,7 @@ fn go_round(spots: &[Spot], table: &mut [Option<Found>]) -> bool
     added
 }
 
-/// goes over all spots until nothing is added
+/// Goes over all spots until nothing is added. (own rule)
 fn settle(spots: &[Spot], table: &mut [Option<Found>])
     requires one_each { length table.old ≡ length spots.now }
     requires few { length spots.now < 2 ^ 32 }
