@@ -1,12 +1,9 @@
 -- The certificate of what the search found is judged as the list was.
 use Rattle.std.proofs.Common.{◌≡◌, ℕ, Bool, List, [], ◌∷◌, length, Some, Result, Ok, Err, IsOk, refl, sym, ◌∙◌, ap, subst}
 use Rattle.net_model.specs.Network.{Network}
-use Rattle.net_model.specs.Rules.{IsNetwork}
 use Rattle.flat_networks.specs.Flat.{IsFlat, flatness_of}
 use Rattle.flat_networks.specs.declared.not_flat.NotFlat.{NotFlat}
-use Rattle.net_model.proofs.PublicLaws.{keeps_from_network}
 use Rattle.flat_networks.proofs.PublicLaws.{flatness_ok}
-use Rattle.intent_reader.specs.Rules.{IsIntent}
 use Rattle.intent_reader.specs.declared.intent.Intent.{Intent}
 use Rattle.list_pack.specs.declared.types.Container.{Container}
 use Rattle.list_pack.specs.declared.types.Cost.{Cost}
@@ -22,16 +19,12 @@ use Rattle.list_certificate.specs.Certs.{certificate_of}
 use Rattle.list_certificate.specs.Laws.{IsAcceptedBy}
 use Rattle.list_certificate.specs.Verdicts.{IsVerdict}
 use Rattle.list_certificate.proofs.PublicLaws.{solution-accepted}
-use Rattle.leg_table.specs.Realizes.{ListRealizes, ListExecutes, ListHands}
-use Rattle.leg_table.specs.Value.{legs_value}
-use Rattle.leg_table.proofs.FlatNets.{flat-facts}
-use Rattle.leg_table.proofs.PublicLaws.{strict-laws, legs-mean}
 use Rattle.path_compiler.specs.declared.compiled.Compiled.{Compiled}
 use Rattle.list_pack.proofs.PublicLaws.{at_most-both}
 use Rattle.path_compiler.specs.declared.compiled.CompileFault.{CompileFault}
 use Rattle.path_compiler.specs.declared.compiled.CompileFault.TheVariants as faults
-use Rattle.path_compiler.specs.Checked.{Certifies, CertifiesAnswer, CertifiesAnswerOver, CertifiesOver}
-use Rattle.path_compiler.specs.Compiled.{AnswersOver, CompileAnswers, IsChosen, IsFound}
+use Rattle.path_compiler.specs.Checked.{CertifiesAnswerOver, CertifiesOver}
+use Rattle.path_compiler.specs.Compiled.{AnswersOver, IsChosen, IsFound}
 use Rattle.path_compiler.proofs.Answering.{none-realizes}
 use Rattle.path_compiler.proofs.Checking.{under-list}
 
@@ -91,27 +84,3 @@ module _ (v : LegsValue) (net : Network) (Realizes Executes Hands : List Contain
   certifies-by intent (Err (faults.HopLimit c)) answers =
       found-certified intent.reduced c (flat-by net answers.whole answers.flat) answers.found
   certifies-by intent (Err faults.NoMemory) answers = tt
-
--- over the strict steps of an intent
-
-strict : (net : Network) (intent : Intent) → IsNetwork net → IsFlat net → IsIntent net intent → KeepsLaws (legs_value net intent)
-strict net intent network flat is = strict-laws net intent (keeps_from_network net network) (flat-facts net network flat) is
-
-pub certifies-found : (net : Network) (intent : Intent) (reduced : Bool) (c : Compiled) → IsNetwork net → IsFlat net
-    → IsIntent net intent → IsFound (legs_value net intent) net (ListRealizes net intent) (ListExecutes net intent) reduced c
-    → Certifies net intent c.solution (Least c.containers c.need)
-certifies-found net intent reduced c network flat is found =
-    verdict-found (legs_value net intent) net (ListRealizes net intent) (ListExecutes net intent) (ListHands net intent)
-    (legs-mean net intent network flat is)
-    (strict net intent network flat is) reduced c found
-
-pub certifies-none : (net : Network) (intent : Intent) (s : Solution) → IsNetwork net → IsFlat net → IsIntent net intent
-    → IsSolution (legs_value net intent) s → s.path ≡ [] → Certifies net intent s NoList
-certifies-none net intent s network flat is solution empty =
-    λ head. verdict-none (legs_value net intent) s head (strict net intent network flat is) solution empty
-
-pub certifies-answer : (net : Network) (intent : Intent) (answer : Result Compiled CompileFault) → IsNetwork net → IsIntent net intent
-    → CompileAnswers net intent answer → CertifiesAnswer net intent answer
-certifies-answer net intent answer network is answers =
-    certifies-by (legs_value net intent) net (ListRealizes net intent) (ListExecutes net intent) (ListHands net intent)
-    (λ flat. (strict net intent network flat is, legs-mean net intent network flat is)) intent answer answers

@@ -2,9 +2,6 @@
 use Rattle.std.proofs.Common.{◌≡◌, ℕ, ◌<◌, ◌≤◌, arith, Bool, List, length, map, Result, Ok, Err, sym, ◌∙◌, subst}
 use Rattle.srv6_rules.specs.Encapsulation.{header_bytes}
 use Rattle.net_model.specs.Network.{Network}
-use Rattle.net_model.specs.Rules.{IsNetwork}
-use Rattle.flat_networks.specs.Flat.{IsFlat}
-use Rattle.intent_reader.specs.Rules.{IsIntent}
 use Rattle.intent_reader.specs.declared.intent.Intent.{Intent}
 use Rattle.list_pack.specs.declared.types.Container.{Container}
 use Rattle.list_pack.specs.Costs.{AtMost}
@@ -16,13 +13,10 @@ use Rattle.list_pack.specs.SidLists.{IsLegalList}
 use Rattle.list_pack.specs.Value.{LegsValue}
 use Rattle.list_certificate.specs.declared.types.Verdict.{Verdict}
 use Rattle.list_certificate.specs.declared.types.Verdict.TheVariants.{Least, NoList, No}
-use Rattle.leg_table.specs.Realizes.{ListRealizes, ListExecutes, ListHands}
-use Rattle.leg_table.specs.Value.{legs_value}
-use Rattle.leg_table.proofs.PublicLaws.{legs-mean}
 use Rattle.path_compiler.specs.declared.compiled.Compiled.{Compiled}
 use Rattle.path_compiler.specs.declared.compiled.CompileFault.{CompileFault}
 use Rattle.path_compiler.specs.declared.compiled.CompileFault.TheVariants as faults
-use Rattle.path_compiler.specs.Checked.{Says, SaysOfHanding, SaysOver}
+use Rattle.path_compiler.specs.Checked.{Says, SaysOver}
 use Rattle.path_compiler.specs.Compiled.{AnswersOver, IsFound, IsLeastOver, NoneLessOver}
 use Rattle.path_compiler.specs.Handing.{IsLeastOfHanding, NoneHandsOver}
 
@@ -80,10 +74,3 @@ module _ (v : LegsValue) (net : Network) (Realizes Executes Hands : List Contain
   says-over (Least containers need) says = least-of-handing containers need says.least
   says-over NoList says = none-of-handing says
   says-over (No line why) says = tt
-
--- over the strict steps of an intent
-pub says-handing : (net : Network) (intent : Intent) → IsNetwork net → IsFlat net → IsIntent net intent → (verdict : Verdict)
-    → Says net (ListRealizes net intent) (ListExecutes net intent) verdict → SaysOfHanding net intent verdict
-says-handing net intent network flat is verdict says =
-    says-over (legs_value net intent) net (ListRealizes net intent) (ListExecutes net intent) (ListHands net intent)
-    (legs-mean net intent network flat is) verdict says

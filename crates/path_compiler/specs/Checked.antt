@@ -1,4 +1,4 @@
--- What the verdict on a certificate says of lists.
+-- What the verdict on a certificate says of lists. (own rule)
 use Rattle.std.specs.Prelude.{◌≡◌, ℕ, List, length, Result, Ok, Err}
 use Rattle.net_model.specs.Network.{Network}
 use Rattle.intent_reader.specs.declared.intent.Intent.{Intent}
@@ -13,7 +13,6 @@ use Rattle.list_certificate.specs.declared.types.Verdict.TheVariants.{Least, NoL
 use Rattle.list_certificate.specs.Certs.{certificate_of}
 use Rattle.list_certificate.specs.Verdicts.{IsVerdict}
 use Rattle.leg_table.specs.Realizes.{ListHands}
-use Rattle.leg_table.specs.Value.{legs_value}
 use Rattle.path_compiler.specs.declared.compiled.Compiled.{Compiled}
 use Rattle.path_compiler.specs.declared.compiled.CompileFault.{CompileFault}
 use Rattle.path_compiler.specs.declared.compiled.CompileFault.TheVariants as compile_faults
@@ -42,6 +41,7 @@ SaysOver net Hands (Least containers need) = IsLeastOfHanding net Hands containe
 SaysOver net Hands NoList = NoneHandsOver net Hands
 SaysOver net Hands (No line why) = Unit {0}
 
+-- over the strict steps of an intent
 abbrev pub SaysOfHanding : Network → Intent → Verdict → Type 0
 SaysOfHanding net intent verdict = SaysOver net (ListHands net intent) verdict
 
@@ -58,11 +58,3 @@ CertifiesAnswerOver v (Err (compile_faults.NoList s)) = CertifiesOver v s NoList
 CertifiesAnswerOver v (Err (compile_faults.TooLong found)) = CertifiesOver v found.solution (Least found.containers found.need)
 CertifiesAnswerOver v (Err (compile_faults.HopLimit found)) = CertifiesOver v found.solution (Least found.containers found.need)
 CertifiesAnswerOver v (Err compile_faults.NoMemory) = Unit {0}
-
--- over the strict steps of an intent
-
-abbrev pub Certifies : Network → Intent → Solution → Verdict → Type 0
-Certifies net intent s verdict = CertifiesOver (legs_value net intent) s verdict
-
-abbrev pub CertifiesAnswer : Network → Intent → Result Compiled CompileFault → Type 0
-CertifiesAnswer net intent answer = CertifiesAnswerOver (legs_value net intent) answer

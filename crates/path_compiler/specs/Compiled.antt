@@ -1,4 +1,5 @@
--- What an intent is compiled to, and when it is refused.
+-- What an intent is compiled to, and when it is refused. (own rule; containers are those of RFC 9800 sections 6.2 to 6.4, the header is
+-- that of RFC 8986 sections 5.1 and 5.2)
 use Rattle.std.specs.Prelude.{◌≡◌, ℕ, ◌<◌, ◌≤◌, Bool, false, List, [], length, slice_get, Some, Result, Ok, Err}
 use Rattle.std.specs.Option.{option_map}
 use Rattle.srv6_rules.specs.Encapsulation.{header_bytes}
@@ -105,15 +106,10 @@ AnswersOver v net Realizes Executes intent (Err (faults.TooLong c)) = IsTooLong 
 AnswersOver v net Realizes Executes intent (Err (faults.HopLimit c)) = IsOverHopLimit v net Realizes Executes intent c
 AnswersOver v net Realizes Executes intent (Err faults.NoMemory) = Unit {0}
 
--- over the strict steps of an intent
-
+-- over the strict steps of an intent, which the laws of `intent_legs` compare with
 abbrev pub CompileAnswers : Network → Intent → Result Compiled CompileFault → Type 0
 CompileAnswers net intent answer =
     AnswersOver (legs_value net intent) net (ListRealizes net intent) (ListExecutes net intent) intent answer
-
--- a list is found in a flat network, and both bounds are kept
-abbrev pub IsCompiled : Network → Intent → Compiled → Type 0
-IsCompiled net intent c = IsKept (legs_value net intent) net (ListRealizes net intent) (ListExecutes net intent) intent c
 
 -- ---- the lists that hand over even one packet
 
@@ -133,9 +129,5 @@ NoneLessOver net Hands reduced (Err (faults.HopLimit c)) = IsLeastOver net Hands
 NoneLessOver net Hands reduced (Err faults.NoMemory) = Unit {0}
 
 -- over the strict steps of an intent
-
-abbrev pub IsLeastOfAll : Network → Intent → Compiled → Type 0
-IsLeastOfAll net intent c = IsLeastOver net (ListHands net intent) intent.reduced c
-
 abbrev pub NoLessHandsOver : Network → Intent → Result Compiled CompileFault → Type 0
 NoLessHandsOver net intent answer = NoneLessOver net (ListHands net intent) intent.reduced answer

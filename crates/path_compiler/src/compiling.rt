@@ -1,23 +1,21 @@
-//! Path intents compiled to least lists of segments.
+//! Least lists of segments over legs.
 
 ghost use Rattle.std.specs.Prelude.{◌≡◌, ◌<◌, [], length, slice_get, Some, IfOk, Ok};
 ghost use Rattle.std.specs.Option.{option_map};
 ghost use Rattle.flat_networks.specs.Flat.{flatness_of};
-ghost use Rattle.intent_reader.specs.Rules.{IsIntent};
 ghost use Rattle.list_pack.specs.Least.{IsSolution};
-ghost use Rattle.path_compiler.specs.Compiled.{AnswersOver, CompileAnswers, IsFound, IsListIn, NoLessHandsOver, NoneLessOver, cost_in};
+ghost use Rattle.path_compiler.specs.Compiled.{AnswersOver, IsFound, IsListIn, NoneLessOver, cost_in};
 
 use crate::compiled::{CompileFault, Compiled};
 use base::NoMemory;
-use flat_networks::compilable;
 use intent_reader::Intent;
-use leg_table::StrictLegs;
 use list_encoder::solve;
 use list_pack::{Cost, ListLegs, Potential, Solution, header_bytes, list_of};
 use net_model::Net;
 use std::alloc::Global;
 
-/// the cost of the state that is listed first: the start, where a path leads from it to the end
+/// The cost of the state that is listed first: the start, where a path leads from it to the end.
+/// (own rule)
 fn first_cost(potentials: &[Potential]) -> Cost
     requires { 0 < length potentials.now }
     ensures { option_map cost_in (slice_get potentials.now 0) ≡ Some result }
@@ -25,7 +23,7 @@ fn first_cost(potentials: &[Potential]) -> Cost
     potentials[0].cost
 }
 
-/// the list of a solution's path, with its numbers
+/// The list of a solution's path, with its numbers. (own rule)
 fn compiled_of(
     alloc: Global,
     net: &Net,
@@ -46,7 +44,7 @@ fn compiled_of(
     })
 }
 
-/// the chosen list, where there is a path
+/// The chosen list, where there is a path. (own rule)
 fn found_over<L: ListLegs>(
     alloc: Global,
     net: &Net,
@@ -64,7 +62,7 @@ fn found_over<L: ListLegs>(
     compiled_of(alloc, net, reduced, solution)
 }
 
-/// the answer over any legs of a flat network
+/// The answer over any legs of a flat network. (own rule)
 fn answer_over<L: ListLegs>(
     alloc: Global,
     net: &Net,
@@ -123,28 +121,4 @@ pub fn compile_over<L: ListLegs>(
 {
     legs.keeps_meaning();
     answer_over(alloc, net, intent, legs)
-}
-
-/// Compiles an intent that keeps the rules in a network, of which nothing is hidden, to the least
-/// legal list of SIDs that takes each packet of the intent along exactly its steps, whichever equal
-/// next hop is chosen, by `compile_over` over the legs of its strict steps. `NotFlat` comes exactly
-/// where the network is not flat, before all other answers. Of the legal lists that hand over even
-/// one inner packet at one hop limit so, none needs fewer header bytes than the list that is found,
-/// nor has fewer containers, or as many at a hop limit that is not above its need; where none is
-/// found there are none of them. (own rule)
-pub fn compile(alloc: Global, net: &Net, intent: &Intent) -> Result<Compiled, CompileFault>
-    requires whole { net.now.hidden ≡ [] }
-    requires intent { IsIntent net.now intent.now }
-    ensures answer { CompileAnswers net.now intent.now result }
-    ensures handing { NoLessHandsOver net.now intent.now result }
-{
-    net.keeps_rules();
-    match compilable(alloc, net) {
-        Err(why) => return Err(CompileFault::NotFlat(why)),
-        Ok(()) => {}
-    }
-    match StrictLegs::build(alloc, net, intent) {
-        Ok(legs) => compile_over(alloc, net, intent, &legs),
-        Err(NoMemory) => Err(CompileFault::NoMemory),
-    }
 }
