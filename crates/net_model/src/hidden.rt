@@ -1,6 +1,6 @@
 //! Entries that are hidden, and what stands on their prefixes without them.
 
-ghost use Rattle.std.specs.Prelude.{◌≡◌, ◌↔◌, ℕ, ◌<◌, ◌^◌, [], length, slice_index_or, false, IsTrue, IfOk, OnOk, OnErr, Some};
+ghost use Rattle.std.specs.Prelude.{◌≡◌, ◌↔◌, ◌<◌, ◌^◌, [], length, slice_index_or, false, IsTrue, IfOk, OnOk, OnErr, Some};
 ghost use Rattle.prefix_table.specs.Table.{HasPrefix};
 ghost use Rattle.net_model.specs.Network.{CanHide, HasFlags, IsMarked, hidden_hits, is_shown, network_of, network_with};
 ghost use Rattle.std.specs.BTreeMap.{IsUnchanged};

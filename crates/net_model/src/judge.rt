@@ -1,12 +1,10 @@
 //! The first fault of the parts of a network: each function gives exactly that of its definition.
 
-ghost use Rattle.std.specs.Prelude.{◌≡◌, ◌-◌, ◌<◌, ◌^◌, ℕ, Bool, List, [], ◌∷◌, length, not, if◌then◌else◌, Result, Ok, Err};
-ghost use Rattle.std.specs.List.{list_any, list_all};
+ghost use Rattle.std.specs.Prelude.{◌≡◌, ◌-◌, ◌<◌, ◌^◌, List, [], length, if◌then◌else◌, Result, Ok, Err};
+ghost use Rattle.std.specs.List.{list_any};
 ghost use Rattle.text_faults.specs.declared.place.FaultPlace.{FaultPlace};
 ghost use Rattle.text_faults.specs.declared.fault.TextFault.{TextFault};
 ghost use Rattle.text_faults.specs.declared.place.TableKind.TheVariants as tables;
-ghost use Rattle.net_model.specs.Network.{network_of};
-ghost use Rattle.net_model.specs.Rules.{starts_at};
 ghost use Rattle.text_faults.specs.Reading.{Gives};
 ghost use Rattle.net_model.specs.Judging.{judged, stands_before, judge_block, judge_node, is_unknown, is_unknown_end, ends_at, judge_link, is_set_of, judge_route_beside, judge_route, judge_policy};
 

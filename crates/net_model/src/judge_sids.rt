@@ -1,23 +1,16 @@
-//! The first fault of the SIDs of a network, and of all its parts.
+//! The first fault of the SIDs of a network.
 
-ghost use Rattle.std.specs.Prelude.{◌≡◌, ◌-◌, ◌<◌, ◌^◌, ℕ, Bool, List, [], ◌∷◌, length, slice_get, not, Option, option_map, Result, Ok, Err};
-ghost use Rattle.text_faults.specs.declared.fault.TextFault.{TextFault};
-ghost use Rattle.text_faults.specs.declared.place.TableKind.TheVariants as tables;
+ghost use Rattle.std.specs.Prelude.{◌≡◌, slice_get, option_map};
 ghost use Rattle.net_model.specs.Network.{network_of};
-ghost use Rattle.text_faults.specs.Reading.{Gives};
-ghost use Rattle.net_model.specs.Judging.{InRange, same_answer, fitting, standing_or, suits_keys, is_unknown_policy, same_text, title_text, same_title_text, stands_before, is_full, judge_joins, suits_compression, judge_flavours, judge_apart, judge_sid, judging};
+ghost use Rattle.net_model.specs.Judging.{fitting, standing_or, suits_keys, is_unknown_policy, title_text, same_title_text, stands_before, is_full, judge_joins, suits_compression, judge_flavours, judge_apart, judge_sid};
 
-use crate::judge::{
-    BlockRules, Judge, LinkRules, NodeRules, PolicyRules, RouteRules, has_unknown, is_set_of,
-    is_unknown, judge_all, refuse_if, stands_before,
-};
+use crate::judge::{Judge, has_unknown, is_set_of, is_unknown, refuse_if, stands_before};
 use crate::limits::MAX_SIDS_OF_NODE;
 use crate::parts::{Block, Name, NetParts};
 use crate::rules::{Sids, block_of, same_bytes, suits_block, suits_flavours};
 use crate::standing::Standing;
 use srv6_rules::{Csid, SidEntry};
-use std::alloc::Global;
-use text_faults::{FaultKind, FaultPlace, Key, NetFault, TableKind, TextFault};
+use text_faults::{FaultKind, FaultPlace, Key, TextFault};
 
 /// How a SID stands that has the keys that its behaviour takes, and no flavour twice.
 fn fitting(s: &SidEntry) -> Standing
@@ -190,9 +183,9 @@ fn judge_apart(
 
 /// The tests of SIDs, over these parts.
 #[derive(Drop)]
-struct SidRules<'a> {
-    parts: &'a NetParts,
-    standings: &'a [Standing],
+pub(crate) struct SidRules<'a> {
+    pub(crate) parts: &'a NetParts,
+    pub(crate) standings: &'a [Standing],
 }
 
 impl<'a> Judge<SidEntry> for SidRules<'a> {
@@ -204,30 +197,4 @@ impl<'a> Judge<SidEntry> for SidRules<'a> {
         judge_flavours(self.parts, standing, place, s)?;
         judge_apart(self.parts.titles.as_slice(), before, place, s)
     }
-}
-
-/// The first fault of the parts of a network (own rules).
-#[tactic(auto, using(crate::proofs::JudgingLemmas::few_bound), unfolding(crate::specs::Judging::judging))]
-pub(crate) fn judge_parts(
-    alloc: Global,
-    parts: &NetParts,
-    standings: &[Standing],
-) -> Result<(), NetFault>
-    requires { InRange (network_of parts.now) }
-    ensures { Gives (λ _. tt) result (judging (network_of parts.now) standings.now) }
-{
-    let links = LinkRules {
-        node_count: parts.nodes.len(),
-    };
-    let routes = RouteRules {
-        node_count: parts.nodes.len(),
-        links: parts.links.as_slice(),
-    };
-    let sids = SidRules { parts, standings };
-    judge_all(&BlockRules, TableKind::Block, parts.blocks.as_slice())?;
-    judge_all(&NodeRules, TableKind::Node, parts.nodes.as_slice())?;
-    judge_all(&links, TableKind::Link, parts.links.as_slice())?;
-    routes.judge_all(alloc, parts.routes.as_slice())?;
-    judge_all(&PolicyRules, TableKind::Policy, parts.policies.as_slice())?;
-    Ok(judge_all(&sids, TableKind::Sid, parts.sids.as_slice())?)
 }

@@ -15,6 +15,7 @@
 pub mod figures;
 mod hidden;
 mod judge;
+mod judge_parts;
 mod judge_sids;
 mod laws;
 mod limits;

@@ -3,7 +3,7 @@
 use crate::hidden::{
     Hidden, entry_of, first_shown, hides_nothing, is_shown, mark, none_hidden, place, settle,
 };
-use crate::judge_sids::judge_parts;
+use crate::judge_parts::judge_parts;
 use crate::named::{place_of_link, place_of_node};
 use crate::node_table::NodeTable;
 use crate::parts::{Block, Link, Name, NetParts, Node, Route};
@@ -62,11 +62,11 @@ impl Model for Net {
 }
 
 impl Net {
-    ghost use Rattle.std.specs.Prelude.{◌≡◌, ◌↔◌, ℕ, ◌<◌, [], true, false, length, slice_get, option_copied, IsTrue, IsSome, IfSome, IfNone, IfOk, OnOk, OnErr};
+    ghost use Rattle.std.specs.Prelude.{◌≡◌, ◌↔◌, ◌<◌, [], true, false, length, slice_get, option_copied, IsTrue, IfOk, OnOk, OnErr};
     ghost use Rattle.std.specs.Option.{unwrap_or};
     ghost use Rattle.net_model.specs.declared.parts.NamedPolicy.{NamedPolicy};
     ghost use Rattle.net_model.specs.Network.{network_of, CanHide, IsEdited, hit_of_entry, is_shown};
-    ghost use Rattle.net_model.specs.Rules.{IsNetwork, is_network, is_link_set};
+    ghost use Rattle.net_model.specs.Rules.{IsNetwork, is_link_set};
     ghost use Rattle.text_faults.specs.Reading.{Gives};
     ghost use Rattle.net_model.specs.Judging.{InRange, judging};
     ghost use Rattle.net_model.specs.Keeps.{Keeps};

@@ -1,6 +1,6 @@
 //! A table of a node, and the look-up of addresses in it.
 
-ghost use Rattle.std.specs.Prelude.{◌≡◌, ◌<◌, [], List, length, option_copied};
+ghost use Rattle.std.specs.Prelude.{◌≡◌, [], List, option_copied};
 ghost use Rattle.std.specs.Option.{unwrap_or};
 ghost use Rattle.net_model.specs.Best.{Entry, longest, hit_of, lookup_of};
 ghost use Rattle.net_model.specs.Tables.{IsExact};

@@ -1,9 +1,9 @@
 //! Whether parts are in the ranges that judging takes for granted.
 
-ghost use Rattle.std.specs.Prelude.{◌≡◌, ◌↔◌, ℕ, Bool, IsTrue, length};
+ghost use Rattle.std.specs.Prelude.{◌≡◌, ◌↔◌, IsTrue};
 ghost use Rattle.std.specs.List.{list_all, filter_map};
 ghost use Rattle.net_model.specs.Network.{network_of};
-ghost use Rattle.net_model.specs.Rules.{block_len_of, is_name, is_segment, keeps_node, title_of};
+ghost use Rattle.net_model.specs.Rules.{block_len_of, is_segment, keeps_node, title_of};
 ghost use Rattle.net_model.specs.Judging.{few, block_in_range, link_in_range, route_in_range, policy_in_range, sid_in_range, are_numbers, InRange};
 
 use crate::limits::{

@@ -1,7 +1,6 @@
 //! The entries of tables that came before, as a set.
 
 ghost use Rattle.std.specs.Prelude.{◌≡◌, ◌∷◌, ◌++◌, [], List, IfOk, OnOk};
-ghost use Rattle.std.specs.BTreeSet.{BTreeSet};
 ghost use Rattle.net_model.specs.declared.parts.Route.{Route};
 ghost use Rattle.net_model.specs.Rules.{same_route};
 ghost use Rattle.net_model.specs.Judging.{stands_before};

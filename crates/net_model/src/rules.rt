@@ -1,8 +1,8 @@
 //! The rules that the parts of a network keep, each as a test that answers one word of the
 //! definitions.
 
-ghost use Rattle.std.specs.Prelude.{◌≡◌, ℕ, Bool, IsTrue, length, count_by, Some};
-ghost use Rattle.std.specs.List.{list_all, list_any, filter_map};
+ghost use Rattle.std.specs.Prelude.{◌≡◌, Bool};
+ghost use Rattle.std.specs.List.{list_all, list_any};
 ghost use Rattle.net_model.specs.Rules.{are_distinct, same_bytes, is_between, is_name_byte, is_name, is_address, is_prefix};
 ghost use Rattle.net_model.specs.Rules.{is_block_len, is_csid_len, overlap};
 ghost use Rattle.net_model.specs.Rules.{is_segment, keeps_outer, same_policy_name};

@@ -7,7 +7,7 @@ ghost use Rattle.std.specs.BTreeMap as map;
 ghost use Rattle.prefix_table.specs.Table.{HasPrefix};
 ghost use Rattle.net_model.specs.Network.{network_of};
 ghost use Rattle.net_model.specs.Judging.{InRange};
-ghost use Rattle.net_model.specs.Tables.{HitTable, table_key_cmp, table_key, table_at, AreTables, AreTaken, AnswerFor, HasOneMore, entries_from, sid_entry, address_entry, route_entry};
+ghost use Rattle.net_model.specs.Tables.{table_key_cmp, table_key, table_at, AreTables, AreTaken, AnswerFor, HasOneMore, entries_from, sid_entry, address_entry, route_entry};
 ghost use Rattle.net_model.specs.declared.tables.TableEntry.{TableEntry};
 
 use crate::net::Hit;
