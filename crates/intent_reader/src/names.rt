@@ -1,8 +1,7 @@
 //! Nodes, links and functions by their names.
 
-ghost use Rattle.std.specs.Prelude.{◌≡◌, Some, None, length};
+ghost use Rattle.std.specs.Prelude.{◌≡◌, length};
 ghost use Rattle.std.specs.List.{list_any};
-ghost use Rattle.net_model.specs.Network.{Network};
 ghost use Rattle.net_model.specs.Keeps.{IsTitleOf};
 ghost use Rattle.net_model.specs.Named.{node_numbered};
 ghost use Rattle.net_model.specs.Rules.{are_distinct, same_number};

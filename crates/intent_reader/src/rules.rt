@@ -1,7 +1,7 @@
 //! The rules of an intent in its network, each as a function that answers one word of the
 //! definitions.
 
-ghost use Rattle.std.specs.Prelude.{◌≡◌, ◌<◌, length, slice_get, option_map};
+ghost use Rattle.std.specs.Prelude.{◌≡◌, slice_get, option_map};
 ghost use Rattle.std.specs.List.{list_all};
 ghost use Rattle.intent_reader.specs.Rules.{end_of_link, ends_at, far_node, first_end, function_node, reached_node};
 ghost use Rattle.intent_reader.specs.Rules.{node_after, stand_after, is_function, is_reach, has_reach};
