@@ -1,12 +1,7 @@
 //! Blocks of SIDs.
 
 ghost use Rattle.std.specs.Prelude.{◌≡◌};
-ghost use Rattle.std.specs.Prelude.{Result};
-ghost use Rattle.toml.specs.Data.{Members};
 ghost use Rattle.toml.specs.View.{table_view};
-ghost use Rattle.text_faults.specs.declared.place.FaultPlace.{FaultPlace};
-ghost use Rattle.text_faults.specs.declared.fault.TextFault.{TextFault};
-ghost use Rattle.text_faults.specs.Reading.{Gives};
 ghost use Rattle.toml_words.specs.Tree.{needed};
 ghost use Rattle.net_words.specs.Words.{block_kind_of, csid_bits_of};
 ghost use Rattle.net_words.specs.Description.{csid_bits_in, block_of};

@@ -1,6 +1,5 @@
 //! A whole description.
 
-ghost use Rattle.std.specs.Prelude.{◌≡◌};
 ghost use Rattle.toml.specs.View.{table_view};
 ghost use Rattle.text_faults.specs.Reading.{Gives};
 ghost use Rattle.net_words.specs.Description.{description_of, description_in};

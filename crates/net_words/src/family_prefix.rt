@@ -3,7 +3,6 @@
 ghost use Rattle.std.specs.Prelude.{◌≡◌};
 ghost use Rattle.v6_addr.specs.Scan4.{prefix4_of_text};
 ghost use Rattle.net_words.specs.Prefixes.{family_prefix_of, family_prefix_in};
-ghost use Rattle.text_faults.specs.Reading.{Gives};
 
 use srv6_rules::Family;
 use std::alloc::Global;

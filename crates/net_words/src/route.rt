@@ -1,11 +1,5 @@
 //! Routes.
 
-ghost use Rattle.std.specs.Prelude.{Result};
-ghost use Rattle.toml.specs.Data.{Members};
-ghost use Rattle.toml.specs.View.{table_view};
-ghost use Rattle.text_faults.specs.declared.place.FaultPlace.{FaultPlace};
-ghost use Rattle.text_faults.specs.declared.fault.TextFault.{TextFault};
-ghost use Rattle.text_faults.specs.Reading.{Gives};
 ghost use Rattle.net_words.specs.Description.{route_of};
 
 use crate::family_prefix::FamilyPrefix;

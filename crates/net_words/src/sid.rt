@@ -1,11 +1,6 @@
 //! SIDs.
 
-ghost use Rattle.std.specs.Prelude.{◌≡◌, pos};
-ghost use Rattle.std.specs.Prelude.{Result};
-ghost use Rattle.toml.specs.Data.{Members};
 ghost use Rattle.toml.specs.View.{table_view};
-ghost use Rattle.text_faults.specs.declared.place.FaultPlace.{FaultPlace};
-ghost use Rattle.text_faults.specs.declared.fault.TextFault.{TextFault};
 ghost use Rattle.text_faults.specs.Reading.{Gives};
 ghost use Rattle.toml_words.specs.Tree.{needed, word_in};
 ghost use Rattle.net_words.specs.Words.{csid_of, behaviour_of, flavour_of};

@@ -1,11 +1,6 @@
 //! Steps of intents.
 
-ghost use Rattle.std.specs.Prelude.{◌≡◌, [], None};
-ghost use Rattle.std.specs.Prelude.{Result};
-ghost use Rattle.toml.specs.Data.{Members};
 ghost use Rattle.toml.specs.View.{table_view};
-ghost use Rattle.text_faults.specs.declared.place.FaultPlace.{FaultPlace};
-ghost use Rattle.text_faults.specs.declared.fault.TextFault.{TextFault};
 ghost use Rattle.text_faults.specs.Reading.{Gives};
 ghost use Rattle.net_words.specs.Intent.{links_at, step_of, steps_at};
 
