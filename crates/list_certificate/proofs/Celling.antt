@@ -42,6 +42,16 @@ module _ (v : LegsValue) (lines : List PotentialLine) (cell : Cell) where
             subst (λ (r : ℕ). PassesMove v lines (state_in cell r) (move_of n stays)) same (here stays)
       ]
 
+  pub rooms-last : (n count : ℕ) → ((stays : Bool) → PassesLast v lines (state_in cell count) (move_of n stays)) → RoomsLast n count
+      → RoomsLast n (count + 1)
+  rooms-last n count here so room stays less =
+      elim (cases_lt room count) as (λ w. PassesLast v lines (state_in cell room) (move_of n stays)) [
+        | inl low ↦ so room stays low
+        | inr high ↦
+            let same : count ≡ room = omega (arith, less, high) in
+            subst (λ (r : ℕ). PassesLast v lines (state_in cell r) (move_of n stays)) same (here stays)
+      ]
+
   -- legs to the first SIDs of a position, legs to positions below one, and the end by the first SIDs, from all rooms
   abbrev pub AllLegsTo : ℕ → List ℕ → ℕ → Type 0
   AllLegsTo to sids count = (room : ℕ) → room ≤ top_room cell.shape → SomeLegsTo v lines (state_in cell room) to sids count

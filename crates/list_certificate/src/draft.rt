@@ -1,6 +1,6 @@
 //! What was read so far of a certificate.
 
-ghost use Rattle.std.specs.Prelude.{◌≡◌, Some, None, Ok, Err, IfOk};
+ghost use Rattle.std.specs.Prelude.{◌≡◌, Some, None, Ok, IfOk};
 ghost use Rattle.list_pack.specs.Order.{lex_before};
 ghost use Rattle.list_pack.specs.Costs.{IsState};
 ghost use Rattle.list_pack.specs.Least.{state_key};

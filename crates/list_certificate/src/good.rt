@@ -1,6 +1,6 @@
 //! Whether a state passes: along each of its edges the potential falls by at most the cost.
 
-ghost use Rattle.std.specs.Prelude.{◌≡◌, ◌≤◌, ◌&&◌, Some, length};
+ghost use Rattle.std.specs.Prelude.{◌≡◌, ◌≤◌, ◌&&◌, Some};
 ghost use Rattle.list_pack.specs.Value.{IsSid};
 ghost use Rattle.list_pack.specs.Costs.{IsState, Under, plus, bars};
 ghost use Rattle.list_pack.specs.Least.{IsGoodAt};

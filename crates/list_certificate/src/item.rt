@@ -1,6 +1,6 @@
 //! What a line of a certificate says.
 
-ghost use Rattle.std.specs.Prelude.{◌≡◌, ◌≤◌, ◌<◌, length, slice_get, slice_index, ◌==◌, find, Some, IfSome, bytes_eq, codes};
+ghost use Rattle.std.specs.Prelude.{◌≡◌, ◌≤◌, ◌<◌, length, slice_index, ◌==◌, find, Some, IfSome, bytes_eq};
 ghost use Rattle.v6_addr.specs.Text.{prefix_of_text};
 ghost use Rattle.list_pack.specs.Value.{IsSid};
 ghost use Rattle.list_pack.specs.Costs.{IsState};

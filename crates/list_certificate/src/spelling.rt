@@ -1,6 +1,6 @@
 //! The text of a certificate.
 
-ghost use Rattle.std.specs.Prelude.{◌≡◌, ◌++◌, ◌<◌, length, slice_get, count_by, flat_map, take, All, OnOk, OnErr, IfOk, string_bytes};
+ghost use Rattle.std.specs.Prelude.{◌≡◌, ◌++◌, ◌<◌, length, flat_map, All, OnOk, OnErr, IfOk, string_bytes};
 ghost use Rattle.net_model.specs.Rules.{same_prefix};
 ghost use Rattle.list_pack.specs.declared.types.Potential.{Potential};
 ghost use Rattle.list_certificate.specs.Spelling.{is_shared, sid_text, state_text, potential_text, potential_of_text, placed_text, start_text, step_text, way_text, head_text, end_text, none_text, spelled, IsKnown};

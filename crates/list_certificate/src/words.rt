@@ -2,7 +2,7 @@
 
 ghost use Rattle.std.specs.Prelude.{◌≡◌, ◌==◌, ◌<◌, length, position, IfSome};
 ghost use Rattle.std.specs.Option.{option_map};
-ghost use Rattle.list_certificate.specs.Reading.{Cut, cut_at, number_in, digit_after, digits_from, row_in, row_value, cut_value};
+ghost use Rattle.list_certificate.specs.Reading.{cut_at, number_in, digit_after, digits_from, row_in, row_value, cut_value};
 
 use list_pack::Cost;
 

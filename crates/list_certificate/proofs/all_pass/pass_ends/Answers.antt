@@ -1,4 +1,4 @@
-use Rattle.std.proofs.Common.{◌≡◌, true, get_or, sym, ◌∙◌, subst, arith}
+use Rattle.std.proofs.Common.{get_or, sym, ◌∙◌, subst}
 use Rattle.std.proofs.lemmas.Option.{slice_get-get_or}
 use Rattle.list_certificate.specs.Tests.{state_in, Assures, CellPassesFinish}
 use Rattle.list_certificate.proofs.Passing.{ends-more, ends-by, ends-all}
@@ -15,8 +15,8 @@ loop-n-preserved g c =
     let here = slice_get-get_or sids c.loop-n.n-index 0 c.loop-n-test.true in
     elim c.match-finish.branch [
       | in-Some+else-not-pass_finish w ↦
-          let one : w.pass_finish.result ≡ true = first_of (cc, grind arith) in
-          let all : CellPassesFinish v lines cell n = subst (Assures (CellPassesFinish v lines cell n)) one w.pass_finish.ensures in
+          let all : CellPassesFinish v lines cell n =
+          subst (Assures (CellPassesFinish v lines cell n)) w.if-not-pass_finish.false w.pass_finish.ensures in
           λ room few.
           ends-more v lines (state_in cell room) sids c.loop-n.n-index n here (λ stays. all room stays few) (c.loop-n.invariant room few)
       | in_default w ↦

@@ -1,4 +1,4 @@
-use Rattle.std.proofs.Common.{◌≡◌, Bool, true, false, subst, arith}
+use Rattle.std.proofs.Common.{Bool, true, false, subst}
 use Rattle.list_pack.specs.declared.types.State.{State}
 use Rattle.list_certificate.specs.Tests.{PassesMove, move_of, state_in, Tells}
 use Rattle.list_certificate.proofs.Passing.{both-stays}
@@ -12,11 +12,10 @@ loop-room-preserved g c =
     let cell = c.args.cell.now in
     let n = c.args.next.now.sid in
     let s = c.spot_in-spot.result.state in
-    let one : c.passes_move.result ≡ true = first_of (cc, grind arith) in
-    let two : c.passes_move-in-loop-room.result ≡ true = first_of (cc, grind arith) in
     rooms-move v lines cell n c.loop-room.room
     (both-stays (λ (b : Bool). PassesMove v lines (state_in cell c.loop-room.room) (move_of n b))
     (subst (λ (x : State). PassesMove v lines x (move_of n true)) c.spot_in-spot.ensures.state
-    (subst (Tells (PassesMove v lines s (move_of n true))) one c.passes_move.ensures))
+    (subst (Tells (PassesMove v lines s (move_of n true))) c.if-not-passes_move.false c.passes_move.ensures))
     (subst (λ (x : State). PassesMove v lines x (move_of n false)) c.spot_in-spot.ensures.state
-    (subst (Tells (PassesMove v lines s (move_of n false))) two c.passes_move-in-loop-room.ensures))) c.loop-room.invariant
+    (subst (Tells (PassesMove v lines s (move_of n false))) c.if-not-passes_move-2.false
+    c.passes_move-in-loop-room.ensures))) c.loop-room.invariant

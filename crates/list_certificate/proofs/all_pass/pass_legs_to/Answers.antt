@@ -1,4 +1,4 @@
-use Rattle.std.proofs.Common.{◌≡◌, ℕ, true, get_or, sym, ◌∙◌, ap, subst, arith}
+use Rattle.std.proofs.Common.{◌≡◌, ℕ, get_or, sym, ◌∙◌, ap, subst}
 use Rattle.std.proofs.lemmas.Option.{slice_get-get_or, same_Some, none-some}
 use Rattle.list_pack.specs.declared.types.Leg.{Leg}
 use Rattle.list_certificate.specs.Tests.{PassesMove, move_of, state_in, Assures, CellPassesLeg}
@@ -16,9 +16,8 @@ loop-n-preserved g c =
     let here = slice_get-get_or sids c.loop-n.n-index 0 c.loop-n-test.true in
     elim c.match-leg.branch [
       | in-Some+then-leg-to+else-not-pass_leg w ↦
-          let one : w.pass_leg.result ≡ true = first_of (cc, grind arith) in
           let all : CellPassesLeg v lines cell w.cell_of-next.result.sid =
-          subst (Assures (CellPassesLeg v lines cell w.cell_of-next.result.sid)) one w.pass_leg.ensures in
+          subst (Assures (CellPassesLeg v lines cell w.cell_of-next.result.sid)) w.if-not-pass_leg.false w.pass_leg.ensures in
           λ room few.
           legs-more v lines (state_in cell room) c.args.to sids c.loop-n.n-index n here
           (λ leg stays e l.

@@ -1,4 +1,4 @@
-use Rattle.std.proofs.Common.{◌≡◌, Bool, true, false, get_or, sym, ◌∙◌, subst, arith}
+use Rattle.std.proofs.Common.{Bool, true, false, get_or, sym, ◌∙◌, subst}
 use Rattle.std.proofs.lemmas.Option.{slice_get-get_or}
 use Rattle.list_certificate.specs.Tests.{PassesLast, move_of, Tells}
 use Rattle.list_certificate.proofs.Passing.{both-stays, ends-more, ends-by, ends-all}
@@ -15,12 +15,11 @@ loop-n-preserved g c =
     let here = slice_get-get_or sids c.loop-n.n-index 0 c.loop-n-test.true in
     elim c.match-finish.branch [
       | in-Some+else-not-passes_last+else-not-passes_last-2 w ↦
-          let one : w.passes_last.result ≡ true = first_of (cc, grind arith) in
-          let two : w.passes_last-in-Some.result ≡ true = first_of (cc, grind arith) in
           ends-more v lines s sids c.loop-n.n-index n here
           (both-stays (λ (b : Bool). PassesLast v lines s (move_of n b))
-          (subst (Tells (PassesLast v lines s (move_of n true))) one w.passes_last.ensures)
-          (subst (Tells (PassesLast v lines s (move_of n false))) two w.passes_last-in-Some.ensures)) c.loop-n.invariant
+          (subst (Tells (PassesLast v lines s (move_of n true))) w.if-not-passes_last.false w.passes_last.ensures)
+          (subst (Tells (PassesLast v lines s (move_of n false))) w.if-not-passes_last-2.false
+          w.passes_last-in-Some.ensures)) c.loop-n.invariant
       | in_default w ↦
           ends-more v lines s sids c.loop-n.n-index n here (ends-by v lines s n (sym c.finish.ensures ∙ w.in_default.is)) c.loop-n.invariant
     ]

@@ -1,4 +1,4 @@
-use Rattle.std.proofs.Common.{◌≡◌, ℕ, Bool, true, false, get_or, sym, ◌∙◌, ap, subst, arith}
+use Rattle.std.proofs.Common.{◌≡◌, ℕ, Bool, true, false, get_or, sym, ◌∙◌, ap, subst}
 use Rattle.std.proofs.lemmas.Option.{slice_get-get_or, same_Some, none-some}
 use Rattle.list_pack.specs.declared.types.Leg.{Leg}
 use Rattle.list_certificate.specs.Tests.{PassesMove, move_of, Tells}
@@ -16,15 +16,14 @@ loop-n-preserved g c =
     let here = slice_get-get_or sids c.loop-n.n-index 0 c.loop-n-test.true in
     elim c.match-leg.branch [
       | in-Some+then-leg-to+else-not-passes_move+else-not-passes_move-2 w ↦
-          let one : w.passes_move.result ≡ true = first_of (cc, grind arith) in
-          let two : w.passes_move-then-leg-to.result ≡ true = first_of (cc, grind arith) in
           legs-more v lines s c.args.to sids c.loop-n.n-index n here
           (λ leg stays e l.
           let next = w.cell_of-next.result.sid in
           subst (λ (x : ℕ). PassesMove v lines s (move_of x stays)) w.cell_of-next.ensures.sid
           (both-stays (λ (b : Bool). PassesMove v lines s (move_of next b))
-          (subst (Tells (PassesMove v lines s (move_of next true))) one w.passes_move.ensures)
-          (subst (Tells (PassesMove v lines s (move_of next false))) two w.passes_move-then-leg-to.ensures) stays)) c.loop-n.invariant
+          (subst (Tells (PassesMove v lines s (move_of next true))) w.if-not-passes_move.false w.passes_move.ensures)
+          (subst (Tells (PassesMove v lines s (move_of next false))) w.if-not-passes_move-2.false
+          w.passes_move-then-leg-to.ensures) stays)) c.loop-n.invariant
       | in-Some+else-leg-to w ↦
           legs-more v lines s c.args.to sids c.loop-n.n-index n here
           (λ leg stays e l.
