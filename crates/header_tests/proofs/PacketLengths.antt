@@ -1,4 +1,4 @@
 -- The lengths that packets state.
-use Rattle.ip6_headers.proofs.PublicLaws.{holds-payload_len, holds4-length}
+use Rattle.ip6_headers.proofs.PublicLaws.{holds-payload_len}
 
-pub ruleset lengths = (holds-payload_len, holds4-length)
+pub ruleset lengths = (holds-payload_len)
