@@ -6,3 +6,5 @@
 mod classic_tests;
 #[cfg(test)]
 mod pcapng_tests;
+#[cfg(test)]
+mod shown;
