@@ -1,4 +1,4 @@
--- The table of an intent's legs through binding SIDs.
+-- The table of an intent's legs through binding SIDs. (own rule)
 use Rattle.std.specs.Prelude.{◌≡◌, ℕ, ◌+◌, ◌<◌, List, length, slice_get, Option, Some}
 use Rattle.std.specs.Option.{option_and_then}
 use Rattle.net_model.specs.Network.{Network}

@@ -1,4 +1,4 @@
--- Lists that hand over even one packet through binding SIDs.
+-- Lists that hand over even one packet through binding SIDs. (own rule)
 use Rattle.std.specs.Prelude.{ℕ, ◌<◌, List}
 use Rattle.srv6_rules.specs.Packet.{Content}
 use Rattle.net_model.specs.Network.{Network}

@@ -1,4 +1,4 @@
--- The sentences on legs and finishes through binding SIDs: what becomes of packets to a next SID, for all choices.
+-- The sentences on legs and finishes through binding SIDs: what becomes of packets to a next SID, for all choices. (own rule)
 use Rattle.std.specs.Prelude.{◌≡◌, ℕ, ◌-◌, ◌<◌, ◌≤◌, Bool, false, ◌==◌, ◌&&◌, nat_le, List, [], ◌∷◌, drop, length, slice_get, Option, Some, None, IsTrue, ◌↔◌}
 use Rattle.srv6_rules.specs.declared.sid.SidEntry.{SidEntry}
 use Rattle.srv6_rules.specs.Behaviours.{goes_on}
@@ -31,8 +31,7 @@ takes_further None p = false
 takes_further (Some s) p = goes_on s && is_onward (at_sid s [] (with_hop_limit 2 p))
 
 -- under a list of choices its first execution without a header in front is at SID n, along steps of which so many are left behind it,
--- and it
--- has this hop limit then
+-- and it has this hop limit then
 pub record ComesTo (net : Network) (ts : List Step) (d : Deep Place Packet) (n left limit : ℕ) (choices : List ℕ) : Type 0 where
   pub meets : MeetsFrom net ts d.place d.head d.below choices
   pub sid : meets.met.sids ≡ n ∷ []
@@ -45,8 +44,7 @@ AlwaysComes net ts None n left limit = ⊥
 AlwaysComes net ts (Some d) n left limit = (choices : List ℕ) → 0 < length choices → ComesTo net ts d n left limit choices
 
 -- a leg through binding SIDs: for all choices a packet to an address of the next SID that this takes on comes to it along the steps up
--- to the
--- leg's end, exactly above the leg's hops, by which its own hop limit falls
+-- to the leg's end, exactly above the leg's hops, by which its own hop limit falls
 pub record IsBindingLeg (net : Network) (intent : Intent) (address position : ℕ) (via : Option ℕ) (next : ℕ) (leg : Leg) : Type 0 where
   pub start : IsTrue (may_go_on net intent position via)
   pub leads : IsTrue (leads_on net next)
@@ -64,8 +62,7 @@ pub record IsHandedAt (net : Network) (ts : List Step) (o : Option (Deep Place P
   pub sids : handed.sids ≡ n ∷ []
 
 -- a finish through binding SIDs: for all choices a packet to an address of the last SID that exposes what is inside is handed over there
--- after
--- exactly the steps that are left, exactly above the lowerings of its own hop limit
+-- after exactly the steps that are left, exactly above the lowerings of its own hop limit
 pub record IsBindingFinish (net : Network) (intent : Intent) (address position : ℕ) (via : Option ℕ) (next lowered : ℕ) : Type 0 where
   pub start : IsTrue (may_go_on net intent position via)
   pub last : IsTrue (is_last net intent.inner next)

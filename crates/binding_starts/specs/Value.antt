@@ -1,4 +1,4 @@
--- What the legs of an intent through binding SIDs are to a search.
+-- What the legs of an intent through binding SIDs are to a search. (own rule)
 use Rattle.std.specs.Prelude.{ℕ, if◌then◌else◌, length, Option, None}
 use Rattle.net_model.specs.Network.{Network}
 use Rattle.intent_reader.specs.declared.intent.Intent.{Intent}

@@ -1,4 +1,4 @@
--- What a node does with packets that differ in their hop limit alone.
+-- What a node does with packets that differ in their hop limit alone. (own rule)
 use Rattle.std.specs.Prelude.{ℕ, Bool, true, List, [], ◌∷◌, slice_get, Option, Some, None}
 use Rattle.srv6_rules.specs.declared.sid.Behaviour.{Behaviour}
 use Rattle.srv6_rules.specs.declared.family.Family.TheVariants as families

@@ -1,4 +1,4 @@
--- A network as a world of headers: what a node does with the packet on top, whatever it carries.
+-- A network as a world of headers: what a node does with the packet on top, whatever it carries. (own rule)
 use Rattle.std.specs.Prelude.{ℕ, ◌&&◌, nat_le, if◌then◌else◌, List, [], ◌∷◌, slice_get, Option, Some, None}
 use Rattle.srv6_rules.specs.declared.sid.Behaviour.{Behaviour}
 use Rattle.srv6_rules.specs.declared.family.Family.TheVariants as families

@@ -1,4 +1,4 @@
--- The first execution on a packet in a walk under headers: the first stage that executes a SID with nothing below.
+-- The first execution on a packet in a walk under headers: the first stage that executes a SID with nothing below. (own rule)
 use Rattle.std.specs.Prelude.{◌≡◌, ℕ, ◌+◌, ◌<◌, nat_le, if◌then◌else◌, List, [], ◌∷◌, ◌++◌, length, Option, Some, None}
 use Rattle.std.specs.Option.{option_map}
 use Rattle.srv6_rules.specs.Packet.{Packet, Content, V6}

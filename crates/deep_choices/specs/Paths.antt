@@ -1,4 +1,4 @@
--- Paths of the packets that a headend makes for an intent.
+-- Paths of the packets that a headend makes for an intent. (own rule)
 use Rattle.std.specs.Prelude.{◌≡◌, ℕ, List}
 use Rattle.srv6_rules.specs.Packet.{Content}
 use Rattle.net_model.specs.Network.{Network}

@@ -1,4 +1,4 @@
--- Rides of a packet by look-ups alone, and what the SID at their end does with it.
+-- Rides of a packet by look-ups alone, and what the SID at their end does with it. (own rule)
 use Rattle.std.specs.Prelude.{ℕ, ◌-◌, nat_lt, if◌then◌else◌, List, slice_get, Option, None}
 use Rattle.srv6_rules.specs.Packet.{Packet, Content}
 use Rattle.net_model.specs.Network.{Network}

@@ -1,4 +1,4 @@
--- Where a packet goes on from behind a pushed header.
+-- Where a packet goes on from behind a pushed header. (own rule)
 use Rattle.std.specs.Prelude.{◌≡◌, ℕ, ◌≤◌, true, is_some, List, [], length, take, drop, Option, Some}
 use Rattle.srv6_rules.specs.declared.family.Family.TheVariants as families
 use Rattle.srv6_rules.specs.Packet.{Packet}

@@ -1,4 +1,4 @@
--- What a packet that a machine walks hands over, and hand-overs along steps.
+-- What a packet that a machine walks hands over, and hand-overs along steps. (own rule)
 use Rattle.std.specs.Prelude.{◌≡◌, ℕ, ◌<◌, List, [], length, Some, IsTrue}
 use Rattle.srv6_rules.specs.Packet.{Packet, Content, V6}
 use Rattle.net_model.specs.Network.{Network}

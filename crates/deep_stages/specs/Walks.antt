@@ -1,4 +1,4 @@
--- Walks where the packets that pushed headers carry are values, and how deep a packet is in them.
+-- Walks where the packets that pushed headers carry are values, and how deep a packet is in them. (own rule)
 use Rattle.std.specs.Prelude.{◌≡◌, ℕ, zero, suc, ◌+◌, ◌-◌, if◌then◌else◌, List, [], ◌∷◌, length, Option, Some, None}
 use Rattle.srv6_rules.specs.Packet.{Packet, Content}
 use Rattle.net_model.specs.Network.{Network}

@@ -1,6 +1,6 @@
 //! Laws of the definitions: each is the contract of an empty function.
 
-ghost use Rattle.std.specs.Prelude.{◌≡◌, Bool, true, List, [], ◌∷◌, ℕ, Option, length, map, take};
+ghost use Rattle.std.specs.Prelude.{◌≡◌, true, List, [], ℕ, Option, length, map, take};
 ghost use Rattle.srv6_rules.specs.Packet.{Content, IsContent, Packet};
 ghost use Rattle.net_model.specs.Keeps.{Keeps};
 ghost use Rattle.net_model.specs.Network.{Network};

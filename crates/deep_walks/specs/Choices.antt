@@ -1,4 +1,4 @@
--- Walks for all choices, and the one walk without any.
+-- Walks for all choices, and the one walk without any. (own rule)
 use Rattle.std.specs.Prelude.{◌≡◌, ℕ, ◌%◌, ◌<◌, List, length, slice_index, Some}
 use Rattle.deep_walks.specs.Moves.{Events, Move, Got, End, got_of, end_of, left_by}
 

@@ -1,4 +1,4 @@
--- A world whose headers count down, to see which stages are counted.
+-- A world whose headers count down, to see which stages are counted. (own rule)
 use Rattle.std.specs.Prelude.{ℕ, zero, suc, ◌==◌, []}
 use Rattle.deep_walks.specs.Moves.{Events}
 use Rattle.deep_walks.specs.Deep.{World, Look, Executes, Exposes}

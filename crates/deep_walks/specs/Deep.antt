@@ -1,4 +1,4 @@
--- Packets under pushed headers: what nodes do with the header on top, and walks that count how deep they are.
+-- Packets under pushed headers: what nodes do with the header on top, and walks that count how deep they are. (own rule)
 use Rattle.std.specs.Prelude.{◌≡◌, ℕ, suc, ◌-◌, nat_le, if◌then◌else◌, IsTrue, List, [], ◌∷◌, Option}
 use Rattle.std.specs.List.{AllByRecursion}
 use Rattle.std.specs.Option.{option_map}

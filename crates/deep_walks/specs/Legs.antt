@@ -1,4 +1,4 @@
--- Legs and paths: from one execution on the own packet to the next.
+-- Legs and paths: from one execution on the own packet to the next. (own rule)
 use Rattle.std.specs.Prelude.{◌≡◌, ℕ, zero, suc, ◌<◌, List, [], ◌∷◌, ◌++◌, length, Option, Some, None}
 use Rattle.std.specs.Option.{option_map, option_and_then}
 use Rattle.deep_walks.specs.Moves.{Move, End, end_of}

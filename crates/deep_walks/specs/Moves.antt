@@ -1,4 +1,4 @@
--- Machines that go on by moves: their walks under choices, and their walks along steps without any choice.
+-- Machines that go on by moves: their walks under choices, and their walks along steps without any choice. (own rule)
 use Rattle.std.specs.Prelude.{◌≡◌, ℕ, zero, suc, ◌%◌, Bool, if◌then◌else◌, IsTrue, List, [], ◌∷◌, ◌++◌, length, Option, Some, None}
 use Rattle.std.specs.List.{list_all, AllByRecursion}
 use Rattle.std.specs.Option.{option_map, option_and_then}

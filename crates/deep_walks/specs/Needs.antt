@@ -1,4 +1,4 @@
--- Packets that differ in their hop limit alone.
+-- Packets that differ in their hop limit alone. (own rule)
 use Rattle.std.specs.Prelude.{◌≡◌, ℕ, ◌-◌, ◌<◌, nat_le, Bool, true, false, if◌then◌else◌, List, Option}
 use Rattle.deep_walks.specs.Deep.{World, Look, Crosses, Executes, Pushes, Exposes, Loses}
 

@@ -1,4 +1,4 @@
--- What is left of a walk up to the own hand-over behind the first execution on the own packet.
+-- What is left of a walk up to the own hand-over behind the first execution on the own packet. (own rule)
 use Rattle.std.specs.Prelude.{◌≡◌, ℕ, suc, List, [], Option, Some}
 use Rattle.std.specs.Option.{option_map}
 use Rattle.deep_walks.specs.Moves.{Move, Done, Got, End, got_after, got_of, end_after, end_with}

@@ -2,7 +2,6 @@
 use Rattle.std.proofs.Common.{◌≡◌, ℕ, ◌<◌, Bool, true, false, ◌&&◌, nat_le, if◌then◌else◌, List, [], ◌∷◌, ◌++◌, length, drop, reverse, slice_get, Option, Some, None, refl, sym, ap, ◌∙◌, arith}
 use Rattle.std.specs.Option.{option_map, option_and_then}
 use Rattle.srv6_rules.specs.declared.sid.Behaviour.{Behaviour}
-use Rattle.srv6_rules.specs.declared.family.Family.{Family}
 use Rattle.srv6_rules.specs.declared.sid.SidEntry.{SidEntry}
 use Rattle.srv6_rules.specs.Behaviours.{behaviour_policy, behaviour_reduces}
 use Rattle.srv6_rules.specs.Policies.{outer_by}
@@ -21,14 +20,12 @@ use Rattle.intent_reader.specs.declared.intent.Step.{Step}
 use Rattle.leg_table.specs.Ride.{all_in_step}
 use Rattle.leg_table.specs.Trace.{executed}
 use Rattle.leg_table.proofs.Links.{far_end-is}
-use Rattle.deep_walks.specs.Moves.{Go, Done, End, left_by, end_after, end_with, end_over, end_by}
+use Rattle.deep_walks.specs.Moves.{Go, End, left_by, end_after, end_with, end_over, end_by}
 use Rattle.deep_walks.specs.Deep.{Inside, inside_at, inside_by, inside_off, arrives}
 use Rattle.deep_choices.proofs.PublicLaws.{all-same}
 use Rattle.deep_choices.specs.Look.{at_how, leads, look_links, look_bound, look_onward, look_at_sid, look_in, step_events}
 use Rattle.header_walks.specs.declared.stage.Headers.{Headers}
-use Rattle.header_walks.specs.declared.stage.Stage.{Stage}
-use Rattle.header_walks.specs.declared.stage.Stage.TheVariants as stages
-use Rattle.header_walks.specs.Walks.{IsLost, IsTakenOff, Walking, end_stage, inside_of, place_over, way_move, world_of}
+use Rattle.header_walks.specs.Walks.{Walking, inside_of, place_over, way_move, world_of}
 
 -- no SID is noted
 end-none : (o : Option (End Step ℕ Place)) → option_map (end_after []) o ≡ o
@@ -97,10 +94,6 @@ module _ (net : Network) (go : Walking) where
   go-end sid i ts us left =
       end-none (option_and_then (λ vs. go vs i) (left_by step_events ts (executed net sid))) ∙ ap (option_and_then (λ vs. go vs i)) left
 
-  pub done-end : (sid : ℕ) (place : Place) (ts us : List Step) → left_by step_events ts (executed net sid) ≡ Some us
-      → end_by step_events go (Done (executed net sid) [] place) ts ≡ Some (end_with [] place us)
-  done-end sid place ts us left = ap (option_map (end_with [] place)) left
-
   -- where the SID's function is not the step
   missed-by : (sid : ℕ) (ts : List Step) → left_by step_events ts (executed net sid) ≡ None → (i : Inside Place Packet)
       → end_by step_events go (Go (executed net sid) [] i) ts ≡ None
@@ -161,38 +154,6 @@ module _ (net : Network) (go : Walking) where
         → end_by step_events go (way_move net h (Into n)) ts ≡ go us (inside_of next)
     into-onward q next us came left goes =
         into-is (Onward q) came ∙ ap (λ m. end_by step_events go m ts) goes ∙ go-end n (inside_of next) ts us left
-
-    off-by : (place : Place) (heads : List Packet) (steps : List Step) (done : ℕ) (stage : Stage)
-        → left_by step_events ts (executed net n) ≡ Some (drop done steps) → IsTakenOff place heads done stage
-        → end_by step_events go (inside_off ℕ (executed net n) place heads) ts ≡ end_stage go steps stage
-    off-by place heads steps done (stages.On headers more) left taken =
-        ap (λ l. end_by step_events go (inside_off ℕ (executed net n) place l) ts) taken.1
-        ∙ go-end n (inside_at headers.top (reverse headers.below.items) place) ts (drop done steps) left
-        ∙ ap (λ p. go (drop done steps) (inside_at headers.top (reverse headers.below.items) p)) (sym taken.0)
-        ∙ ap (λ (d : ℕ). go (drop d steps) (inside_of headers)) (sym taken.2)
-    off-by place heads steps done (stages.Off to more) left taken =
-        ap (λ l. end_by step_events go (inside_off ℕ (executed net n) place l) ts) taken.1
-        ∙ done-end n place ts (drop done steps) left
-        ∙ ap (λ (p : Place). Some (end_with [] p (drop done steps))) (sym taken.0)
-        ∙ ap (λ (d : ℕ). Some (end_with [] to (drop d steps))) (sym taken.2)
-    off-by place heads steps done stages.Lost left taken = absurd taken
-
-    pub into-off : (family : Family) (bytes : List ℕ) (steps : List Step) (done : ℕ) (stage : Stage)
-        → at_sid s allow h.top ≡ Exposed family bytes → left_by step_events ts (executed net n) ≡ Some (drop done steps)
-        → IsTakenOff (record { node = h.place.node; how = exposed_from n s.behaviour; family = family }) above done stage
-        → end_by step_events go (way_move net h (Into n)) ts ≡ end_stage go steps stage
-    into-off family bytes steps done stage came left taken =
-        into-is (Exposed family bytes) came
-        ∙ off-by (record { node = h.place.node; how = exposed_from n s.behaviour; family = family }) above steps done stage left taken
-
-    pub into-lost : IsLost (at_sid s allow h.top) → end_by step_events go (way_move net h (Into n)) ts ≡ None
-    into-lost lost = by_end (at_sid s allow h.top) refl lost
-      where
-        by_end : (e : Endpoint) → at_sid s allow h.top ≡ e → IsLost e → end_by step_events go (way_move net h (Into n)) ts ≡ None
-        by_end (Onward q) came lost = absurd lost
-        by_end (Exposed family bytes) came lost = absurd lost
-        by_end (Delivered q) came lost = into-is (Delivered q) came
-        by_end (Refused reason at) came lost = into-is (Refused reason at) came
 
 -- behind a SID that binds a policy, with the policy's header in front
 pub bound-go : (net : Network) (from place : Place) (n : ℕ) (b : Behaviour) (q top : Packet) (below more : List Packet) (number : ℕ)

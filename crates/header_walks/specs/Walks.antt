@@ -1,4 +1,4 @@
--- The code's view of the walk of a pushed header.
+-- The code's view of the walk of a pushed header. (own rule)
 use Rattle.std.specs.Prelude.{◌≡◌, ℕ, ◌≤◌, if◌then◌else◌, List, [], ◌∷◌, length, drop, reverse, Option, Some, None}
 use Rattle.srv6_rules.specs.Packet.{Packet, Content}
 use Rattle.srv6_rules.specs.Endpoint.{Endpoint, Onward, Exposed, Delivered, Refused}

@@ -1,4 +1,4 @@
--- What an intent is compiled to, and when it is refused.
+-- What an intent is compiled to, and when it is refused. (own rule)
 use Rattle.std.specs.Prelude.{Result}
 use Rattle.net_model.specs.Network.{Network}
 use Rattle.intent_reader.specs.declared.intent.Intent.{Intent}

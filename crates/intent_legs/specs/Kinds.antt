@@ -1,4 +1,4 @@
--- Kinds of legs.
+-- Kinds of legs. (own rule)
 use Rattle.std.specs.Prelude.{◌≡◌, ℕ, true, false}
 use Rattle.net_model.specs.Network.{Network}
 use Rattle.intent_reader.specs.declared.intent.Intent.{Intent}

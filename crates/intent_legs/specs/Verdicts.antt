@@ -1,4 +1,4 @@
--- What the verdict on a certificate says of an intent's lists.
+-- What the verdict on a certificate says of an intent's lists. (own rule)
 use Rattle.std.specs.Prelude.{Result}
 use Rattle.net_model.specs.Network.{Network}
 use Rattle.intent_reader.specs.declared.intent.Intent.{Intent}

@@ -1,5 +1,5 @@
 -- Tables that are filled, entry by entry.
-use Rattle.std.proofs.Common.{◌≡◌, ◌≢◌, ℕ, zero, suc, ◌+◌, ◌<◌, ◌≤◌, ◌⊎◌, inl, inr, ◌||◌, Bool, true, false, List, [], ◌∷◌, length, slice_index, get_or, set, replicate, is_some, Option, Some, None, refl, sym, ◌∙◌, ap, subst, arith, length-set}
+use Rattle.std.proofs.Common.{◌≡◌, ◌≢◌, ℕ, zero, suc, ◌<◌, ◌≤◌, ◌⊎◌, inl, inr, Bool, true, false, List, [], ◌∷◌, length, slice_index, get_or, set, replicate, is_some, Option, Some, None, refl, sym, ◌∙◌, ap, arith, length-set}
 use Rattle.std.proofs.lemmas.Bool.{cases_lt, cases_eq}
 use Rattle.std.proofs.lemmas.Option.{slice_get_past, slice_get_read}
 use Rattle.loose_graph.specs.declared.spots.Spot.{Spot}
@@ -55,12 +55,6 @@ module _ (spots : List Spot) where
   pub settled-past : (table : List (Option Found)) (v : ℕ) → length spots ≤ v → IsSettledAt spots table v
   settled-past table v h none = ap (found_by true (known_at table)) (ap spot_of (slice_get_past spots v h))
 
-  pub settled-known : (table : List (Option Found)) (v : ℕ) (f : Found) → known_at table v ≡ Some f → IsSettledAt spots table v
-  settled-known table v f e none = absurd (none-some f (sym none ∙ e))
-
-  pub adds-none : (table : List (Option Found)) → IsSound spots table → Adds spots table table false
-  adds-none table sound = record { sound = sound; long = refl; nothing = λ e. refl; fewer = λ e. absurd (cc) }
-
   pub adds-one : (table : List (Option Found)) (v : ℕ) (f : Found) → IsSound spots table → v < length table
       → known_at table v ≡ None → found_by true (known_at table) (spot_at spots v) ≡ Some f
       → Adds spots table (set table v (Some f)) true
@@ -80,58 +74,10 @@ module _ (spots : List Spot) where
               let at : known_at (set table v (Some f)) v ≡ Some g = ap (known_at (set table v (Some f))) (sym same) ∙ is in
               ap (found_at spots) same ∙ found ∙ sym (known-set_same table v (Some f) inside) ∙ at
 
-  pub adds-more : (old mid new : List (Option Found)) (a b : Bool) → Adds spots old mid a → Adds spots mid new b
-      → Adds spots old new (a || b)
-  adds-more old mid new false false first second = record {
-    sound = second.sound;
-    long = second.long ∙ first.long;
-    nothing = λ e. second.nothing refl ∙ first.nothing refl;
-    fewer = λ e. absurd (cc);
-  }
-  adds-more old mid new true false first second = record {
-    sound = second.sound;
-    long = second.long ∙ first.long;
-    nothing = λ e. absurd (cc);
-    fewer = λ e. subst (λ (t : List (Option Found)). unknown t < unknown old) (sym (second.nothing refl)) (first.fewer refl);
-  }
-  adds-more old mid new false true first second = record {
-    sound = second.sound;
-    long = second.long ∙ first.long;
-    nothing = λ e. absurd (cc);
-    fewer = λ e. subst (λ (t : List (Option Found)). unknown new < unknown t) (first.nothing refl) (second.fewer refl);
-  }
-  adds-more old mid new true true first second = record {
-    sound = second.sound;
-    long = second.long ∙ first.long;
-    nothing = λ e. absurd (cc);
-    fewer = λ e. (let x = first.fewer refl in let y = second.fewer refl in omega arith);
-  }
-
   -- all spots below a number are settled, if nothing was added so far
   pub record Settles (old now : List (Option Found)) (added : Bool) (upto : ℕ) : Type 0 where
     pub adds : Adds spots old now added
     pub settled : added ≡ false → (v : ℕ) → v < upto → IsSettledAt spots old v
-
-  pub settles-none : (table : List (Option Found)) → IsSound spots table → Settles table table false 0
-  settles-none table sound = record { adds = adds-none table sound; settled = λ e v l. absurd (omega arith) }
-
-  pub settles-more : (old now new : List (Option Found)) (a b : Bool) (v : ℕ) → Settles old now a v → Adds spots now new b
-      → (b ≡ false → IsSettledAt spots now v) → Settles old new (a || b) (v + 1)
-  settles-more old now new a b v so_far adds own =
-      record { adds = adds-more old now new a b so_far.adds adds; settled = by_both a b so_far own }
-    where
-      by_both : (a b : Bool) → Settles old now a v → (b ≡ false → IsSettledAt spots now v)
-          → (a || b) ≡ false → (w : ℕ) → w < v + 1 → IsSettledAt spots old w
-      by_both true b so_far own e w l = absurd (cc)
-      by_both false true so_far own e w l = absurd (cc)
-      by_both false false so_far own e w l = by_place (cases_lt w v)
-        where
-          by_place : (w < v) ⊎ (v ≤ w) → IsSettledAt spots old w
-          by_place (inl less) = so_far.settled refl w less
-          by_place (inr more) =
-              let same : w ≡ v = omega arith in
-              subst (IsSettledAt spots old) (sym same)
-              (subst (λ (t : List (Option Found)). IsSettledAt spots t v) (so_far.adds.nothing refl) (own refl))
 
   -- a table to which nothing can be added has all that is found
   pub settled-found : (table : List (Option Found)) → length table ≡ length spots → IsSound spots table

@@ -1,5 +1,5 @@
 -- Where a packet at a place of a list comes by the way to the next SID.
-use Rattle.std.proofs.Common.{◌≡◌, ℕ, ◌+◌, ◌-◌, ◌*◌, ◌/◌, ◌%◌, ◌<◌, ◌≤◌, List, take, drop, length, Option, Some, slice_get, refl, sym, ◌∙◌, ap, subst, arith, length-append}
+use Rattle.std.proofs.Common.{◌≡◌, ℕ, ◌+◌, ◌-◌, ◌*◌, ◌/◌, ◌%◌, ◌≤◌, List, take, drop, length, Option, Some, slice_get, refl, sym, ◌∙◌, ap, subst, arith, length-append}
 use Rattle.std.proofs.lemmas.List.{take-append-drop}
 use Rattle.srv6_rules.specs.declared.family.Family.TheVariants as families
 use Rattle.srv6_rules.specs.declared.sid.SidEntry.{SidEntry}
@@ -36,7 +36,6 @@ use Rattle.loose_meanings.proofs.Sames.{address-alike, found-same}
 use Rattle.loose_meanings.proofs.Ways.{start-at}
 use Rattle.loose_kinds.specs.Kind.{hand_of, loose_kind}
 use Rattle.loose_kinds.proofs.Courses.{Course, Passes, course}
-use Rattle.loose_kinds.proofs.Tight.{Tight, tight}
 use Rattle.loose_kinds.proofs.Stages.{Hands, behind_links, hand-more}
 
 -- an answer told apart
@@ -98,16 +97,6 @@ module _ (net : Network) (keeps : Keeps net) (facts : FlatFacts net) (intent : I
   way-of position via next x hop p w pick taken s there is along nests passes =
       let found = start-found position via next x hop p w s there is along nests in
       course net keeps p.destination steps (drop position steps) (rest-of position) w.place found.0 p refl pick taken w.found found.1 passes
-
-  -- one by the greatest number, behind which any choices may follow
-  pub tight-way : (position : ℕ) (via : Option ℕ) (next : ℕ) (x : lists.ListPlace) (hop : ℕ) (p : Packet)
-      (w : ways.Way net keeps intent steps are position via next)
-      → (s : SidEntry) → slice_get net.sids next ≡ Some s → active x ≡ list_sid net (prefix_at net next) → Along tunnel x hop p
-      → PlaceKeeps net x → w.found.most < p.hop_limit → (rest : ℕ → ℕ)
-      → Tight net p.destination steps (drop position steps) w.place p w.found rest
-  tight-way position via next x hop p w s there is along nests high rest =
-      let found = start-found position via next x hop p w s there is along nests in
-      tight net keeps p.destination steps (drop position steps) (rest-of position) w.place found.0 p refl w.found found.1 high rest
 
   -- by its way the packet comes to the next SID, whose place in the list it stands at
   pub record ComesAt (position : ℕ) (via : Option ℕ) (next : ℕ) (x : lists.ListPlace) (hop : ℕ) (p : Packet)

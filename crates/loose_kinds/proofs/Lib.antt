@@ -3,7 +3,6 @@ pub mod Stages
 pub mod Courses
 pub mod Choosing
 pub mod Agreeing
-pub mod Tight
 pub mod Arrivals
 pub mod Over
 pub mod Together

@@ -21,8 +21,7 @@ pub use Rattle.loose_kinds.proofs.Agreeing.{hop-matter}
 pub use Rattle.loose_kinds.proofs.Choosing.{some-longest}
 pub use Rattle.loose_kinds.proofs.Courses.{Course, Passes, course}
 pub use Rattle.loose_kinds.proofs.Together.{loose-kind_laws}
-pub use Rattle.loose_kinds.proofs.Tight.{Tight, tight}
-pub use Rattle.loose_kinds.proofs.Arrivals.{ComesAt, comes-at, course-over, from-place, over-place, tight-way, to-sid, way-of}
+pub use Rattle.loose_kinds.proofs.Arrivals.{ComesAt, comes-at, course-over, from-place, over-place, to-sid, way-of}
 
 pub loose-leg_over : (net : Network) (intent : Intent) (steps : List Step) → IsNetwork net → IsFlat net → AreSteps net intent steps
     → (t : Tunnel) (x y : ListPlace) (position : ℕ) (via : Option ℕ) (next : ℕ) (leg : Leg) (hop : ℕ) (p : Packet) (pick : ℕ → ℕ)

@@ -1,6 +1,6 @@
 -- Down to a leg, or to a finish: what becomes of a packet at a place of a list that is handed over along steps, with the same marks, under
 -- every row of choices.
-use Rattle.std.proofs.Common.{◌≡◌, ℕ, ◌+◌, ◌<◌, ◌≤◌, not, List, drop, length, Option, None, slice_get, refl, sym, ◌∙◌, ap}
+use Rattle.std.proofs.Common.{◌≡◌, ℕ, ◌+◌, ◌<◌, ◌≤◌, not, List, length, Option, None, slice_get, refl, sym, ◌∙◌, ap}
 use Rattle.std.specs.Prelude.{is_some}
 use Rattle.std.proofs.lemmas.Bool.{and_from, false≢true}
 use Rattle.v6_addr.specs.Address.{PrefixValue}
@@ -45,9 +45,6 @@ module _ (net : Network) (intent : Intent) (steps : List Step) (tunnel : Tunnel)
       (f : IsFirst net intent steps tunnel c position via x q hop p o) where
     abbrev Become : Type 0
     Become = BecomesOf k (Longest net intent) tunnel x q position via hop p
-
-    abbrev ts : List Step
-    ts = drop position steps
 
     -- where a row executes the SID
     abbrev There : (ℕ → ℕ) → ℕ → Handed → Type 0

@@ -1,9 +1,9 @@
 -- What leads on from positions and SIDs, as the rows grow.
-use Rattle.std.proofs.Common.{◌≡◌, ℕ, ◌+◌, ◌-◌, ◌<◌, ◌≤◌, ◌⊎◌, inl, inr, Bool, true, false, ◌==◌, ◌&&◌, nat_le, if◌then◌else◌, List, [], ◌∷◌, ◌++◌, length, Option, Some, None, get_or, slice_get, refl, sym, ◌∙◌, ap, ap₂, subst, arith, eqb-true}
+use Rattle.std.proofs.Common.{◌≡◌, ℕ, ◌+◌, ◌-◌, ◌<◌, ◌≤◌, ◌⊎◌, inl, inr, Bool, true, false, ◌==◌, ◌&&◌, nat_le, if◌then◌else◌, List, [], ◌∷◌, ◌++◌, length, Option, Some, None, slice_get, refl, sym, ◌∙◌, ap, ap₂, subst, arith}
 use Rattle.std.specs.Prelude.{IfSome}
 use Rattle.std.specs.Option.{option_map, option_and_then}
-use Rattle.std.proofs.lemmas.Bool.{cases_lt, le-leb, lt-leb}
-use Rattle.std.proofs.lemmas.Option.{slice_get-get_or, slice_get_past, slice_get_within}
+use Rattle.std.proofs.lemmas.Bool.{cases_lt, le-leb}
+use Rattle.std.proofs.lemmas.Option.{slice_get_past}
 use Rattle.srv6_rules.specs.declared.sid.SidEntry.{SidEntry}
 use Rattle.net_model.specs.Network.{Network}
 use Rattle.net_model.specs.Keeps.{Keeps}
@@ -18,12 +18,12 @@ use Rattle.loose_graph.proofs.Lists.{each-more, list-more}
 use Rattle.loose_ways.specs.Graphs.{found_in, graph_in, numbers_of, start_at}
 use Rattle.loose_ways.proofs.Nodes.{few-lowerings_from}
 use Rattle.leg_table.specs.Leg.{middle_place, middle_place_by, place_behind, place_from}
-use Rattle.leg_table.specs.Sids.{first_address, is_last, is_middle, sid_address, sid_exposes, sid_goes_on, takes_step}
+use Rattle.leg_table.specs.Sids.{first_address, is_middle, sid_address, sid_exposes, sid_goes_on, takes_step}
 use Rattle.loose_meanings.specs.Legs.{finish_found, leg_found, way_found}
-use Rattle.loose_meanings.specs.Sids.{is_sid_at, is_start, is_via, sid_suits, start_of, step_before}
-use Rattle.loose_meanings.specs.Steps.{AreSteps, node_at, steps_left}
+use Rattle.loose_meanings.specs.Sids.{is_sid_at, is_start, start_of}
+use Rattle.loose_meanings.specs.Steps.{AreSteps, steps_left}
 use Rattle.loose_meanings.proofs.Ways.{start-at}
-use Rattle.loose_legs.specs.Table.{AreFurther, AreOnward, AreRowsFrom, AreTables, IsRowFrom, finish_to, leg_to, onward_at, onward_from, onward_of, onward_or_none, row_at, row_or_none}
+use Rattle.loose_legs.specs.Table.{AreFurther, AreOnward, AreRowsFrom, AreTables, IsRowFrom, finish_to, leg_to, onward_at, onward_from, onward_of, onward_or_none}
 use Rattle.loose_legs.specs.declared.onwards.Onward.{Onward}
 
 -- ---- what is found in the graphs of the SIDs
@@ -32,9 +32,6 @@ pub sid-address : (net : Network) (n a : ℕ) (s : SidEntry) → slice_get net.s
 sid-address net n a s there e = e ∙ ap first_address (sym there)
 
 module _ (net : Network) (steps : List Step) where
-  pub no-tables : AreTables net steps 0 []
-  no-tables = record { long = refl; each = λ n table there. absurd (omega (arith, slice_get_within [] n table there)) }
-
   pub table-more : (count a : ℕ) (s : SidEntry) (tables more : List (List (Option Found))) (table : List (Option Found))
       → AreTables net steps count tables → slice_get net.sids count ≡ Some s → a ≡ s.prefix.value
       → AreFound (graph_in net a steps) table → more ≡ tables ++ table ∷ [] → AreTables net steps (count + 1) more
@@ -69,9 +66,6 @@ module _ (net : Network) (intent : Intent) (steps : List Step) where
       ap₂ (λ (l : Option Leg) (f : Option ℕ). record { leg = l; finish = f }) (leg_is ∙ ap (leg_to net steps next) way)
       (finish_is ∙ ap (finish_to net intent.inner steps next) way)
 
-  pub no-onward : (left : ℕ) (place : Place) → AreOnward net intent steps left place 0 []
-  no-onward left place = record { long = refl; each = λ next low. absurd (omega arith) }
-
   pub onward-more : (left : ℕ) (place : Place) (count : ℕ) (row more : List Onward) (onward : Onward)
       → AreOnward net intent steps left place count row → onward ≡ onward_from net intent steps left place count
       → more ≡ row ++ onward ∷ [] → AreOnward net intent steps left place (count + 1) more
@@ -82,29 +76,6 @@ module _ (net : Network) (intent : Intent) (steps : List Step) where
       record { long = m.0; each = m.1 }
 
   -- ---- starts
-
-  nothing-on : (next : ℕ) → leg_to net steps next None ≡ None
-  nothing-on next = by_test (is_middle net next)
-    where
-      by_test : (b : Bool) → Path (Option Leg) (if b then None else None) None
-      by_test true = refl
-      by_test false = refl
-
-  nothing-at_end : (next : ℕ) → finish_to net intent.inner steps next None ≡ None
-  nothing-at_end next = by_test (is_last net intent.inner next)
-    where
-      by_test : (b : Bool) → Path (Option ℕ) (if b then None else None) None
-      by_test true = refl
-      by_test false = refl
-
-  -- where there is no start nothing leads on
-  pub no-row : (position : ℕ) (via : Option ℕ) → start_of net intent steps position via ≡ None → IsRowFrom net intent steps position via []
-  no-row position via none next =
-      let way : way_found net intent steps position via (sid_address net next) ≡ None
-      = ap (option_and_then (found_in net (sid_address net next) steps (length steps - position))) none in
-      ap₂ (λ (l : Option Leg) (f : Option ℕ). record { leg = l; finish = f })
-      (sym (ap (leg_to net steps next) way ∙ nothing-on next))
-      (sym (ap (finish_to net intent.inner steps next) way ∙ nothing-at_end next))
 
   pub row-from : (position left : ℕ) (via : Option ℕ) (place : Place) (row : List Onward) → left ≡ length steps - position
       → start_of net intent steps position via ≡ Some place → AreOnward net intent steps left place (length net.sids) row
@@ -165,17 +136,6 @@ module _ (net : Network) (intent : Intent) (steps : List Step) where
       by_low true = refl
       by_low false = refl
 
-  pub no-start-beyond : (position via : ℕ) → length net.sids ≤ via → start_of net intent steps position (Some via) ≡ None
-  no-start-beyond position via past =
-      sym (no-start position via
-      (ap (sid_suits via (slice_get steps position) (node_at net intent steps position) (step_before steps position))
-      (slice_get_past net.sids via past)))
-
-  pub no-start-past : (position : ℕ) (via : Option ℕ) → length steps < position → start_of net intent steps position via ≡ None
-  no-start-past position via past =
-      ap (λ (b : Bool). if b && is_via net intent steps position via then place_from net intent via else None)
-      (lt-leb position (length steps) past)
-
   pub start-place : Keeps net → AreSteps net intent steps → (position : ℕ) (via : Option ℕ) (start : Option Place)
       → start ≡ start_of net intent steps position via → IfSome start (IsPlace net)
   start-place keeps are position via start e = by_start start e
@@ -195,9 +155,6 @@ module _ (net : Network) (intent : Intent) (steps : List Step) where
     pub long : length rows ≡ count
     pub each : (via : ℕ) (row : List Onward) → slice_get rows via ≡ Some row → IsRowFrom net intent steps position (Some via) row
 
-  pub no-rows : (position : ℕ) → AreRowsBelow position 0 []
-  no-rows position = record { long = refl; each = λ via row there. absurd (omega (arith, slice_get_within [] via row there)) }
-
   pub row-more : (position count : ℕ) (rows more : List (List Onward)) (row : List Onward) → AreRowsBelow position count rows
       → IsRowFrom net intent steps position (Some count) row → more ≡ rows ++ row ∷ [] → AreRowsBelow position (count + 1) more
   row-more position count rows more row are is e =
@@ -206,47 +163,7 @@ module _ (net : Network) (intent : Intent) (steps : List Step) where
       e in
       record { long = m.0; each = m.1 }
 
-  pub whole-rows : (position : ℕ) (rows : List (List Onward)) → AreRowsBelow position (length net.sids) rows
-      → AreRowsFrom net intent steps position rows
-  whole-rows position rows are via = by_place (cases_lt via (length net.sids))
-    where
-      by_place : (via < length net.sids) ⊎ (length net.sids ≤ via) → IsRowFrom net intent steps position (Some via) (row_at rows via)
-      by_place (inl less) =
-          let long = are.long in
-          let there = slice_get-get_or rows via [] (omega (arith, long, less)) in
-          subst (λ (xs : List Onward). IsRowFrom net intent steps position (Some via) xs) (sym (ap row_or_none there))
-          (are.each via (get_or rows via []) there)
-      by_place (inr past) =
-          let long = are.long in
-          subst (λ (xs : List Onward). IsRowFrom net intent steps position (Some via) xs)
-          (sym (ap row_or_none (slice_get_past rows via (omega (arith, long, past)))))
-          (no-row position (Some via) (no-start-beyond position via past))
-
-  -- beyond the last position nothing leads on
-  pub no-rows-past : (position : ℕ) → length steps + 1 ≤ position → AreRowsFrom net intent steps position []
-  no-rows-past position past via =
-      subst (λ (xs : List Onward). IsRowFrom net intent steps position (Some via) xs)
-      (sym (ap row_or_none (slice_get_past {X = List Onward} [] via (omega arith))))
-      (no-row position (Some via) (no-start-past position (Some via) (omega (arith, past))))
-
-  -- nor from a start without a SID behind the first position
-  pub no-row-later : (position : ℕ) → (position ≡ 0 → ⊥) → IsRowFrom net intent steps position None []
-  no-row-later position differ = no-row position None (by_test (position == 0) refl)
-    where
-      by_low : (b : Bool) → Path (Option Place) (if b && false then place_from net intent None else None) None
-      by_low true = refl
-      by_low false = refl
-
-      by_test : (b : Bool) → (position == 0) ≡ b → start_of net intent steps position None ≡ None
-      by_test true e = absurd (differ (eqb-true position 0 e))
-      by_test false e =
-          ap (λ (t : Bool). if nat_le position (length steps) && t then place_from net intent None else None) e
-          ∙ by_low (nat_le position (length steps))
-
   -- ---- the rows of all positions
-
-  pub no-further : AreFurther net intent steps 0 []
-  no-further = record { long = refl; each = λ position rows there. absurd (omega (arith, slice_get_within [] position rows there)) }
 
   pub further-more : (count : ℕ) (further more : List (List (List Onward))) (rows : List (List Onward))
       → AreFurther net intent steps count further → AreRowsFrom net intent steps count rows → more ≡ further ++ rows ∷ []

@@ -1,4 +1,4 @@
--- The steps of an intent, as traces with reaches and ways over graphs know them.
+-- The steps of an intent, as traces with reaches and ways over graphs know them. (own rule)
 use Rattle.std.specs.Prelude.{List, map}
 use Rattle.intent_reader.specs.declared.intent.Step.{Step}
 use Rattle.intent_reader.specs.declared.intent.Step.TheVariants as intents

@@ -88,13 +88,6 @@ row_at rows via = row_or_none (slice_get rows via)
 abbrev pub AreRowsFrom : Network → Intent → List Step → ℕ → List (List Onward) → Type 0
 AreRowsFrom net intent steps position rows = (via : ℕ) → IsRowFrom net intent steps position (Some via) (row_at rows via)
 
-abbrev pub rows_or_none : Option (List (List Onward)) → List (List Onward)
-rows_or_none None = []
-rows_or_none (Some rows) = rows
-
-abbrev pub rows_at : List (List (List Onward)) → ℕ → List (List Onward)
-rows_at further position = rows_or_none (slice_get further position)
-
 -- the rows of the first positions
 pub record AreFurther (net : Network) (intent : Intent) (steps : List Step) (count : ℕ) (further : List (List (List Onward))) : Type 0 where
   pub long : length further ≡ count

@@ -1,6 +1,6 @@
 //! The table of an intent's legs along steps of which some may be to reach a node.
 
-ghost use Rattle.std.specs.Prelude.{◌≡◌, ◌<◌, ◌≤◌, length, Some, IfOk};
+ghost use Rattle.std.specs.Prelude.{◌≡◌, ◌≤◌, length, Some, IfOk};
 ghost use Rattle.net_model.specs.Keeps.{Keeps};
 ghost use Rattle.net_model.specs.Rules.{IsNetwork};
 ghost use Rattle.flat_networks.specs.Flat.{IsFlat};

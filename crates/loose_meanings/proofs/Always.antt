@@ -90,9 +90,6 @@ module _ (net : Network) (keeps : Keeps net) (steps : List Step) (few : length s
   abbrev code : ℕ → ℕ → ℕ
   code n left = n * 64 + left
 
-  hop-same : with_hop_limit p.hop_limit p ≡ p
-  hop-same = refl
-
   facts-of : (pick : ℕ → ℕ) (fuel : ℕ) (stop : Stop) → first_stop (ends_in net) ts (stages pick fuel) ≡ Some stop
       → StopFacts net p (λ us at. Unit {0}) stop
   facts-of pick fuel stop h =

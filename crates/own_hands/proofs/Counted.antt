@@ -1,5 +1,5 @@
 -- A walk over bytes hands over what the walk over values does, at the depth that is counted by outcomes.
-use Rattle.std.proofs.Common.{◌≡◌, ℕ, zero, suc, ◌+◌, ◌-◌, List, [], ◌∷◌, length, Option, Some, None, refl, sym, ◌∙◌, ap, subst, arith}
+use Rattle.std.proofs.Common.{◌≡◌, ℕ, zero, suc, ◌+◌, List, [], ◌∷◌, length, Option, Some, None, refl, sym, ◌∙◌, ap, subst, arith}
 use Rattle.std.specs.Option.{option_map}
 use Rattle.srv6_rules.specs.Packet.{Packet, Content, V6, V4, Unreadable, IsContent}
 use Rattle.net_model.specs.Keeps.{Keeps}

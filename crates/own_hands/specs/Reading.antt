@@ -1,4 +1,5 @@
--- The same as a sentence: which stages there are up to the packet's own hand-over, what their trace is, and how many have a header in front.
+-- The same as a sentence: which stages there are up to the packet's own hand-over, what their trace is, and how many have a
+-- header in front. (own rule)
 use Rattle.std.specs.Prelude.{◌≡◌, ℕ, ◌<◌, List, [], ◌∷◌, ◌++◌, length}
 use Rattle.srv6_rules.specs.declared.family.Family.{Family}
 use Rattle.srv6_rules.specs.Packet.{Packet}

@@ -1,4 +1,4 @@
--- Lists of segments that realize an intent through binding SIDs.
+-- Lists of segments that realize an intent through binding SIDs. (own rule)
 use Rattle.std.specs.Prelude.{◌≡◌, ℕ, ◌<◌, ◌≤◌, List, [], length, Some, IsTrue}
 use Rattle.srv6_rules.specs.declared.family.Family.{Family}
 use Rattle.srv6_rules.specs.Packet.{Content, V6}

@@ -61,8 +61,8 @@ pub fn what_is_small_keeps_to_the_intent()
 {}
 
 /// In a network without a binding SID a packet's own hand-over is the first one of its walk, so a
-/// list realizes an intent, with its need and as many SIDs, exactly where it does so today (own
-/// rule).
+/// list realizes an intent, with its need and as many SIDs, exactly where it does so by the first
+/// hand-over (own rule).
 pub fn without_binding_sids_hand_overs_are_the_first()
     ensures stages { (net : Network) (stages : List Stage) →
         handed_own net 0 (map alone stages) ≡ handed_over net stages }

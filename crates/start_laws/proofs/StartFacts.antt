@@ -44,9 +44,6 @@ facts-of net intent position place s =
     record { within = s.within; stands = s.stands; rest = s.rest; how = s.is_place.1; family = s.family }
 
 module _ (net : Network) (keeps : Keeps net) (intent : Intent) (is_intent : IsIntent net intent) where
-  count : ℕ
-  count = length intent.steps
-
   start-of : (position : ℕ) (place : Place) → IsPlace net place → position ≤ length intent.steps
       → node_at net intent position ≡ Some place.node → place.family ≡ families.V6 → IsStart net intent position place
   start-of position place is within stands family =

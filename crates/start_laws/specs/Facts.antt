@@ -1,4 +1,4 @@
--- What holds of the place from which a packet goes on.
+-- What holds of the place from which a packet goes on. (own rule)
 use Rattle.std.specs.Prelude.{ℕ, ◌≤◌}
 use Rattle.net_model.specs.Network.{Network}
 use Rattle.intent_reader.specs.declared.intent.Intent.{Intent}

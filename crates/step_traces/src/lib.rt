@@ -6,14 +6,14 @@
 //! none where it leads out of the network; so they know of no network.
 //!
 //! How many steps are left is all that a walk has to know of its past: a reach that has begun and
-//! one that has not are one state. `left_behind_link` and `left_behind_function` go from one state
-//! to the next. A crate whose steps have a type of its own maps them to `Step`, links and functions
-//! as they are and a step `{ reach = "NODE" }` to `Reach` of the node's number. Where no step is a
-//! reach this is what it is for steps of one event each.
+//! one that has not are one state. `left_behind_link` goes from one state to the next. A crate
+//! whose steps have a type of its own maps them to `Step`, links and functions as they are and a
+//! step `{ reach = "NODE" }` to `Reach` of the node's number. Where no step is a reach this is what
+//! it is for steps of one event each.
 #![tactic(auto)]
 
 mod laws;
 mod steps;
 
 pub use laws::{left_steps_are_a_state, strict_steps_meet_one_event_each, traces_split_in_one_way};
-pub use steps::{Step, left_behind_function, left_behind_link};
+pub use steps::{Step, left_behind_link};

@@ -1,7 +1,7 @@
-//! Steps, and how many of them are left behind a link or a function.
+//! Steps, and how many of them are left behind a link.
 
-ghost use Rattle.std.specs.Prelude.{◌≡◌, ◌<◌};
-ghost use Rattle.step_traces.specs.Traces.{Crossed, Ends, Executed, count_left, has_link, left_behind};
+ghost use Rattle.std.specs.Prelude.{◌≡◌};
+ghost use Rattle.step_traces.specs.Traces.{Crossed, Ends, count_left, has_link, left_behind};
 
 use base::Seq;
 
@@ -17,7 +17,7 @@ pub enum Step {
     Reach(u32),
 }
 
-/// a set has a link
+/// Whether a set has a link. (own rule)
 fn has(set: &[u32], link: u32) -> bool
     ensures { result ≡ has_link set.now link }
 {
@@ -42,22 +42,6 @@ pub fn left_behind_link(steps: &[Step], link: u32, end: Option<u32>) -> Option<u
         Step::Reach(node) => {
             if end? != *node {
                 return Some(steps.len());
-            }
-            Some(rest.len())
-        }
-    }
-}
-
-/// How many steps are left behind a function: none where it isn't the first step. (own rule)
-pub fn left_behind_function(steps: &[Step], n: u32) -> Option<usize>
-    ensures { (to : Ends) → result ≡ count_left (left_behind to steps.now (Executed n)) }
-{
-    let (step, rest) = steps.split_first()?;
-    match step {
-        Step::Links(_) | Step::Reach(_) => None,
-        Step::Function(m) => {
-            if *m != n {
-                return None;
             }
             Some(rest.len())
         }

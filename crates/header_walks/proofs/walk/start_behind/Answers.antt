@@ -44,4 +44,5 @@ returns-in_ok-top-in-Some c =
     (ap (λ (how : How). record { node = entry.node; how = how; family = families.V6 }) c.onward_from.ensures)
     (c.in_ok-top-in-Some.ensures found.0 found.1
     ∙ ap (λ (r : Bool). outer_by found.0.policy r families.V6 []) c.reduces.ensures)
-    _ (ap reverse c.new.ensures.items) c.as_slice.result.now c.as_slice.ensures c.walked.result c.walked.ensures.value c.walked.ensures.within
+    _ (ap reverse c.new.ensures.items) c.as_slice.result.now c.as_slice.ensures c.walked.result c.walked.ensures.value
+    c.walked.ensures.within
