@@ -1,6 +1,7 @@
 pub mod Celling
 pub mod Rooms
 pub mod Tables
+pub mod StayRooms
 pub mod RelaxedRooms
 pub mod Relaxing
 pub mod Settling

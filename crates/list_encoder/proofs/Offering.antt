@@ -1,20 +1,24 @@
 -- What a settled state offers lowers the states in front of it, edge by edge.
 use Rattle.std.proofs.Common.{◌≡◌, ℕ, ◌+◌, ◌*◌, ◌<◌, inl, inr, Bool, true, false, ◌&&◌, List, length, Option, Some, None, slice_get, get_or, Contains, refl, sym, ◌∙◌, ap, subst, arith}
+use Rattle.std.specs.Prelude.{IsTrue}
 use Rattle.std.specs.Option.{option_map}
 use Rattle.std.specs.BTreeSet.{BTreeSet}
-use Rattle.std.proofs.lemmas.Bool.{cases_lt}
+use Rattle.std.proofs.lemmas.Bool.{cases_lt, false≢true}
 use Rattle.list_pack.specs.declared.types.Cost.{Cost}
+use Rattle.list_pack.specs.declared.types.Shape.{Shape}
 use Rattle.list_pack.specs.Value.{LegsValue}
+use Rattle.list_pack.specs.Rooms.{room_behind}
 use Rattle.list_pack.specs.Costs.{AtMost, plus, move_cost, room_to, bars, Under}
 use Rattle.list_pack.proofs.PublicLaws.{under-itself, under-trans}
 use Rattle.list_encoder.specs.declared.cells.Cell.{Cell}
 use Rattle.list_encoder.specs.declared.table.CellEdge.{CellEdge}
 use Rattle.list_encoder.specs.declared.waiting.Waiting.{Waiting}
 use Rattle.list_encoder.specs.declared.offers.Offer.{Offer}
-use Rattle.list_encoder.specs.Table.{Costs, at, entry, rest_at, RoomHolds, RoomRelaxed, LeavesRoom, move_by}
+use Rattle.list_encoder.specs.Table.{Costs, at, entry, rest_at, RoomHolds, RoomRelaxed, LeavesRoom, IsShapeOf, move_by}
 use Rattle.list_encoder.specs.Waiting.{is_done, IsLoweredAt}
 use Rattle.list_encoder.specs.Offers.{IsSettledAt, IsOffer, Advances, Takes, OffersRoom, LeavesIt, OffersWay, OffersEdge, offer_of, LeadInto, OffersAll}
 use Rattle.list_encoder.proofs.Celling.{some-same}
+use Rattle.list_encoder.proofs.StayRooms.{room-left}
 use Rattle.list_encoder.proofs.RelaxedRooms.{edge-barred}
 
 pub at-most-more : (m d : Cost) → AtMost d (plus m d)
@@ -75,6 +79,19 @@ way-barred v cells t w done offer told is e barred = record {
   advances = kept-advances v cells t w done offer is;
   takes = λ room h it.
       absurd (edge-barred v cells offer.edge offer.stays told is.is_edge e barred it.0 room offer.left it.1 it.2);
+}
+
+-- no room of the edge's first cell may leave the offer's
+pub way-shut : (v : LegsValue) (cells : List Cell) (t : Costs) (w : BTreeSet Waiting) (done : List Bool) (offer : Offer)
+    (from : Option Shape) (next : Shape) (told : Bool) → IsOffer v cells t w done offer → IsShapeOf v cells offer.edge.from from
+    → next ≡ v.shape offer.edge.sid
+    → ((room : ℕ) → room < 8 → room_behind offer.stays from room next ≡ Some offer.left → IsTrue told) → told ≡ false
+    → OffersWay v cells offer 8 t done t w done
+way-shut v cells t w done offer from next told is is_from is_next may shut = record {
+  advances = kept-advances v cells t w done offer is;
+  takes = λ room h it.
+      absurd (false≢true (sym shut ∙ may room h
+      (room-left v offer.stays it.0.via offer.edge.sid room offer.left from next (is_from it.0 it.1) is_next it.2)));
 }
 
 -- ---- one room

@@ -15,6 +15,7 @@ use Rattle.list_encoder.specs.declared.table.CellEdge.{CellEdge}
 use Rattle.list_encoder.specs.Cells.{cell_at, IsCell, AreCells}
 use Rattle.list_encoder.specs.Table.{Costs, at, entry, rest_at, offer, LeadsTo, IsCellEdge, IsSound, EdgeHolds, Holds, RoomHolds, RoomRelaxed, RoomsRelaxed, Relaxed, LeavesRoom, IsShapeOf, move_by}
 use Rattle.list_encoder.proofs.Celling.{some-same, cell-read}
+use Rattle.list_encoder.proofs.StayRooms.{stays-less, room-left}
 use Rattle.list_encoder.proofs.Tables.{kept-passed, passed-then}
 
 -- what is left after an edge falls where the table does
@@ -162,6 +163,19 @@ rooms-barred v cells edge stays told low high t is e barred sound =
       sound = sound;
       passed = kept-passed (edge.from + 1) t;
       holds = λ cell room left here l h leaves. absurd (edge-barred v cells edge stays told is e barred cell room left here leaves);
+    }
+
+-- an edge that can't stay with the most room that there may be lowers nothing by staying
+pub rooms-shut : (v : LegsValue) (cells : List Cell) (edge : CellEdge) (from : Option Shape) (next : Shape) (t : Costs)
+    → IsShapeOf v cells edge.from from → next ≡ v.shape edge.sid → IsSound v cells t → room_behind true from 7 next ≡ None
+    → RoomsRelaxed v cells edge true 0 8 t t false
+rooms-shut v cells edge from next t is_from is_next sound none =
+    record {
+      sound = sound;
+      passed = kept-passed (edge.from + 1) t;
+      holds = λ cell room left here l h leaves.
+          absurd (stays-less from room left next h none
+          (room-left v true cell.via edge.sid room left from next (is_from cell here) is_next leaves));
     }
 
 -- what holds of an edge between two tables holds in a later one that leaves what is after the edge as it was

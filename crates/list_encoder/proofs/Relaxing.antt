@@ -13,7 +13,7 @@ use Rattle.list_pack.specs.Costs.{Under}
 use Rattle.list_pack.proofs.PublicLaws.{under-itself, under-trans}
 use Rattle.list_encoder.specs.declared.cells.Cell.{Cell}
 use Rattle.list_encoder.specs.declared.table.CellEdge.{CellEdge}
-use Rattle.list_encoder.specs.Table.{Costs, at, LeadsTo, IsCellEdge, IsSound, Passed, EdgeHolds, Holds, Relaxed, EndsHold, EndsRelaxed, LegsHold, Keeps, LegsRelaxed, AreCellEdges}
+use Rattle.list_encoder.specs.Table.{Costs, at, LeadsTo, IsCellEdge, IsSound, Passed, EdgeHolds, Holds, Relaxed, EndsHold, EndsRelaxed, LegsHold, Keeps, LegsRelaxed, AreCellEdges, Gathers}
 use Rattle.list_encoder.proofs.Celling.{some-same, place_of}
 use Rattle.list_encoder.proofs.Tables.{passed-then}
 use Rattle.list_encoder.proofs.RelaxedRooms.{holds-later, rest-end, rest-far, end-one, leg-one}
@@ -214,6 +214,32 @@ pub record GatheredSoFar (v : LegsValue) (cells : List Cell) (first later k : �
   pub ends : (j : ℕ) → first ≤ j → j < k → EndsHold v cells j after
   pub legs : (j : ℕ) → first ≤ j → j < k → LegsHold v cells j first later (length cells) after edges
   pub are : AreCellEdges v cells later edges
+
+-- no cell yet
+pub gathered-none : (v : LegsValue) (cells : List Cell) (first later : ℕ) (t : Costs) → IsSound v cells t
+    → GatheredSoFar v cells first later first t t []
+gathered-none v cells first later t sound =
+    record {
+      sound = sound;
+      falls = λ i. under-itself (at t i);
+      above = λ i h. refl;
+      ends = λ j h l edge f e is. absurd (omega (arith, h, l));
+      legs = λ j h l edge to f e g m is. absurd (omega (arith, h, l));
+      are = λ edge among. absurd (omega (arith, among.1));
+    }
+
+-- all cells of the position
+pub gathered-all : (v : LegsValue) (cells : List Cell) (first later k : ℕ) (t0 t : Costs) (edges : List CellEdge)
+    → GatheredSoFar v cells first later k t0 t edges → later ≤ k → Gathers v cells first later t0 t edges
+gathered-all v cells first later k t0 t edges so done =
+    record {
+      sound = so.sound;
+      falls = so.falls;
+      above = so.above;
+      ends = λ j h l. so.ends j h (omega (arith, l, done));
+      legs = λ j h l. so.legs j h (omega (arith, l, done));
+      are = so.are;
+    }
 
 module _ (v : LegsValue) (cells : List Cell) (first later k : ℕ) (t0 t t1 t2 : Costs) (edges more : List CellEdge) (x y : Bool)
     (within : k < later)

@@ -1,6 +1,6 @@
 //! The cells of a table of costs: the start, and the SIDs of all positions.
 
-ghost use Rattle.std.specs.Prelude.{◌≡◌, ◌+◌, ◌++◌, ◌≤◌, ◌<◌, ◌&&◌, map, Some, OnOk, IfOk};
+ghost use Rattle.std.specs.Prelude.{◌≡◌, ◌+◌, ◌++◌, ◌≤◌, ◌&&◌, map, Some, OnOk, IfOk};
 ghost use Rattle.std.specs.Option.{option_map};
 ghost use Rattle.list_pack.specs.Value.{IsSid};
 ghost use Rattle.list_pack.specs.Costs.{bars};

@@ -1,6 +1,6 @@
 //! The costs of a position, lowered by the finishes and by the legs to later positions.
 
-ghost use Rattle.std.specs.Prelude.{◌≡◌, ◌+◌, ◌*◌, ◌≤◌, ◌<◌, true, false, length, replicate, Some, None, OnOk, IfOk, ◌==◌, if◌then◌else◌};
+ghost use Rattle.std.specs.Prelude.{◌≡◌, ◌+◌, ◌*◌, ◌≤◌, ◌<◌, true, false, length, Some, None, IfOk};
 ghost use Rattle.list_pack.specs.Value.{KeepsLaws};
 ghost use Rattle.list_encoder.specs.Cells.{AreCells};
 ghost use Rattle.list_encoder.specs.Table as tables;
@@ -10,6 +10,15 @@ use crate::table::{CellEdge, either, lower, rest_at};
 use base::NoMemory;
 use list_pack::{Cost, Legs, Shape, move_cost, plus, room_behind};
 use std::alloc::Global;
+
+/// The cells of a position: from one on and before another. (own rule)
+#[derive(Clone, Copy, Debug)]
+pub struct Span {
+    /// The place of the first.
+    pub first: usize,
+    /// The place behind the last.
+    pub later: usize,
+}
 
 /// one room of an edge's first cell is lowered by the edge, where a room is left after it
 fn relax_room<L: Legs>(
@@ -186,23 +195,22 @@ fn relax_legs<L: Legs>(
     table: &mut [Option<Cost>],
     from: &Option<Shape>,
     k: usize,
-    first: usize,
-    later: usize,
+    span: Span,
     edges: &mut Vec<CellEdge>,
 ) -> Result<bool, NoMemory>
     requires cells { AreCells (L.seen legs.now) cells.now }
-    requires within { k < later }
-    requires later { later ≤ length cells.now }
+    requires within { k < span.later }
+    requires later { span.later ≤ length cells.now }
     requires from { tables.IsShapeOf (L.seen legs.now) cells.now k from.now }
     requires sound { tables.IsSound (L.seen legs.now) cells.now table.old }
-    requires edges { tables.AreCellEdges (L.seen legs.now) cells.now later edges.old.items }
-    ensures { IfOk result (λ changed. tables.LegsRelaxed (L.seen legs.now) cells.now k first later
-        table.old table.new edges.old.items edges.new.items changed) }
+    requires edges { tables.AreCellEdges (L.seen legs.now) cells.now span.later edges.old.items }
+    ensures { IfOk result (λ changed. tables.LegsRelaxed (L.seen legs.now) cells.now k span.first
+        span.later table.old table.new edges.old.items edges.new.items changed) }
 {
     let mut changed = false;
-    for to in first..cells.len() {
+    for to in span.first..cells.len() {
         if let Some(edge) = edge_into(legs, cells, k, to) {
-            if to < later {
+            if to < span.later {
                 edges.push(edge)?;
             } else {
                 let lowered = relax(legs, cells, table, from, edge);
@@ -220,21 +228,20 @@ pub fn gather<L: Legs>(
     legs: &L,
     cells: &[Cell],
     table: &mut [Option<Cost>],
-    first: usize,
-    later: usize,
+    span: Span,
 ) -> Result<Vec<CellEdge>, NoMemory>
     requires cells { AreCells (L.seen legs.now) cells.now }
-    requires first { first ≤ later }
-    requires later { later ≤ length cells.now }
+    requires first { span.first ≤ span.later }
+    requires later { span.later ≤ length cells.now }
     requires sound { tables.IsSound (L.seen legs.now) cells.now table.old }
-    ensures { IfOk result (λ edges. tables.Gathers (L.seen legs.now) cells.now first later
-        table.old table.new edges.items) }
+    ensures { IfOk result (λ edges. tables.Gathers (L.seen legs.now) cells.now span.first
+        span.later table.old table.new edges.items) }
 {
     let mut edges = Vec::new(alloc);
-    for k in first..later {
+    for k in span.first..span.later {
         let from = shape_of(legs, cells[k]);
         relax_ends(legs, cells, table, &from, k);
-        relax_legs(legs, cells, table, &from, k, first, later, &mut edges)?;
+        relax_legs(legs, cells, table, &from, k, span, &mut edges)?;
     }
     Ok(edges)
 }

@@ -1,6 +1,6 @@
 //! What a settled state offers to those in front of it.
 
-ghost use Rattle.std.specs.Prelude.{◌≡◌, ℕ, ◌+◌, ◌*◌, ◌≤◌, ◌<◌, ◌↔◌, IsTrue, length, Some, OnOk};
+ghost use Rattle.std.specs.Prelude.{◌≡◌, ℕ, ◌+◌, ◌*◌, ◌<◌, ◌↔◌, IsTrue, length, Some, OnOk};
 ghost use Rattle.list_pack.specs.Value.{KeepsLaws, IsShape};
 ghost use Rattle.list_pack.specs.Rooms.{room_behind};
 ghost use Rattle.list_encoder.specs.Cells.{AreCells};

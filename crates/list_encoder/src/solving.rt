@@ -10,7 +10,7 @@ ghost use Rattle.list_encoder.specs.Settling.{LeadToCells, SettlesAll};
 
 use crate::cells::{Cell, first_of};
 use crate::grouped::grouped;
-use crate::lowering::gather;
+use crate::lowering::{Span, gather};
 use crate::offers::offer_all;
 use crate::table::CellEdge;
 use crate::waiting::{Queue, cost_of, queue_of, settle_first};
@@ -50,21 +50,21 @@ fn settle<L: Legs>(
     legs: &L,
     cells: &[Cell],
     table: &mut [Option<Cost>],
-    first: usize,
-    later: usize,
+    span: Span,
 ) -> Result<(), NoMemory>
     requires cells { AreCells (L.seen legs.now) cells.now }
-    requires first { first ≤ later }
-    requires later { later ≤ length cells.now }
+    requires first { span.first ≤ span.later }
+    requires later { span.later ≤ length cells.now }
     requires sound { IsSound (L.seen legs.now) cells.now table.old }
-    ensures { OnOk result (Settled (L.seen legs.now) cells.now first later table.old table.new) }
+    ensures { OnOk result (Settled (L.seen legs.now) cells.now span.first span.later table.old
+        table.new) }
 {
-    let edges = gather(alloc, legs, cells, table, first, later)?;
+    let edges = gather(alloc, legs, cells, table, span)?;
     if edges.is_empty() {
         return Ok(());
     }
-    let into = grouped(alloc, edges.as_slice(), later)?;
-    let mut queue = queue_of(alloc, table, 8 * later)?;
+    let into = grouped(alloc, edges.as_slice(), span.later)?;
+    let mut queue = queue_of(alloc, table, 8 * span.later)?;
     settle_waiting(legs, cells, table, &mut queue, into.as_slice())?;
     Ok(())
 }
@@ -85,7 +85,7 @@ fn settle_all<L: Legs>(
     let mut later = cells.len();
     for done in 0..steps + 1 {
         let first = first_of(legs, cells, steps - done);
-        settle(alloc, legs, cells, table, first, later)?;
+        settle(alloc, legs, cells, table, Span { first, later })?;
         later = first;
     }
     Ok(())

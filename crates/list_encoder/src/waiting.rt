@@ -1,6 +1,6 @@
 //! The states whose costs may still fall, by cost, and those that are settled.
 
-ghost use Rattle.std.specs.Prelude.{◌≡◌, ℕ, ◌<◌, ◌≤◌, [], true, false, length, replicate, slice_set, Some, MatchBool, MatchOption, OnOk, IfOk};
+ghost use Rattle.std.specs.Prelude.{◌≡◌, ◌<◌, ◌≤◌, [], true, false, length, replicate, slice_set, Some, MatchBool, MatchOption, OnOk, IfOk};
 ghost use Rattle.std.specs.BTreeSet as set;
 ghost use Rattle.list_pack.specs.declared.types.Cost.{Cost};
 ghost use Rattle.list_pack.specs.Costs.{Under, AtMost, nothing};

@@ -3,13 +3,13 @@ use Rattle.list_encoder.specs.declared.table.CellEdge.{CellEdge}
 use Rattle.list_encoder.specs.Table.{Costs, IsCellEdge, IsEdgeInto}
 use Rattle.list_encoder.proofs.Relaxing.{LegsSoFar, legs-skip, legs-list, legs-more}
 use Rattle.list_encoder.proofs.lowering.relax_legs.Goals as goal
-use Rattle.list_encoder.proofs.lowering.relax_legs.Goals.{in-Some+then-to-later+in_ok-push, in-Some+else-to-later, in_default}
+use Rattle.list_encoder.proofs.lowering.relax_legs.Goals.{in-Some+then-to-span+in_ok-push, in-Some+else-to-span, in_default}
 
 pub loop-to-preserved : goal.loop-to-preserved
 loop-to-preserved g c =
     let v = g.L.Legs.seen c.args.legs.now in
     let Is : Costs → List CellEdge → Bool → Type 0 =
-    λ t edges changed. LegsSoFar v c.args.cells.now c.args.k c.args.first c.args.later (c.loop-to.to + 1) c.args.table.now t
+    λ t edges changed. LegsSoFar v c.args.cells.now c.args.k c.args.span.first c.args.span.later (c.loop-to.to + 1) c.args.table.now t
     c.args.edges.now.items edges
     changed in
     let joined : (t : Costs) (edges : List CellEdge) (changed : Bool) → c.match-edge_into.table ≡ t → c.match-edge_into.edges.items ≡ edges
@@ -23,25 +23,25 @@ loop-to-preserved g c =
     → ¬ IsCellEdge v c.args.cells.now edge =
     λ e. subst (λ (o : Option CellEdge). IsEdgeInto v c.args.cells.now c.args.k c.loop-to.to o) e c.edge_into.ensures in
     elim c.match-edge_into.branch [
-      | in-Some+then-to-later+in_ok-push w ↦
+      | in-Some+then-to-span+in_ok-push w ↦
           joined c.loop-to.table (c.loop-to.edges.items ++ w.in-Some.edge ∷ []) c.loop-to.changed w.table-is
           (ap (λ (l : Vec CellEdge Global). l.items) w.edges-is ∙ w.in_ok-push.ensures.items) w.changed-is
-          (legs-list v c.args.cells.now c.args.k c.args.first c.args.later c.loop-to.to c.args.table.now c.loop-to.table
+          (legs-list v c.args.cells.now c.args.k c.args.span.first c.args.span.later c.loop-to.to c.args.table.now c.loop-to.table
           c.args.edges.now.items c.loop-to.edges.items
           c.loop-to.changed c.requires.within c.loop-to.invariant w.in-Some.edge w.in-Some.ensures.0 w.in-Some.ensures.1 w.in-Some.ensures.2
-          w.if-to-later.true)
-      | in-Some+else-to-later w ↦
+          w.if-to-span.true)
+      | in-Some+else-to-span w ↦
           joined w.relax-lowered.new.table c.loop-to.edges.items (c.loop-to.changed || w.relax-lowered.result) w.table-is
           (ap (λ (l : Vec CellEdge Global). l.items) w.edges-is) (w.changed-is ∙ w.either-changed.ensures)
-          (legs-more v c.args.cells.now c.args.k c.args.first c.args.later c.loop-to.to c.args.table.now c.loop-to.table
+          (legs-more v c.args.cells.now c.args.k c.args.span.first c.args.span.later c.loop-to.to c.args.table.now c.loop-to.table
           c.args.edges.now.items c.loop-to.edges.items
           c.loop-to.changed c.requires.within c.loop-to.invariant w.in-Some.edge w.relax-lowered.new.table w.relax-lowered.result
           w.in-Some.ensures.0
-          w.in-Some.ensures.1 w.in-Some.ensures.2 w.if-to-later.false w.relax-lowered.ensures)
+          w.in-Some.ensures.1 w.in-Some.ensures.2 w.if-to-span.false w.relax-lowered.ensures)
       | in_default w ↦
           joined c.loop-to.table c.loop-to.edges.items c.loop-to.changed w.table-is (ap (λ (l : Vec CellEdge Global). l.items) w.edges-is)
           w.changed-is
-          (legs-skip v c.args.cells.now c.args.k c.args.first c.args.later c.loop-to.to c.args.table.now c.loop-to.table
+          (legs-skip v c.args.cells.now c.args.k c.args.span.first c.args.span.later c.loop-to.to c.args.table.now c.loop-to.table
           c.args.edges.now.items c.loop-to.edges.items
           c.loop-to.changed c.requires.within c.loop-to.invariant (none w.in_default.is))
     ]

@@ -1,7 +1,14 @@
-use Rattle.std.proofs.Common.{◌+◌, Bool, true, sym, subst}
+use Rattle.std.proofs.Common.{◌+◌, Bool, true, sym, ◌∙◌, subst}
 use Rattle.list_encoder.specs.Table.{RoomsRelaxed}
-use Rattle.list_encoder.proofs.RelaxedRooms.{rooms-more, leaves, edge-cell, edge-free, rooms-barred}
+use Rattle.list_encoder.proofs.StayRooms.{no-room}
+use Rattle.list_encoder.proofs.RelaxedRooms.{rooms-more, leaves, edge-cell, edge-free, rooms-barred, rooms-shut}
 use Rattle.list_encoder.proofs.lowering.relax_stays.Goals as goal
+
+pub returns-then-is_none : goal.returns-then-is_none
+returns-then-is_none g c =
+    rooms-shut (g.L.Legs.seen c.args.legs.now) c.args.cells.now c.args.edge c.args.from.now c.args.next.now c.args.table.now c.requires.from
+    c.requires.next c.requires.sound
+    (sym c.room_behind.ensures ∙ no-room c.room_behind.result c.is_none.result c.is_none.ensures c.if-is_none.true)
 
 pub is_barred-requires-clause-cell : goal.is_barred-requires-clause-cell
 is_barred-requires-clause-cell g c =

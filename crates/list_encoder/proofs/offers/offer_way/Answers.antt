@@ -1,6 +1,12 @@
 use Rattle.list_encoder.proofs.RelaxedRooms.{leaves, edge-cell, edge-free}
-use Rattle.list_encoder.proofs.Offering.{offer-later, way-barred, way-more}
+use Rattle.list_encoder.proofs.Offering.{offer-later, way-barred, way-shut, way-more}
 use Rattle.list_encoder.proofs.offers.offer_way.Goals as goal
+
+pub returns-then-not-may_lead : goal.returns-then-not-may_lead
+returns-then-not-may_lead g c =
+    way-shut (g.L.Legs.seen c.args.legs.now) c.args.cells.now c.args.table.now c.args.queue.now.waiting c.args.queue.now.done.items
+    c.args.offer c.args.from.now c.args.next.now c.may_lead.result c.requires.offer c.requires.from c.requires.next c.may_lead.ensures
+    c.if-not-may_lead.true
 
 pub is_barred-requires-clause-cell : goal.is_barred-requires-clause-cell
 is_barred-requires-clause-cell g c =
