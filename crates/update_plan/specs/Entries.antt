@@ -6,6 +6,7 @@ use Rattle.text_faults.specs.declared.place.TableKind.TheVariants as tables
 use Rattle.net_model.specs.declared.parts.Node.{Node}
 use Rattle.net_model.specs.declared.parts.Route.{Route}
 use Rattle.net_model.specs.Network.{Network}
+use Rattle.net_model.specs.Judging.{same_text}
 use Rattle.flat_networks.specs.Flat.{address_prefix}
 use Rattle.net_model.specs.declared.net.EntryId.TheVariants as ids
 use Rattle.update_plan.specs.declared.entry.PlanEntry.{PlanEntry}
@@ -32,6 +33,10 @@ item_of titles e = record {
 
 abbrev pub is_added : PlanEntry → Bool
 is_added e = not e.kept
+
+-- an old entry and a new one have titles of one text
+abbrev pub have_one_title : List (List ℕ) → List (List ℕ) → PlanEntry → PlanEntry → Bool
+have_one_title before after a b = same_text (text_of before a.title) (text_of after b.title)
 
 -- the entries of items, the first of which has the number n
 abbrev pub entries_from : {X : Type 0} → (ℕ → X → PlanEntry) → ℕ → List X → List PlanEntry

@@ -1,2 +1,3 @@
 pub mod RouteKeys
 pub mod Entries
+pub mod PrefixKeys

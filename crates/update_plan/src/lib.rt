@@ -10,9 +10,11 @@ mod entry;
 mod equal;
 mod gather;
 mod joined;
+mod known_entries;
 mod known_routes;
 mod limits;
 mod plan;
+mod prefix_index;
 
 pub use changes::removed_entries;
 pub use plan::plan_parts;

@@ -8,12 +8,14 @@ ghost use Rattle.net_model.specs.Judging.{InRange};
 ghost use Rattle.update_rules.specs.Joined.{joined_of};
 ghost use Rattle.update_rules.specs.Planning.{conflicting, old_items, new_items, planning};
 ghost use Rattle.update_plan.specs.Entries.{item_of, is_added, Answers};
+ghost use Rattle.update_plan.specs.PrefixKeys.{IsKnown};
 
 use crate::conflicts::{BothTitles, refuse_conflict};
 use crate::differ::refuse_differences;
 use crate::entry::PlanEntry;
 use crate::gather::{added_of, entries_of};
 use crate::joined::join;
+use crate::known_entries::{KnownEntries, know_entries};
 use crate::limits::refuse_limits;
 use net_model::NetParts;
 use std::alloc::Global;
@@ -25,11 +27,13 @@ fn refuse_conflict_among(
     old: &NetParts,
     new: &NetParts,
     olds: &[PlanEntry],
-    news: &[PlanEntry],
-    added: &[PlanEntry],
+    news: &KnownEntries,
+    added: &KnownEntries,
 ) -> Result<(), PlanFault>
-    requires { added.now ≡ filter is_added news.now }
-    ensures { result ≡ conflicting (map (item_of (network_of new.now).titles) news.now)
+    requires news { IsKnown news.now }
+    requires added { IsKnown added.now }
+    requires those { added.now.entries.items ≡ filter is_added news.now.entries.items }
+    ensures { result ≡ conflicting (map (item_of (network_of new.now).titles) news.now.entries.items)
         (map (item_of (network_of old.now).titles) olds.now) }
 {
     let titles = BothTitles {
@@ -49,7 +53,9 @@ fn refuse_conflicts(alloc: Global, old: &NetParts, new: &NetParts) -> Result<(),
     let olds = entries_of(alloc, old, new)?;
     let news = entries_of(alloc, new, old)?;
     let added = added_of(alloc, news.as_slice())?;
-    refuse_conflict_among(old, new, olds.as_slice(), news.as_slice(), added.as_slice())
+    let known = know_entries(alloc, news)?;
+    let known_added = know_entries(alloc, added)?;
+    refuse_conflict_among(old, new, olds.as_slice(), &known, &known_added)
 }
 
 /// The parts of the joined network, of which a network can be built, or the first fault: the first

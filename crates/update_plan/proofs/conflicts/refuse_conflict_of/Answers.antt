@@ -10,7 +10,7 @@ pub returns-then-a : goal.returns-then-a
 returns-then-a c =
     let a = item_of c.args.titles.now.before.now c.args.a.now in
     let titles = c.args.titles.now.after.now in
-    c.refuse_conflict_among.ensures
+    c.refuse_known_conflict.ensures
     ∙ ap (λ (o : Option Item). conflict_or a o (Ok tt))
-    (ap (λ (es : List PlanEntry). find (conflict a) (map (item_of titles) es)) c.requires
-    ∙ among_added titles a c.args.news.now c.if-a.true)
+    (ap (λ (es : List PlanEntry). find (conflict a) (map (item_of titles) es)) c.requires.those
+    ∙ among_added titles a c.args.news.now.entries.items c.if-a.true)

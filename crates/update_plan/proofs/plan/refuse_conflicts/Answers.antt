@@ -26,5 +26,5 @@ pub returns : goal.returns
 returns c =
     answers_from c.refuse_conflict_among.result _
     (c.refuse_conflict_among.ensures
-    ∙ entries_conflict (network_of c.args.old.now) (network_of c.args.new.now) c.as_slice-2.result.now c.as_slice-3.result.now
-    (c.as_slice-2.ensures.value ∙ c.in_ok-olds.ensures) (c.as_slice-3.ensures.value ∙ c.in_ok-news.ensures))
+    ∙ entries_conflict (network_of c.args.old.now) (network_of c.args.new.now) c.as_slice-2.result.now c.in_ok-known.known.entries.items
+    (c.as_slice-2.ensures.value ∙ c.in_ok-olds.ensures) (c.in_ok-known.ensures.same ∙ c.in_ok-news.ensures))
