@@ -1,4 +1,7 @@
 //! What is found in a graph that was gone through by hand.
+
+ghost use Rattle.std.specs.Prelude.{◌<◌, ◌^◌, length};
+
 use base::{NoMemory, Seq};
 use loose_graph::{Found, Spot, Start, find_spots, find_start};
 use std::alloc::Global;
@@ -12,16 +15,11 @@ fn spot(alloc: Global, row: &[u32]) -> Result<Spot, NoMemory> {
     }
 }
 
-fn graph(alloc: Global, rows: &[&[u32]]) -> Result<Vec<Spot>, NoMemory> {
-    let mut spots = Vec::new(alloc);
-    for row in rows {
-        spots.push(spot(alloc, row)?)?;
-    }
-    Ok(spots)
-}
+/// the greatest number of lowerings and the answer that all choices come to
+type Wanted = Option<(u32, u32)>;
 
-/// each spot with the greatest number of lowerings and the answer that all choices come to
-const ROWS: [(&[u32], Option<(u32, u32)>); 15] = [
+/// each spot, and what is found there
+const ROWS: &[(&[u32], Wanted)] = &[
     // two ways of different length to one end
     (&[1, 2], Some((3, 107))),
     (&[4], Some((1, 107))),
@@ -44,46 +42,74 @@ const ROWS: [(&[u32], Option<(u32, u32)>); 15] = [
     (&[15], None),
 ];
 
-#[test]
-fn finds_the_answer_of_all_choices(rt: HostRuntime) -> Result<(), NoMemory> {
-    let mut rows = Vec::new(rt.alloc());
+/// orders in which spots are gone through first
+const ORDERS: &[&[u32]] = &[&[], &[4, 3, 2, 1, 0, 13, 9], &[0, 0, 99, 13]];
+
+/// starts in front of the graph, which lower the hop limit or not, and what is found from there
+const STARTS: &[(bool, &[u32], Wanted)] = &[
+    (false, &[1, 4], Some((1, 107))),
+    (true, &[1, 4], Some((2, 107))),
+    (false, &[1, 9], None),
+    (false, &[109], Some((0, 109))),
+    (true, &[109], Some((0, 109))),
+    (true, &[], None),
+];
+
+fn graph(alloc: Global) -> Result<Vec<Spot>, NoMemory> {
+    let mut spots = Vec::new(alloc);
     for (row, _) in ROWS {
-        rows.push(row)?;
+        spots.push(spot(alloc, row)?)?;
     }
-    let spots = graph(rt.alloc(), rows.as_slice())?;
-    assert!(rt; spots.len() < 100);
-    let orders: [&[u32]; 3] = [&[], &[4, 3, 2, 1, 0, 13, 9], &[0, 0, 99, 13]];
-    for order in orders {
-        let table = find_spots(rt.alloc(), spots.as_slice(), order)?;
-        assert_eq!(rt; table.len(), ROWS.len());
-        for (v, (_, want)) in ROWS.iter().enumerate() {
-            let want = want.map(|(most, answer)| Found { most, answer });
-            assert_eq!(rt; table[v], want);
+    Ok(spots)
+}
+
+fn is(found: Option<Found>, wanted: Wanted) -> bool {
+    match (found, wanted) {
+        (Some(found), Some((most, answer))) => found.most == most && found.answer == answer,
+        (None, None) => true,
+        (Some(_), None) | (None, Some(_)) => false,
+    }
+}
+
+fn are_all(table: &[Option<Found>]) -> bool {
+    for (found, (_, wanted)) in table.iter().zip(ROWS) {
+        if !is(*found, *wanted) {
+            return false;
         }
     }
-    Ok(())
+    table.len() == ROWS.len()
+}
+
+fn finds_rows(alloc: Global, spots: &[Spot], order: &[u32]) -> Result<bool, NoMemory>
+    requires { length spots.now < 2 ^ 32 }
+{
+    let table = find_spots(alloc, spots, order)?;
+    Ok(are_all(table.as_slice()))
+}
+
+fn found_from(
+    alloc: Global,
+    spots: &[Spot],
+    lowers: bool,
+    row: &[u32],
+) -> Result<Option<Found>, NoMemory>
+    requires { length spots.now < 2 ^ 32 }
+{
+    let table = find_spots(alloc, spots, &[])?;
+    let spot = spot(alloc, row)?;
+    Ok(find_start(spots, table.as_slice(), &Start { lowers, spot }))
 }
 
 #[test]
-fn first_moves_lower_or_not(rt: HostRuntime) -> Result<(), NoMemory> {
-    let spots = graph(rt.alloc(), &[&[1], &[107], &[108]])?;
+fn finds_the_answer_of_all_choices(rt: HostRuntime) -> Result<(), NoMemory> {
+    let spots = graph(rt.alloc())?;
     assert!(rt; spots.len() < 100);
-    let table = find_spots(rt.alloc(), spots.as_slice(), &[1, 0])?;
-    let starts: [(bool, &[u32], Option<(u32, u32)>); 6] = [
-        (false, &[0, 1], Some((1, 107))),
-        (true, &[0, 1], Some((2, 107))),
-        (false, &[0, 2], None),
-        (false, &[109], Some((0, 109))),
-        (true, &[109], Some((0, 109))),
-        (true, &[], None),
-    ];
-    for (lowers, row, want) in starts {
-        let start = Start {
-            lowers,
-            spot: spot(rt.alloc(), row)?,
-        };
-        let found = find_start(spots.as_slice(), table.as_slice(), &start);
-        assert_eq!(rt; found, want.map(|(most, answer)| Found { most, answer }));
+    for order in ORDERS {
+        assert!(rt; finds_rows(rt.alloc(), spots.as_slice(), order)?);
+    }
+    for (lowers, row, wanted) in STARTS {
+        let found = found_from(rt.alloc(), spots.as_slice(), *lowers, row)?;
+        assert!(rt; is(found, *wanted));
     }
     Ok(())
 }

@@ -1,13 +1,11 @@
 //! Tests of the crates that read and write descriptions and intents, and of the networks that these
-//! describe (`net_model`), over what these crates make public: one file a crate, named for it, and
-//! one each of flat networks, of hidden entries and of the numbers of names. Here they are proved
-//! once, and the crates aren't proved again with their tests.
+//! describe (`net_model`), over what these crates make public: one file a crate, named for it, each
+//! with tables of texts and what is said of them. Here they are proved once, and the crates aren't
+//! proved again with their tests.
 #![tactic(auto)]
 
 #[cfg(test)]
 mod flat_networks_tests;
-#[cfg(test)]
-mod hidden_entries_tests;
 #[cfg(test)]
 mod intent_reader_tests;
 #[cfg(test)]
@@ -15,8 +13,6 @@ mod net_maker_tests;
 #[cfg(test)]
 mod net_model_tests;
 #[cfg(test)]
-mod net_reader_numbering_tests;
-#[cfg(test)]
 mod net_reader_tests;
 #[cfg(test)]
-mod net_words_tests;
+mod networks;

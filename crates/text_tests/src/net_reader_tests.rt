@@ -1,12 +1,10 @@
-//! A description with each part, and each fault with a later one after it.
+//! A description with each part, and first faults, each with a later one after it; more of these
+//! are rows of the program.
 
-use net_model::Net;
-use net_reader::read_net;
-use srv6_rules::{Behaviour, Csid, Family};
-use std::alloc::Global;
-use std::process::Abort;
+use crate::networks::{network, refusal};
+use net_model::{Net, Route};
+use srv6_rules::{Behaviour, Csid, Family, SidEntry};
 use std::test::Fail;
-use text_faults::{FaultKind, FaultPlace, Key, OrNoMemory, TableKind, TextFault};
 
 const DESCRIPTION: &str = r#"
 [[block]]
@@ -87,223 +85,204 @@ title = "vpn"
 table = 100
 "#;
 
-/// A node with a link that leaves it.
+fn has_the_nodes(net: &Net) -> bool {
+    match net.parts().nodes.as_slice() {
+        [a, b] => {
+            a.name.as_bytes() == b"A".as_slice()
+                && b.address.value == 0x2001_0db8_0000_0000_0000_0000_0000_000b
+                && matches!(b.allow.as_slice(), [17, 6])
+        }
+        _ => false,
+    }
+}
+
+fn has_the_links(net: &Net) -> bool {
+    match net.parts().links.as_slice() {
+        [ab, _, out2] => { ab.from == 0 && ab.to == Some(1) && out2.from == 1 && out2.to.is_none() }
+        _ => false,
+    }
+}
+
+fn is_route(route: &Route, at: (u32, u32), family: Family, via: &[u32]) -> bool {
+    route.node == at.0
+        && route.table == at.1
+        && route.family == family
+        && route.via.as_slice() == via
+}
+
+fn has_the_routes(net: &Net) -> bool {
+    match net.parts().routes.as_slice() {
+        [first, second] => {
+            is_route(first, (0, 0), Family::V6, &[0])
+                && is_route(second, (1, 100), Family::V4, &[2, 1])
+        }
+        _ => false,
+    }
+}
+
+fn has_the_policies(net: &Net) -> bool {
+    match net.parts().policies.as_slice() {
+        [_, second] => {
+            second.policy.segments.as_slice().len() == 2 && second.policy.flow_label == 1_048_575
+        }
+        _ => false,
+    }
+}
+
+fn is_sid(sid: &SidEntry, node: u32, behaviour: Behaviour, title: Option<u32>) -> bool {
+    sid.node == node && sid.behaviour == behaviour && sid.title == title
+}
+
+fn is_compressed(sid: &SidEntry) -> bool {
+    sid.csid == Csid::Next && sid.block_len == 32 && sid.psp && !sid.usp && sid.usd
+}
+
+fn has_the_sids(net: &Net) -> bool {
+    match net.parts().sids.as_slice() {
+        [mark, cross, binding, vpn] => {
+            is_compressed(mark)
+                && is_sid(mark, 1, Behaviour::End, Some(0))
+                && is_sid(cross, 1, Behaviour::EndX, None)
+                && matches!(cross.links.as_slice(), [2])
+                && is_sid(binding, 0, Behaviour::B6Red { policy: 1 }, Some(1))
+                && is_sid(vpn, 1, Behaviour::Dt6 { table: 100 }, Some(2))
+        }
+        _ => false,
+    }
+}
+
+#[test]
+fn reads_a_network(rt: HostRuntime) {
+    let net = network(&rt, rt.alloc(), DESCRIPTION, "");
+    assert!(rt; has_the_nodes(&net));
+    assert!(rt; has_the_links(&net));
+    assert!(rt; has_the_routes(&net));
+    assert!(rt; has_the_policies(&net));
+    assert!(rt; has_the_sids(&net));
+    assert!(rt; network(&rt, rt.alloc(), "block = []\n", "sid = []\n").nodes() == 0);
+}
+
+/// Nothing, and a node with a link that leaves it.
+const NOTHING: &str = "";
+
 const NODE: &str = r#"
 node = [{ name = "A", address = "::a" }]
 link = [{ name = "l", from = "A" }]
 "#;
 
-fn expect_ground(rt: &impl Abort, net: &Net) {
-    assert_eq!(rt; net.blocks(), 1);
-    let block = net.block(0);
-    assert_eq!(rt; (block.prefix.len(), block.csid), (32, 16));
-    assert_eq!(rt; net.nodes(), 2);
-    assert_eq!(rt;
-        net.node(1).address.value,
-        0x2001_0db8_0000_0000_0000_0000_0000_000b
-    );
-    assert_eq!(rt; net.node(1).allow.as_slice(), [17, 6].as_slice());
-    assert_eq!(rt; net.links(), 3);
-    assert_eq!(rt; net.link(0).name.as_bytes(), b"ab".as_slice());
-    assert_eq!(rt; (net.link(0).from, net.link(0).to), (0, Some(1)));
-    assert_eq!(rt; (net.link(2).from, net.link(2).to), (1, None));
-}
-
-fn expect_ways(rt: &impl Abort, net: &Net) {
-    assert_eq!(rt; net.routes(), 2);
-    let route = net.route(0);
-    assert_eq!(rt; (route.node, route.table, route.family), (0, 0, Family::V6));
-    assert_eq!(rt; route.via.as_slice(), [0].as_slice());
-    let route = net.route(1);
-    assert_eq!(rt;
-        (route.node, route.table, route.family),
-        (1, 100, Family::V4)
-    );
-    assert_eq!(rt; route.via.as_slice(), [2, 1].as_slice());
-    assert_eq!(rt; net.policies(), 2);
-    assert_eq!(rt; net.policy(1).segments.as_slice().len(), 2);
-    assert_eq!(rt; net.policy(1).flow_label, 1_048_575);
-}
-
-fn expect_sids(rt: &impl Abort, net: &Net) {
-    assert_eq!(rt; net.sids(), 4);
-    assert_eq!(rt; net.titles(), 3);
-    let sid = net.sid(0);
-    assert_eq!(rt;
-        (sid.node, sid.behaviour, sid.csid),
-        (1, Behaviour::End, Csid::Next)
-    );
-    assert_eq!(rt; (sid.block_len, sid.title), (32, Some(0)));
-    assert_eq!(rt; (sid.psp, sid.usp, sid.usd), (true, false, true));
-    let sid = net.sid(1);
-    assert_eq!(rt; (sid.behaviour, sid.title), (Behaviour::EndX, None));
-    assert_eq!(rt; sid.links.as_slice(), [2].as_slice());
-    let sid = net.sid(2);
-    assert_eq!(rt;
-        (sid.behaviour, sid.title),
-        (Behaviour::B6Red { policy: 1 }, Some(1))
-    );
-    let sid = net.sid(3);
-    assert_eq!(rt;
-        (sid.behaviour, sid.title),
-        (Behaviour::Dt6 { table: 100 }, Some(2))
-    );
-    assert_eq!(rt; net.title(1).as_bytes(), b"binding".as_slice());
-}
-
-#[test]
-fn reads_a_network(rt: HostRuntime) -> Result<(), Fail> {
-    let net = read_net(rt.alloc(), DESCRIPTION.as_bytes())?;
-    expect_ground(&rt, &net);
-    expect_ways(&rt, &net);
-    expect_sids(&rt, &net);
-    let empty = read_net(rt.alloc(), b"block = []\nsid = []\n")?;
-    assert_eq!(rt; empty.nodes(), 0);
-    Ok(())
-}
-
-fn at(table: TableKind, item: u32) -> FaultPlace {
-    FaultPlace { table, item }
-}
-
-fn gives(alloc: Global, first: &str, second: &str, fault: TextFault) -> Result<bool, Fail> {
-    let mut text = Vec::new(alloc);
-    text.extend_from_slice(first.as_bytes())?;
-    text.extend_from_slice(second.as_bytes())?;
-    Ok(matches!(read_net(alloc, text.as_slice()), Err(OrNoMemory::Fault(found)) if found == fault))
-}
-
-#[test]
-fn first_faults_of_shape(rt: HostRuntime) -> Result<(), Fail> {
-    let node = at(TableKind::Node, 1);
-    for (text, fault) in [
-        ("x = 1\n=", at(TableKind::Net, 0).fault(FaultKind::NotToml)),
-        (
-            "x = 1\nblock = 1",
-            at(TableKind::Net, 0).fault(FaultKind::UnknownKey),
-        ),
-        (
-            "block = 1\nnode = [{}]",
-            at(TableKind::Block, 0).fault(FaultKind::WrongKind),
-        ),
-        (
-            "node = [{ name = \"A\", x = 1 }]",
-            node.fault(FaultKind::UnknownKey),
-        ),
-        (
-            "node = [{ name = \"A\" }]\nlink = [{ x = 1 }]",
-            node.fault(FaultKind::MissingKey { key: Key::Address }),
-        ),
-        (
-            "node = [{ name = 1, address = \"x\" }]",
-            node.fault(FaultKind::WrongKind),
-        ),
-        (
-            "node = [{ name = \"A b\", address = \"x\" }]",
-            node.fault(FaultKind::BadName),
-        ),
-        (
-            "node = [{ name = \"A\", address = \"x\", allow = [256] }]",
-            node.fault(FaultKind::BadAddress),
-        ),
-        (
-            "node = [{ name = \"A\", address = \"::a\", allow = [256] }]\nlink = [{}]",
-            node.fault(FaultKind::Limit {
-                what: Key::Allow,
-                value: 256,
-            }),
-        ),
-        (
-            "block = [{ prefix = \"fc00::/16\", kind = \"x\", csid = 16 }]\nnode = [{}]",
-            at(TableKind::Block, 1).fault(FaultKind::BadFlavour),
-        ),
-    ] {
-        let first = gives(rt.alloc(), "", text, fault)?;
-        assert!(rt; first, "{text}");
-    }
-    Ok(())
-}
+/// What stands in front, a text, and its refusal.
+const REFUSED: &[(&str, &str, &str)] = &[
+    // of shape
+    (NOTHING, "x = 1\n=", "21 NotToml"),
+    (NOTHING, "x = 1\nblock = 1", "24 UnknownKey net 0"),
+    (NOTHING, "block = 1\nnode = [{}]", "23 WrongKind block 0"),
+    (
+        NOTHING,
+        r#"node = [{ name = "A", x = 1 }]"#,
+        "24 UnknownKey node 1",
+    ),
+    (
+        NOTHING,
+        "node = [{ name = \"A\" }]\nlink = [{ x = 1 }]",
+        "22 MissingKey node 1 address",
+    ),
+    (
+        NOTHING,
+        r#"node = [{ name = 1, address = "x" }]"#,
+        "23 WrongKind node 1",
+    ),
+    (
+        NOTHING,
+        r#"node = [{ name = "A b", address = "x" }]"#,
+        "25 BadName node 1",
+    ),
+    (
+        NOTHING,
+        r#"node = [{ name = "A", address = "x", allow = [256] }]"#,
+        "28 BadAddress node 1",
+    ),
+    (
+        NOTHING,
+        "node = [{ name = \"A\", address = \"::a\", allow = [256] }]\nlink = [{}]",
+        "32 Limit node 1",
+    ),
+    (
+        NOTHING,
+        "block = [{ prefix = \"fc00::/16\", kind = \"x\", csid = 16 }]\nnode = [{}]",
+        "29 BadFlavour block 1",
+    ),
+    // of shape before those of parts
+    (
+        r#"node = [{ name = "A", address = "::a" }, { name = "A", address = "::a" }]"#,
+        "\nsid = [{}]",
+        "22 MissingKey sid 1 node",
+    ),
+    // of nodes and links
+    (
+        NOTHING,
+        r#"node = [{ name = "A", address = "::a" }, { name = "A", address = "::a" }]"#,
+        "27 DoubleName node 2",
+    ),
+    (
+        r#"node = [{ name = "A", address = "::a" }, { name = "B", address = "::a" }]"#,
+        "\nlink = [{ name = \"l\", from = \"X\" }]",
+        "31 DoublePrefix node 2",
+    ),
+    (
+        NOTHING,
+        r#"link = [{ name = "l", from = "X", to = "X" }]"#,
+        "26 UnknownName link 1",
+    ),
+    (
+        "node = [{ name = \"A\", address = \"::a\" }]\n\
+         link = [{ name = \"l\", from = \"A\", to = \"A\" }]\n",
+        r#"route = [{ node = "X", prefix = "::/0", via = [] }]"#,
+        "30 BadStructure link 1",
+    ),
+    // of routes
+    (
+        NODE,
+        r#"route = [{ node = "A", prefix = "::/0", via = ["l", "l", "x"] }]"#,
+        "26 UnknownName route 1",
+    ),
+    (
+        NODE,
+        r#"route = [{ node = "A", prefix = "::/0", via = ["l", "l"] }]"#,
+        "30 BadStructure route 1",
+    ),
+    // of SIDs
+    (
+        NODE,
+        "[[sid]]\nnode = \"A\"\nprefix = \"fc00::/16\"\nbehaviour = \"End\"\ntable = 0\n\
+         flavours = [\"psp\", \"psp\"]",
+        "30 BadStructure sid 1",
+    ),
+    (
+        NODE,
+        "[[sid]]\nnode = \"A\"\nprefix = \"fc00::/16\"\nbehaviour = \"End\"\n\
+         flavours = [\"psp\", \"psp\"]\n\
+         [[sid]]\nnode = \"A\"\nprefix = \"fc00::/16\"\nbehaviour = \"End\"",
+        "29 BadFlavour sid 1",
+    ),
+    (
+        NODE,
+        "[[sid]]\nnode = \"A\"\nprefix = \"fc00::/16\"\nbehaviour = \"End.B6.Encaps\"\n\
+         policy = \"x\"\nflavours = [\"psp\"]",
+        "26 UnknownName sid 1",
+    ),
+    (
+        NODE,
+        "[[sid]]\nnode = \"A\"\nprefix = \"fc00::/16\"\nbehaviour = \"End\"\ntitle = \"t\"\n\
+         [[sid]]\nnode = \"A\"\nprefix = \"fc00::/16\"\nbehaviour = \"End\"\ntitle = \"t\"",
+        "27 DoubleName sid 2",
+    ),
+];
 
 #[test]
-fn shape_before_parts(rt: HostRuntime) -> Result<(), Fail> {
-    let text = r#"
-node = [{ name = "A", address = "::a" }, { name = "A", address = "::a" }]
-sid = [{}]
-"#;
-    let fault = at(TableKind::Sid, 1).fault(FaultKind::MissingKey { key: Key::Node });
-    let first = gives(rt.alloc(), "", text, fault)?;
-    assert!(rt; first);
-    Ok(())
-}
-
-#[test]
-fn first_faults_of_nodes_and_links(rt: HostRuntime) -> Result<(), Fail> {
-    let node = at(TableKind::Node, 2);
-    let link = at(TableKind::Link, 1);
-    for (text, fault) in [
-        (
-            "node = [{ name = \"A\", address = \"::a\" }, { name = \"A\", address = \"::a\" }]",
-            node.fault(FaultKind::DoubleName),
-        ),
-        (
-            "node = [{ name = \"A\", address = \"::a\" }, { name = \"B\", address = \"::a\" }]\n\
-             link = [{ name = \"l\", from = \"X\" }]",
-            node.fault(FaultKind::DoublePrefix),
-        ),
-        (
-            "link = [{ name = \"l\", from = \"X\", to = \"X\" }]",
-            link.fault(FaultKind::UnknownName),
-        ),
-        (
-            "node = [{ name = \"A\", address = \"::a\" }]\n\
-             link = [{ name = \"l\", from = \"A\", to = \"A\" }]\n\
-             route = [{ node = \"X\", prefix = \"::/0\", via = [] }]",
-            link.fault(FaultKind::BadStructure),
-        ),
-    ] {
-        let first = gives(rt.alloc(), "", text, fault)?;
-        assert!(rt; first, "{text}");
-    }
-    Ok(())
-}
-
-#[test]
-fn first_faults_of_routes_and_sids(rt: HostRuntime) -> Result<(), Fail> {
-    let route = at(TableKind::Route, 1);
-    let sid = at(TableKind::Sid, 1);
-    for (text, fault) in [
-        (
-            "[[route]]\nnode = \"A\"\nprefix = \"::/0\"\nvia = [\"l\", \"l\", \"x\"]",
-            route.fault(FaultKind::UnknownName),
-        ),
-        (
-            "[[route]]\nnode = \"A\"\nprefix = \"::/0\"\nvia = [\"l\", \"l\"]",
-            route.fault(FaultKind::BadStructure),
-        ),
-        (
-            "[[sid]]\nnode = \"A\"\nprefix = \"fc00::/16\"\nbehaviour = \"End\"\ntable = 0\n\
-             flavours = [\"psp\", \"psp\"]",
-            sid.fault(FaultKind::BadStructure),
-        ),
-        (
-            "[[sid]]\nnode = \"A\"\nprefix = \"fc00::/16\"\nbehaviour = \"End\"\n\
-             flavours = [\"psp\", \"psp\"]\n\
-             [[sid]]\nnode = \"A\"\nprefix = \"fc00::/16\"\nbehaviour = \"End\"",
-            sid.fault(FaultKind::BadFlavour),
-        ),
-        (
-            "[[sid]]\nnode = \"A\"\nprefix = \"fc00::/16\"\nbehaviour = \"End.B6.Encaps\"\n\
-             policy = \"x\"\nflavours = [\"psp\"]",
-            sid.fault(FaultKind::UnknownName),
-        ),
-        (
-            "[[sid]]\nnode = \"A\"\nprefix = \"fc00::/16\"\nbehaviour = \"End\"\ntitle = \"t\"\n\
-             [[sid]]\nnode = \"A\"\nprefix = \"fc00::/16\"\nbehaviour = \"End\"\ntitle = \"t\"",
-            at(TableKind::Sid, 2).fault(FaultKind::DoubleName),
-        ),
-    ] {
-        let first = gives(rt.alloc(), NODE, text, fault)?;
-        assert!(rt; first, "{text}");
+fn first_faults_are_told(rt: HostRuntime) -> Result<(), Fail> {
+    for (first, second, told) in REFUSED {
+        let said = refusal(rt.alloc(), first, second)?;
+        assert!(rt; said.as_str() == *told, "{second}");
     }
     Ok(())
 }

@@ -63,7 +63,7 @@ pub(crate) enum Asked {
 }
 
 /// What an update says to that.
-#[derive(Clone, Copy, Debug, PartialEq, Eq)]
+#[derive(Clone, Copy, PartialEq, Eq)]
 pub(crate) enum Said {
     /// The packet's number.
     Entered(u32),
@@ -141,19 +141,22 @@ fn answer(
     }
 }
 
+/// The entries of the old description, those of the new one, and rows of what is asked and what
+/// is said to that.
+pub(crate) type Sequence = (&'static str, &'static str, &'static [(Asked, Said)]);
+
 /// The update from some entries to others says in each row what stands there to what is asked.
 pub(crate) fn expect_rows(
     rt: &impl Abort,
     alloc: Global,
-    old: &str,
-    new: &str,
+    entries: (&str, &str),
     bytes: Bytes,
     rows: &[(Asked, Said)],
 ) -> Result<(), Fail> {
-    let mut update = Update::new(alloc, plan_of(rt, alloc, old, new)?);
+    let mut update = Update::new(alloc, plan_of(rt, alloc, entries.0, entries.1)?);
     for (asked, said) in rows {
         let came = answer(rt, alloc, &mut update, bytes, *asked)?;
-        assert_eq!(rt; came, *said);
+        assert!(rt; came == *said);
     }
     Ok(())
 }

@@ -1,6 +1,6 @@
 //! SIDs that come and go under packets, and routes of their prefixes.
 
-use crate::networks::{Asked, Bytes, Said, expect_rows};
+use crate::networks::{Asked, Bytes, Said, Sequence, expect_rows};
 use net_model::EntryId;
 use srv6_rules::Reason;
 use std::test::Fail;
@@ -87,18 +87,6 @@ const THROUGH_A_REMOVED_SID: &[(Asked, Said)] = &[
     (Asked::Turn(2), NO_ROUTE),
 ];
 
-#[test]
-fn a_packet_through_a_removed_sid_goes_over_its_links(rt: HostRuntime) -> Result<(), Fail> {
-    expect_rows(
-        &rt,
-        rt.alloc(),
-        SID_AT_A,
-        NEITHER,
-        BYTES,
-        THROUGH_A_REMOVED_SID,
-    )
-}
-
 /// An added route is found while the SID of its prefix is hidden, and the SID from its addition on.
 const BEHIND_A_HIDDEN_SID: &[(Asked, Said)] = &[
     (Asked::Enter, Said::Entered(1)),
@@ -108,18 +96,6 @@ const BEHIND_A_HIDDEN_SID: &[(Asked, Said)] = &[
     (Asked::Enter, Said::Entered(2)),
     (Asked::Turn(2), THROUGH_SID),
 ];
-
-#[test]
-fn a_route_behind_a_hidden_sid_is_found(rt: HostRuntime) -> Result<(), Fail> {
-    expect_rows(
-        &rt,
-        rt.alloc(),
-        NEITHER,
-        SID_AND_ROUTE,
-        BYTES,
-        BEHIND_A_HIDDEN_SID,
-    )
-}
 
 /// A route is removed behind the SID of its prefix, which is found until it is removed itself.
 const UNTIL_IT_IS_REMOVED: &[(Asked, Said)] = &[
@@ -133,14 +109,17 @@ const UNTIL_IT_IS_REMOVED: &[(Asked, Said)] = &[
     (Asked::Turn(1), SENT_AB),
 ];
 
+/// The old entries, the new ones, and what is asked and said.
+const UPDATES: &[Sequence] = &[
+    (SID_AT_A, NEITHER, THROUGH_A_REMOVED_SID),
+    (NEITHER, SID_AND_ROUTE, BEHIND_A_HIDDEN_SID),
+    (SID_AND_ROUTE, NEITHER, UNTIL_IT_IS_REMOVED),
+];
+
 #[test]
-fn a_sid_is_found_until_it_is_removed(rt: HostRuntime) -> Result<(), Fail> {
-    expect_rows(
-        &rt,
-        rt.alloc(),
-        SID_AND_ROUTE,
-        NEITHER,
-        BYTES,
-        UNTIL_IT_IS_REMOVED,
-    )
+fn sids_come_and_go_under_packets(rt: HostRuntime) -> Result<(), Fail> {
+    for (old, new, rows) in UPDATES {
+        expect_rows(&rt, rt.alloc(), (*old, *new), BYTES, rows)?;
+    }
+    Ok(())
 }

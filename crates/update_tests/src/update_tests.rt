@@ -1,6 +1,6 @@
 //! Packets of two descriptions whose routes lead different ways.
 
-use crate::networks::{Asked, Bytes, Said, expect_rows};
+use crate::networks::{Asked, Bytes, Said, Sequence, expect_rows};
 use net_model::EntryId;
 use std::test::Fail;
 use update_flight::Edit;
@@ -82,13 +82,8 @@ const BETWEEN_ADDITIONS: &[(Asked, Said)] = &[
     (Asked::Turn(1), Said::Stage(None)),
 ];
 
-#[test]
-fn a_packet_between_two_additions_takes_the_old_way(rt: HostRuntime) -> Result<(), Fail> {
-    expect_rows(&rt, rt.alloc(), OVER_B, OVER_C, BYTES, BETWEEN_ADDITIONS)
-}
-
-/// A packet that entered before the switch takes the old way to its end, and the removals wait for it;
-/// one that entered after it takes the new way, and none waits for that.
+/// A packet that entered before the switch takes the old way to its end, and the removals wait for
+/// it; one that entered after it takes the new way, and none waits for that.
 const OVER_THE_SWITCH: &[(Asked, Said)] = &[
     (Asked::Enter, Said::Entered(1)),
     (Asked::Turn(1), SENT_AB),
@@ -105,11 +100,6 @@ const OVER_THE_SWITCH: &[(Asked, Said)] = &[
     (Asked::Edit, FINISHED),
     (Asked::Edit, FINISHED),
 ];
-
-#[test]
-fn a_packet_over_the_switch_keeps_its_way(rt: HostRuntime) -> Result<(), Fail> {
-    expect_rows(&rt, rt.alloc(), OVER_B, OVER_C, BYTES, OVER_THE_SWITCH)
-}
 
 /// Of the packets that keep a removal waiting the first is named that is still in flight.
 const BUSY: &[(Asked, Said)] = &[
@@ -130,15 +120,21 @@ const BUSY: &[(Asked, Said)] = &[
     (Asked::Edit, A_REMOVED),
 ];
 
-#[test]
-fn busy_names_the_first_packet_in_flight(rt: HostRuntime) -> Result<(), Fail> {
-    expect_rows(&rt, rt.alloc(), OVER_B, OVER_C, BYTES, BUSY)
-}
-
 /// Equal descriptions have the switch alone.
 const EQUAL: &[(Asked, Said)] = &[(Asked::Edit, SWITCHED), (Asked::Edit, FINISHED)];
 
+/// The old entries, the new ones, and what is asked and said.
+const UPDATES: &[Sequence] = &[
+    (OVER_B, OVER_C, BETWEEN_ADDITIONS),
+    (OVER_B, OVER_C, OVER_THE_SWITCH),
+    (OVER_B, OVER_C, BUSY),
+    (OVER_B, OVER_B, EQUAL),
+];
+
 #[test]
-fn equal_descriptions_have_the_switch_alone(rt: HostRuntime) -> Result<(), Fail> {
-    expect_rows(&rt, rt.alloc(), OVER_B, OVER_B, BYTES, EQUAL)
+fn packets_keep_the_way_of_their_description(rt: HostRuntime) -> Result<(), Fail> {
+    for (old, new, rows) in UPDATES {
+        expect_rows(&rt, rt.alloc(), (*old, *new), BYTES, rows)?;
+    }
+    Ok(())
 }
