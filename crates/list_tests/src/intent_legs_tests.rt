@@ -1,19 +1,18 @@
-//! Intents compiled through binding SIDs; the lists are worked by hand.
+//! The laws of all legs at those of an intent, of strict ones and of those through binding SIDs.
 
 use flat_networks::compilable;
-use intent_legs::{IntentLegs, compile};
+use intent_legs::IntentLegs;
 use intent_reader::read_intent;
-use list_pack::{Container, Legs};
+use list_pack::Legs;
 use net_reader::read_net;
 use path_compiler::laws::{
     a_certificate_tells_what_was_found, legs_have_one_answer,
     what_is_said_holds_of_lists_that_hand_over,
 };
-use path_compiler::{CompileFault, Compiled};
+use std::alloc::Global;
 use std::process::Abort;
 use std::test::Fail;
 use test_networks::ROW;
-use v6_addr::Addr;
 
 /// a policy that goes over the first of the two links by B's End.X and ends at D's End with USD; and
 /// D's End.DT6
@@ -68,65 +67,30 @@ mode = "reduced"
 step = [{ links = ["ab"] }, { links = ["bc1"] }, { links = ["cd"] }, { function = "vpn" }]
 "#;
 
-/// fcbb:bb00:2::
-const BINDING_B: u128 = 0xfcbb_bb00_0002_0000_0000_0000_0000_0000;
-/// fcbb:bb00:f001::
-const VPN_D: u128 = 0xfcbb_bb00_f001_0000_0000_0000_0000_0000;
-
-/// each container holds one SID alone: B's End.B6.Encaps, D's End.DT6
-fn assert_two(rt: &impl Abort, compiled: &Compiled) {
-    let want = [BINDING_B, VPN_D];
-    assert_eq!(rt; compiled.list.as_slice().len(), want.len());
-    for (container, value) in compiled.list.as_slice().iter().zip(want) {
-        match container {
-            Container::Full(first, more) => {
-                assert!(rt; more.as_slice().is_empty());
-                assert_eq!(rt; first.value(), Addr { value });
-            }
-            Container::Packed(..) => panic!(rt; "a container of CSIDs alone"),
-        }
-    }
-    assert_eq!(rt; compiled.containers, 2);
-    // the outer header, and a segment routing header of the second segment
-    assert_eq!(rt; compiled.header, 64);
-    // ab, and no lowering before End.B6.Encaps, which lowers; the header that it pushes is another
-    assert_eq!(rt; compiled.need, 1);
+/// the laws
+fn keep_laws(legs: &IntentLegs<'_>) {
+    a_certificate_tells_what_was_found(legs);
+    legs_have_one_answer(legs);
+    what_is_said_holds_of_lists_that_hand_over(legs);
 }
 
-#[test]
-fn a_binding_sid_is_executed(rt: HostRuntime) -> Result<(), Fail> {
-    let alloc = rt.alloc();
-    let text = format!(in alloc; "{ROW}{SIDS}{BINDING}")?;
-    let net = read_net(alloc, text.as_bytes())?;
+/// whether a leg to B's End.X goes on from B's other SID, in the network of a text
+fn goes_on(rt: &impl Abort, alloc: Global, net: &str) -> Result<bool, Fail> {
+    let net = read_net(alloc, net.as_bytes())?;
     let intent = read_intent(alloc, INTENT.as_bytes(), &net)?;
-    match compile(alloc, &net, &intent) {
-        Ok(compiled) => assert_two(&rt, &compiled),
-        Err(_) => panic!(&rt; "not compiled"),
-    }
-    // over strict legs there is none
-    match path_compiler::compile(alloc, &net, &intent) {
-        Err(CompileFault::NoList { .. }) => {}
-        _ => panic!(&rt; "a list without binding SIDs"),
-    }
-    Ok(())
+    assert!(rt; compilable(alloc, &net).is_ok());
+    let legs = IntentLegs::build(alloc, &net, &intent)?;
+    keep_laws(&legs);
+    assert_eq!(rt; legs.steps(), 4);
+    Ok(legs.leg(1, Some(3), 0).is_some())
 }
 
+/// From B's End it goes on, and not from End.B6.Encaps: the header of the policy comes to D.
 #[test]
 fn legs_of_both_kinds(rt: HostRuntime) -> Result<(), Fail> {
-    let alloc = rt.alloc();
-    for at_b in [BINDING, PLAIN] {
-        let text = format!(in alloc; "{ROW}{SIDS}{at_b}")?;
-        let net = read_net(alloc, text.as_bytes())?;
-        let intent = read_intent(alloc, INTENT.as_bytes(), &net)?;
-        assert!(&rt; compilable(alloc, &net).is_ok());
-        let legs = IntentLegs::build(alloc, &net, &intent)?;
-        assert_eq!(&rt; legs.steps(), 4);
-        // a leg to End.X goes on from B's End alone: the header of the policy comes to D
-        let on = legs.leg(1, Some(3), 0).is_some();
-        assert_eq!(&rt; on, at_b == PLAIN);
-        a_certificate_tells_what_was_found(&legs);
-        legs_have_one_answer(&legs);
-        what_is_said_holds_of_lists_that_hand_over(&legs);
+    for (at_b, want) in [(BINDING, false), (PLAIN, true)] {
+        let text = format!(in rt.alloc(); "{ROW}{SIDS}{at_b}")?;
+        assert_eq!(&rt; goes_on(&rt, rt.alloc(), text.as_str())?, want);
     }
     Ok(())
 }

@@ -1,10 +1,12 @@
+//! Tables of strict legs, of positions, SIDs and numbers that there aren't too.
+
 use flat_networks::compilable;
-use intent_reader::{Intent, read_intent};
+use intent_reader::read_intent;
 use leg_table::StrictLegs;
-use list_pack::{Leg, Legs, Shape};
-use net_model::Net;
+use list_pack::{Legs, Shape};
 use net_reader::read_net;
 use srv6_rules::Csid;
+use std::alloc::Global;
 use std::process::Abort;
 use std::test::Fail;
 use test_networks::ROW;
@@ -131,6 +133,39 @@ sid = [
 ]
 "#;
 
+/// What legs are to answer.
+#[derive(Drop)]
+struct Want<'a> {
+    /// The SIDs at a position.
+    sids: &'a [(u32, &'a [u32])],
+    /// The leg from a position and the SID that was executed last to the next SID: how many steps are
+    /// done after it, and how often the hop limit is lowered.
+    legs: &'a [(u32, Option<u32>, u32, Option<(u32, u32)>)],
+    /// How often it is lowered where the next SID ends the walk.
+    ends: &'a [(u32, Option<u32>, u32, Option<u32>)],
+    /// Whether a SID of a position may stay after another, by their places there.
+    stays: &'a [(u32, usize, usize, bool)],
+    /// The shape of a SID of a position, by its place there: block, bits, kind, whether it goes on.
+    shapes: &'a [(u32, usize, (Option<u32>, u8, Csid, bool))],
+}
+
+/// nothing is asked
+const NOTHING: Want<'static> = Want {
+    sids: &[],
+    legs: &[],
+    ends: &[],
+    stays: &[],
+    shapes: &[],
+};
+
+/// the leg, as two numbers
+fn leg_of<L: Legs>(legs: &L, position: u32, via: Option<u32>, next: u32) -> Option<(u32, u32)> {
+    match legs.leg(position, via, next) {
+        Some(leg) => Some((leg.to, leg.hops)),
+        None => None,
+    }
+}
+
 /// the shape of a SID of a position, by its place there
 fn shape_at<L: Legs>(rt: &impl Abort, legs: &L, position: u32, place: usize) -> Shape {
     assert!(rt; position <= legs.steps());
@@ -155,116 +190,156 @@ fn assert_sids<L: Legs>(rt: &impl Abort, legs: &L, position: u32, want: &[u32]) 
     assert!(rt; legs.sids_at(position) == want, "at {position}");
 }
 
-#[test]
-fn legs_of_a_row(rt: HostRuntime) -> Result<(), Fail> {
-    let text = format!(in rt.alloc(); "{ROW}{SIDS}")?;
-    let net = read_net(rt.alloc(), text.as_bytes())?;
-    let intent = read_intent(rt.alloc(), ROW_INTENT.as_bytes(), &net)?;
-    assert!(rt; compilable(rt.alloc(), &net).is_ok());
-    let legs = StrictLegs::build(rt.alloc(), &net, &intent)?;
-    assert_eq!(rt; legs.steps(), 4);
-    assert_sids(&rt, &legs, 0, &[]);
-    assert_sids(&rt, &legs, 1, &[1, 0]);
-    assert_sids(&rt, &legs, 2, &[]);
-    assert_sids(&rt, &legs, 3, &[2]);
-    assert_sids(&rt, &legs, 4, &[2, 3]);
-    for (position, via, next, want) in [
-        // the path of need 4: 1 and 1 and 2 and 0 lowerings
-        (0, None, 1, Some((1, 1))),
-        (1, Some(1), 0, Some((1, 1))),
-        (1, Some(0), 2, Some((3, 2))),
-        // of two equal next hops one is outside the step
-        (1, Some(1), 2, None),
-        // no position, no SID at a later position, no SID of the position, no SID
-        (5, Some(1), 2, None),
-        (1, None, 1, None),
-        (0, Some(1), 0, None),
-        (0, None, 4, None),
-        // from and to a SID that decapsulates
-        (4, Some(3), 2, None),
-        (3, Some(2), 3, None),
-    ] {
-        let want = want.map(|(to, hops)| Leg { to, hops });
+/// legs answer so
+fn assert_answers<L: Legs>(rt: &impl Abort, legs: &L, want: &Want<'_>) {
+    for (position, sids) in want.sids {
+        assert_sids(rt, legs, *position, *sids);
+    }
+    for (position, via, next, leg) in want.legs {
         assert_eq!(rt;
-            legs.leg(position, via, next),
-            want,
+            leg_of(legs, *position, *via, *next),
+            *leg,
             "{position} {via:?} {next}"
         );
     }
-    for (position, via, next, want) in [
-        (3, Some(2), 3, Some(0)),
-        (1, Some(0), 3, None),
-        (3, Some(2), 2, None),
-        (4, Some(2), 3, None),
-        (5, Some(2), 3, None),
-    ] {
+    for (position, via, next, lowered) in want.ends {
         assert_eq!(rt;
-            legs.finish(position, via, next),
-            want,
+            legs.finish(*position, *via, *next),
+            *lowered,
             "{position} {via:?} {next}"
         );
     }
+    for (position, place, next, stays) in want.stays {
+        assert_eq!(rt;
+            stays_at(rt, legs, *position, *place, *next),
+            *stays,
+            "{position} {place} {next}"
+        );
+    }
+    for (position, place, shape) in want.shapes {
+        let got = shape_at(rt, legs, *position, *place);
+        assert_eq!(rt;
+            (got.block, got.lbl, got.csid, got.middle),
+            *shape,
+            "{position} {place}"
+        );
+    }
+}
+
+/// the legs of an intent in a network, of these texts, answer so
+fn assert_legs(
+    rt: &impl Abort,
+    alloc: Global,
+    net: &str,
+    intent: &str,
+    want: &Want<'_>,
+) -> Result<(), Fail> {
+    let net = read_net(alloc, net.as_bytes())?;
+    let intent = read_intent(alloc, intent.as_bytes(), &net)?;
+    assert!(rt; compilable(alloc, &net).is_ok());
+    let legs = StrictLegs::build(alloc, &net, &intent)?;
+    assert_answers(rt, &legs, want);
     Ok(())
 }
 
 #[test]
+fn legs_of_a_row(rt: HostRuntime) -> Result<(), Fail> {
+    let text = format!(in rt.alloc(); "{ROW}{SIDS}")?;
+    let want = Want {
+        sids: &[(0, &[]), (1, &[1, 0]), (2, &[]), (3, &[2]), (4, &[2, 3])],
+        legs: &[
+            // the path of need 4: 1 and 1 and 2 and 0 lowerings
+            (0, None, 1, Some((1, 1))),
+            (1, Some(1), 0, Some((1, 1))),
+            (1, Some(0), 2, Some((3, 2))),
+            // of two equal next hops one is outside the step
+            (1, Some(1), 2, None),
+            // no position, no SID at a later position, no SID of the position, no SID
+            (5, Some(1), 2, None),
+            (1, None, 1, None),
+            (0, Some(1), 0, None),
+            (0, None, 4, None),
+            // from and to a SID that decapsulates
+            (4, Some(3), 2, None),
+            (3, Some(2), 3, None),
+        ],
+        ends: &[
+            (3, Some(2), 3, Some(0)),
+            (1, Some(0), 3, None),
+            (3, Some(2), 2, None),
+            (4, Some(2), 3, None),
+            (5, Some(2), 3, None),
+        ],
+        ..NOTHING
+    };
+    assert_legs(&rt, rt.alloc(), text.as_str(), ROW_INTENT, &want)
+}
+
+/// A packet to 0 goes round for ever, and to 1 it is executed at the headend, whose SID has the same
+/// prefix.
+#[test]
 fn legs_of_a_loop(rt: HostRuntime) -> Result<(), Fail> {
-    let net = read_net(rt.alloc(), LOOP.as_bytes())?;
-    let intent = read_intent(rt.alloc(), LOOP_INTENT.as_bytes(), &net)?;
-    assert!(rt; compilable(rt.alloc(), &net).is_ok());
-    let legs = StrictLegs::build(rt.alloc(), &net, &intent)?;
-    assert_sids(&rt, &legs, 0, &[2]);
-    assert_sids(&rt, &legs, 1, &[1]);
-    assert_sids(&rt, &legs, 2, &[2]);
-    assert_sids(&rt, &legs, 3, &[2, 3]);
-    // a loop; a SID of the same prefix at another node
-    assert_eq!(rt; legs.leg(0, None, 0), None);
-    assert_eq!(rt; legs.leg(0, None, 1), None);
-    assert_eq!(rt; legs.leg(0, None, 2), Some(Leg { to: 0, hops: 1 }));
-    Ok(())
+    let want = Want {
+        sids: &[(0, &[2]), (1, &[1]), (2, &[2]), (3, &[2, 3])],
+        legs: &[
+            (0, None, 0, None),
+            (0, None, 1, None),
+            (0, None, 2, Some((0, 1))),
+        ],
+        ..NOTHING
+    };
+    assert_legs(&rt, rt.alloc(), LOOP, LOOP_INTENT, &want)
 }
 
 #[test]
 fn legs_of_kinds(rt: HostRuntime) -> Result<(), Fail> {
-    let net = read_net(rt.alloc(), KINDS.as_bytes())?;
-    let text = format!(in rt.alloc(); "{KINDS_INTENT}\"dx6\" }}]\ninner = \"ipv6\"\n")?;
-    let intent = read_intent(rt.alloc(), text.as_bytes(), &net)?;
-    assert!(rt; compilable(rt.alloc(), &net).is_ok());
-    let legs = StrictLegs::build(rt.alloc(), &net, &intent)?;
-    for (position, via, next, want) in [
-        // PSP takes nothing away
-        (0, None, 0, Some((1, 1))),
-        (1, Some(0), 1, Some((1, 1))),
-        (1, Some(1), 4, Some((3, 2))),
-        // one of two equal next hops is outside the step, but in the table of End.T there is one
-        (1, Some(0), 4, None),
-        (1, Some(2), 4, Some((3, 2))),
-        // to and from a SID that binds a policy
-        (0, None, 3, None),
-        (1, Some(3), 4, None),
-        // a function counts once
-        (3, Some(4), 5, None),
-    ] {
-        let want = want.map(|(to, hops)| Leg { to, hops });
-        assert_eq!(rt;
-            legs.leg(position, via, next),
-            want,
-            "{position} {via:?} {next}"
-        );
-    }
-    let shape = shape_at(&rt, &legs, 3, 0);
-    assert_eq!(rt;
-        (shape.block, shape.lbl, shape.csid, shape.middle),
-        (None, 0, Csid::Plain, true)
-    );
-    Ok(())
+    let intent = format!(in rt.alloc(); "{KINDS_INTENT}\"dx6\" }}]\ninner = \"ipv6\"\n")?;
+    let want = Want {
+        legs: &[
+            // PSP takes nothing away
+            (0, None, 0, Some((1, 1))),
+            (1, Some(0), 1, Some((1, 1))),
+            (1, Some(1), 4, Some((3, 2))),
+            // one of two equal next hops is outside the step, but in the table of End.T there is one
+            (1, Some(0), 4, None),
+            (1, Some(2), 4, Some((3, 2))),
+            // to and from a SID that binds a policy
+            (0, None, 3, None),
+            (1, Some(3), 4, None),
+            // a function counts once
+            (3, Some(4), 5, None),
+        ],
+        shapes: &[(3, 0, (None, 0, Csid::Plain, true))],
+        ..NOTHING
+    };
+    assert_legs(&rt, rt.alloc(), KINDS, intent.as_str(), &want)
+}
+
+/// a SID that ends the walk of a family does so at its position alone, and no other does
+fn assert_end(
+    rt: &impl Abort,
+    alloc: Global,
+    title: &str,
+    inner: &str,
+    sid: u32,
+    ends: bool,
+) -> Result<(), Fail> {
+    let intent = format!(in alloc; "{KINDS_INTENT}\"{title}\" }}]\ninner = \"{inner}\"\n")?;
+    let lowered = if ends { Some(0) } else { None };
+    let want = Want {
+        ends: &[
+            (3, Some(4), sid, lowered),
+            (2, Some(4), sid, None),
+            (3, Some(4), 4, None),
+        ],
+        ..NOTHING
+    };
+    assert_legs(rt, alloc, KINDS, intent.as_str(), &want)
 }
 
 #[test]
 fn finishes_by_family(rt: HostRuntime) -> Result<(), Fail> {
-    let net = read_net(rt.alloc(), KINDS.as_bytes())?;
-    assert!(rt; compilable(rt.alloc(), &net).is_ok());
-    for (title, next, six, four) in [
+    for (title, sid, six, four) in [
         ("usd", 5, true, true),
         ("dx6", 6, true, false),
         ("dx4", 7, false, true),
@@ -272,17 +347,8 @@ fn finishes_by_family(rt: HostRuntime) -> Result<(), Fail> {
         ("dt4", 9, false, true),
         ("dt46", 10, true, true),
     ] {
-        for (inner, want) in [("ipv6", six), ("ipv4", four)] {
-            let text = format!(in rt.alloc();
-                "{KINDS_INTENT}\"{title}\" }}]\ninner = \"{inner}\"\n"
-            )?;
-            let intent = read_intent(rt.alloc(), text.as_bytes(), &net)?;
-            let legs = StrictLegs::build(rt.alloc(), &net, &intent)?;
-            let finish = if want { Some(0) } else { None };
-            assert_eq!(rt; legs.finish(3, Some(4), next), finish, "{title} {inner}");
-            assert_eq!(rt; legs.finish(2, Some(4), next), None, "{title} {inner}");
-            assert_eq!(rt; legs.finish(3, Some(4), 4), None, "{title} {inner}");
-        }
+        assert_end(&rt, rt.alloc(), title, "ipv6", sid, six)?;
+        assert_end(&rt, rt.alloc(), title, "ipv4", sid, four)?;
     }
     Ok(())
 }
@@ -290,67 +356,43 @@ fn finishes_by_family(rt: HostRuntime) -> Result<(), Fail> {
 #[test]
 fn legs_of_a_block(rt: HostRuntime) -> Result<(), Fail> {
     let text = format!(in rt.alloc(); "{ROW}{NEXT}")?;
-    let net = read_net(rt.alloc(), text.as_bytes())?;
-    let intent = read_intent(rt.alloc(), ROW_INTENT.as_bytes(), &net)?;
-    assert!(rt; compilable(rt.alloc(), &net).is_ok());
-    let legs = StrictLegs::build(rt.alloc(), &net, &intent)?;
-    assert_sids(&rt, &legs, 1, &[0, 1]);
-    assert_sids(&rt, &legs, 3, &[5, 3]);
-    for (position, via, next, want) in [
-        (0, None, 0, Some((1, 1))),
-        (1, Some(0), 1, Some((1, 1))),
-        (1, Some(1), 3, Some((3, 2))),
-        (1, Some(0), 3, None),
-    ] {
-        let want = want.map(|(to, hops)| Leg { to, hops });
-        assert_eq!(rt;
-            legs.leg(position, via, next),
-            want,
-            "{position} {via:?} {next}"
-        );
-    }
-    assert_eq!(rt; legs.finish(3, Some(3), 4), Some(0));
-    for (position, place, want) in [
-        (1, 0, (Some(1), 32, Csid::Next, true)),
-        (4, 2, (Some(1), 32, Csid::Plain, false)),
-        (3, 0, (None, 0, Csid::Plain, true)),
-    ] {
-        let shape = shape_at(&rt, &legs, position, place);
-        assert_eq!(rt;
-            (shape.block, shape.lbl, shape.csid, shape.middle),
-            want,
-            "{position} {place}"
-        );
-    }
-    Ok(())
+    let want = Want {
+        sids: &[(1, &[0, 1]), (3, &[5, 3])],
+        legs: &[
+            (0, None, 0, Some((1, 1))),
+            (1, Some(0), 1, Some((1, 1))),
+            (1, Some(1), 3, Some((3, 2))),
+            (1, Some(0), 3, None),
+        ],
+        ends: &[(3, Some(3), 4, Some(0))],
+        shapes: &[
+            (1, 0, (Some(1), 32, Csid::Next, true)),
+            (4, 2, (Some(1), 32, Csid::Plain, false)),
+            (3, 0, (None, 0, Csid::Plain, true)),
+        ],
+        ..NOTHING
+    };
+    assert_legs(&rt, rt.alloc(), text.as_str(), ROW_INTENT, &want)
 }
 
 #[test]
 fn who_stays_beside_nested_sids(rt: HostRuntime) -> Result<(), Fail> {
     let text = format!(in rt.alloc(); "{ROW}{NESTED}")?;
-    let net = read_net(rt.alloc(), text.as_bytes())?;
-    let intent = read_intent(rt.alloc(), ROW_INTENT.as_bytes(), &net)?;
-    assert!(rt; compilable(rt.alloc(), &net).is_ok());
-    let legs = StrictLegs::build(rt.alloc(), &net, &intent)?;
-    assert_sids(&rt, &legs, 1, &[1, 2, 0]);
-    for (place, next, want) in [
-        (0, 0, true),
-        (0, 1, true),
-        // the address would be the nested SID's
-        (0, 2, false),
-        (1, 0, true),
-        (1, 2, true),
-        (2, 0, true),
-        (2, 2, true),
-    ] {
-        assert_eq!(rt;
-            stays_at(&rt, &legs, 1, place, next),
-            want,
-            "{place} {next}"
-        );
-    }
-    // to the nested SID, and to the one around it
-    assert_eq!(rt; legs.leg(0, None, 2), Some(Leg { to: 1, hops: 1 }));
-    assert_eq!(rt; legs.leg(0, None, 1), Some(Leg { to: 1, hops: 1 }));
-    Ok(())
+    let want = Want {
+        sids: &[(1, &[1, 2, 0])],
+        stays: &[
+            (1, 0, 0, true),
+            (1, 0, 1, true),
+            // the address would be the nested SID's
+            (1, 0, 2, false),
+            (1, 1, 0, true),
+            (1, 1, 2, true),
+            (1, 2, 0, true),
+            (1, 2, 2, true),
+        ],
+        // to the nested SID, and to the one around it
+        legs: &[(0, None, 2, Some((1, 1))), (0, None, 1, Some((1, 1)))],
+        ..NOTHING
+    };
+    assert_legs(&rt, rt.alloc(), text.as_str(), ROW_INTENT, &want)
 }

@@ -1,23 +1,17 @@
-//! Tests of the crates that search least lists, over what these crates make public: one file a
-//! crate, named for it, and one of lists by their paths and segments. Here they are proved once, and
-//! the crates aren't proved again with their tests.
+//! Tests of lists and of the legs that they are searched over, by values that were worked by hand:
+//! what no row shows, since no command asks for it. Here they are proved once, and the crates aren't
+//! proved again with their tests.
 //!
-//! `specs/Grid.antt` has small legs for them, and `grid` the code of these.
+//! `legal_list_tests` has lists by their paths and segments, `list_pack_tests` rooms and costs,
+//! `leg_table_tests` tables of legs, of SIDs, positions and numbers that there aren't too, and
+//! `intent_legs_tests` the laws of all legs at those of an intent.
 #![tactic(auto)]
 
-#[cfg(test)]
-mod grid;
 #[cfg(test)]
 mod intent_legs_tests;
 #[cfg(test)]
 mod leg_table_tests;
 #[cfg(test)]
-mod list_certificate_tests;
-#[cfg(test)]
-mod list_encoder_tests;
-#[cfg(test)]
-mod list_pack_list_tests;
+mod legal_list_tests;
 #[cfg(test)]
 mod list_pack_tests;
-#[cfg(test)]
-mod path_compiler_tests;

@@ -1,11 +1,6 @@
-//! Each call once.
+//! Rooms and costs.
 
-use list_pack::{
-    Cost, PathStep, Shape, a_cost_is_containers_and_hops, a_legal_list_is_a_path,
-    a_path_is_a_legal_list, a_path_of_tight_edges_is_least, full_room, is_below,
-    least_costs_are_good, move_cost, plus, sids_of_a_flat_network_suit_lists, step_before,
-    unlisted_states_have_no_path,
-};
+use list_pack::{Cost, PathStep, Shape, full_room, is_below, move_cost, plus, step_before};
 use srv6_rules::Csid;
 use std::test::Fail;
 use v6_addr::{Addr, Prefix};
@@ -51,12 +46,5 @@ fn costs_and_steps(rt: HostRuntime) -> Result<(), Fail> {
         prefix: shape.prefix,
     };
     assert!(rt; step_before(&stays, &opens));
-    a_path_of_tight_edges_is_least();
-    unlisted_states_have_no_path();
-    least_costs_are_good();
-    a_cost_is_containers_and_hops();
-    a_path_is_a_legal_list();
-    a_legal_list_is_a_path();
-    sids_of_a_flat_network_suit_lists();
     Ok(())
 }

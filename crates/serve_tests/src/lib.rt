@@ -1,13 +1,11 @@
-//! Tests of `serve` over files, an input and sinks in memory, and of what `gen` writes. What whole
-//! commands write stands in the rows of the crate `worked_rows`. Here they are proved once, and
-//! `srv6_cli` isn't proved again with them. One test takes a packet by the calls below the
-//! commands.
+//! Tests of `serve` where the outside fails, is slow or never fails, by files, an input and sinks
+//! in memory; of schedules of two packets; and of the sums of `gen` over any intent. What whole
+//! commands write stands in the rows of the crate `worked_rows`. Here the tests are proved once,
+//! and `srv6_cli` isn't proved again with them.
 #![tactic(auto)]
 
 #[cfg(test)]
 mod fault_tests;
-#[cfg(test)]
-mod flight_tests;
 #[cfg(test)]
 mod gen_tests;
 #[cfg(test)]
@@ -16,7 +14,5 @@ mod outside;
 mod schedule_tests;
 #[cfg(test)]
 mod slow_tests;
-#[cfg(test)]
-mod trace_tests;
 #[cfg(test)]
 mod tunnel;

@@ -3,7 +3,7 @@ use Rattle.flat_networks.specs.Flat.{IsFlat}
 use Rattle.list_pack.specs.SidLists.{IsLegalList}
 use Rattle.list_pack.proofs.FlatSids.{flat-lists}
 use Rattle.list_pack.proofs.Ruled.{legal-flat}
-use Rattle.list_tests.proofs.list_pack_list_tests.segments.Goals as goal
+use Rattle.list_tests.proofs.legal_list_tests.segments.Goals as goal
 
 pub values-requires-clause-flat : goal.values-requires-clause-flat
 values-requires-clause-flat c =

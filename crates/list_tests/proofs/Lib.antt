@@ -1,2 +1,0 @@
-pub mod GridLaws
-pub mod GridNets
