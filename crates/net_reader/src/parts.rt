@@ -1,8 +1,8 @@
 //! The parts of a network from a whole description.
 
-ghost use Rattle.std.specs.Prelude.{◌≡◌, ◌<◌, ◌^◌, IfOk, length};
+ghost use Rattle.std.specs.Prelude.{◌≡◌, ◌<◌, ◌^◌, IfOk, map, length};
 ghost use Rattle.net_model.specs.Network.{network_of};
-ghost use Rattle.net_reader.specs.Joining.{node_names, link_names, policy_names, joined};
+ghost use Rattle.net_reader.specs.Joining.{node_names, link_names, policy_names, joined_node, joined_link, joined_route, joined_policy, joined};
 
 use crate::joining::{Blocks, Names, Nodes, Policies, each};
 use crate::numbering::Numbering;
@@ -32,6 +32,40 @@ fn names_of<'a>(alloc: Global, said: &'a Description) -> Result<Names<'a>, Alloc
     })
 }
 
+/// The nodes and the links of a description.
+fn join_graph(
+    alloc: Global,
+    names: &Names<'_>,
+    said: &Description,
+) -> Result<(Vec<Node>, Vec<Link>), AllocError>
+    ensures nodes { IfOk result (λ r. r.0.items ≡ map joined_node said.now.nodes) }
+    ensures links { IfOk result (λ r. r.1.items ≡ map (joined_link names.now.nodes)
+        said.now.links) }
+{
+    let nodes = each::<DescribedNode, Node, Nodes>(alloc, &Nodes, said.nodes.as_slice())?;
+    let links = each::<DescribedLink, Link, Names<'_>>(alloc, names, said.links.as_slice())?;
+    Ok((nodes, links))
+}
+
+/// The routes and the policies of a description.
+fn join_routes(
+    alloc: Global,
+    names: &Names<'_>,
+    said: &Description,
+) -> Result<(Vec<Route>, Vec<NamedPolicy>), AllocError>
+    ensures routes { IfOk result (λ r. r.0.items ≡ map (joined_route names.now.nodes
+        names.now.links) said.now.routes) }
+    ensures policies { IfOk result (λ r. r.1.items ≡ map joined_policy said.now.policies) }
+{
+    let routes = each::<DescribedRoute, Route, Names<'_>>(alloc, names, said.routes.as_slice())?;
+    let policies = each::<DescribedPolicy, NamedPolicy, Policies>(
+        alloc,
+        &Policies,
+        said.policies.as_slice(),
+    )?;
+    Ok((routes, policies))
+}
+
 /// The parts of the network that a description says, with numbers in place of names (own rule). A
 /// name that nothing has becomes the count of the items that it might name.
 pub fn join(alloc: Global, said: &Description) -> Result<NetParts, AllocError>
@@ -44,14 +78,8 @@ pub fn join(alloc: Global, said: &Description) -> Result<NetParts, AllocError>
     let names = names_of(alloc, said)?;
     let blocks = each::<DescribedBlock, Block, Blocks>(alloc, &Blocks, said.blocks.as_slice())?;
     let (titles, sids) = join_sids(alloc, &names, blocks.as_slice(), said.sids.as_slice())?;
-    let nodes = each::<DescribedNode, Node, Nodes>(alloc, &Nodes, said.nodes.as_slice())?;
-    let links = each::<DescribedLink, Link, Names<'_>>(alloc, &names, said.links.as_slice())?;
-    let routes = each::<DescribedRoute, Route, Names<'_>>(alloc, &names, said.routes.as_slice())?;
-    let policies = each::<DescribedPolicy, NamedPolicy, Policies>(
-        alloc,
-        &Policies,
-        said.policies.as_slice(),
-    )?;
+    let (nodes, links) = join_graph(alloc, &names, said)?;
+    let (routes, policies) = join_routes(alloc, &names, said)?;
     Ok(NetParts {
         blocks,
         nodes,

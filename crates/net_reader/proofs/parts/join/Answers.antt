@@ -1,6 +1,6 @@
 use Rattle.std.proofs.Common.{map, ap, ◌∙◌}
 use Rattle.std.specs.List.{filter_map}
-use Rattle.net_reader.specs.Joining.{joined_block, joined_node, joined_link, joined_route, joined_policy, title_in, joined_sids}
+use Rattle.net_reader.specs.Joining.{joined_block, title_in, joined_sids}
 use Rattle.net_reader.proofs.JoinedLemmas.{joined_from}
 use Rattle.net_reader.proofs.parts.join.Goals as goal
 
@@ -10,10 +10,7 @@ returns c =
     joined_from c.args.said.now names.nodes names.links names.policies _ _ _ _ _ _ _
     c.in_ok-names.ensures.nodes c.in_ok-names.ensures.links c.in_ok-names.ensures.policies
     (c.in_ok-blocks.ensures ∙ ap (map joined_block) c.as_slice.ensures)
-    (c.in_ok-nodes.ensures ∙ ap (map joined_node) c.as_slice-4.ensures)
-    (c.in_ok-links.ensures ∙ ap (map (joined_link names.nodes)) c.as_slice-5.ensures)
-    (c.in_ok-routes.ensures ∙ ap (map (joined_route names.nodes names.links)) c.as_slice-6.ensures)
-    (c.in_ok-policies.ensures ∙ ap (map joined_policy) c.as_slice-7.ensures)
+    c.in_ok-nodes.ensures.nodes c.in_ok-nodes.ensures.links c.in_ok-routes.ensures.routes c.in_ok-routes.ensures.policies
     (c.in_ok-titles.ensures.titles ∙ ap (filter_map title_in) c.as_slice-3.ensures)
     (c.in_ok-titles.ensures.entries
     ∙ ap (joined_sids names.nodes names.links names.policies c.as_slice-2.result.now 0) c.as_slice-3.ensures
