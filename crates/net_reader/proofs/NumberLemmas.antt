@@ -3,14 +3,16 @@ use Rattle.std.proofs.Common.{◌≡◌, ℕ, suc, ◌+◌, ◌<◌, ◌≤◌, 
 use Rattle.std.specs.Str.{bytes_eq}
 use Rattle.std.specs.Borrow.{Bor}
 use Rattle.std.specs.List.{position_or_len, position_from}
-use Rattle.std.specs.Map.{lookup}
+use Rattle.std.specs.Ordering.{nat_cmp}
+use Rattle.std.specs.Cmp.Lexicographic.{slice_cmp}
+use Rattle.std.specs.BTreeMap.{BTreeMap, get_by, Updates}
 use Rattle.std.proofs.lemmas.Bool.{ltb-false}
 use Rattle.std.proofs.lemmas.Iterator.Adapters.{position_from-zero}
 use Rattle.std.proofs.lemmas.List.{map-append, map_more, length-map, length-take-le}
 use Rattle.std.proofs.lemmas.List.Sums.{prefix_len-le-length}
 use Rattle.std.proofs.lemmas.Slice.Eq.{bytes_eq-Decides}
-use Rattle.indexmap.specs.IndexMap.{IndexMap, get_by, insert_entry}
-use Rattle.indexmap.proofs.CallerLemmas.{insert_entry-new}
+use Rattle.std.proofs.lemmas.Cmp.{nat_list_eq_equiv}
+use Rattle.std.proofs.lemmas.Map.Text.{btree_map_updates_str}
 use Rattle.net_reader.specs.Numbering.{HasNumbers, number_of}
 
 -- the first that is there
@@ -25,12 +27,6 @@ with_none (Some x) = refl
 behind : {X : Type 0} (b : Bool) (x : X) (o other : Option X) → cond b (Some x) (first_some o other) ≡ first_some (cond b (Some x) o) other
 behind true x o other = refl
 behind false x o other = refl
-
-lookup-pushed : {K X : Type 0} (test : K → Bool) (es : List (K × X)) (k : K) (v : X)
-    → lookup test (es ++ (k, v) ∷ []) ≡ first_some (lookup test es) (cond (test k) (Some v) None)
-lookup-pushed test [] k v = refl
-lookup-pushed test (e ∷ es) k v =
-    ap (cond (test e.0) (Some e.1)) (lookup-pushed test es k v) ∙ behind (test e.0) e.1 (lookup test es) (cond (test k) (Some v) None)
 
 position_from-pushed : {X : Type 0} (test : X → Bool) (n : ℕ) (xs : List X) (x : X)
     → position_from test n (xs ++ x ∷ []) ≡ first_some (position_from test n xs) (cond (test x) (Some (n + length xs)) None)
@@ -64,8 +60,8 @@ stays q x names true same there =
     some_stays None none = absurd (true≢false (sym none))
     some_stays (Some n) some = refl
 
-pub numbers-known : {S : Type 0} (numbers : IndexMap (Bor (List ℕ)) ℕ S) (names : List (List ℕ)) (x : List ℕ) → HasNumbers numbers names
-    → is_some (get_by (λ k. bytes_eq x k.now) numbers) ≡ true → HasNumbers numbers (names ++ x ∷ [])
+pub numbers-known : (numbers : BTreeMap (Bor (List ℕ)) ℕ) (names : List (List ℕ)) (x : List ℕ) → HasNumbers numbers names
+    → is_some (get_by (λ k. slice_cmp nat_cmp x k.now) numbers) ≡ true → HasNumbers numbers (names ++ x ∷ [])
 numbers-known numbers names x has there = λ q.
     has q ∙ sym (position-pushed (bytes_eq q) names x ∙ stays q x names (bytes_eq q x) refl (ap is_some (sym (has x)) ∙ there))
 
@@ -74,15 +70,23 @@ none_from None e = refl
 none_from (Some x) e = absurd (true≢false e)
 
 -- a new name goes last
-pub numbers-new : {S : Type 0} (old new : IndexMap (Bor (List ℕ)) ℕ S) (names : List (List ℕ)) (k : Bor (List ℕ)) (n : ℕ)
-    → HasNumbers old names → n ≡ length names → is_some (get_by (λ other. bytes_eq k.now other.now) old) ≡ false
-    → new.entries ≡ insert_entry (λ a b. bytes_eq a.now b.now) old.entries k n → HasNumbers new (names ++ k.now ∷ [])
-numbers-new old new names k n has is absent entries = λ q.
-    ap (lookup (λ other. bytes_eq q other.now))
-    (entries ∙ insert_entry-new (λ a b. bytes_eq a.now b.now) old k n (none_from _ absent))
-    ∙ lookup-pushed (λ (other : Bor (List ℕ)). bytes_eq q other.now) old.entries k n
-    ∙ ap (λ o. first_some o (cond (bytes_eq q k.now) (Some n) None)) (has q)
-    ∙ ap (λ m. first_some (position (bytes_eq q) names) (cond (bytes_eq q k.now) (Some m) None)) is
+last : (q k : List ℕ) (names : List (List ℕ)) (b : Bool) → bytes_eq q k ≡ b → position (bytes_eq k) names ≡ None
+    → cond b (Some (length names)) (position (bytes_eq q) names)
+    ≡ first_some (position (bytes_eq q) names) (cond b (Some (length names)) None)
+last q k names false other none = sym (with_none (position (bytes_eq q) names))
+last q k names true same none =
+    ap (λ o. first_some o (Some (length names)))
+    (sym (ap (λ t. position (bytes_eq t) names) ((bytes_eq-Decides q k).0 same) ∙ none))
+
+pub numbers-new : (old new : BTreeMap (Bor (List ℕ)) ℕ) (names : List (List ℕ)) (k : Bor (List ℕ)) (n : ℕ)
+    → HasNumbers old names → n ≡ length names → is_some (get_by (λ other. slice_cmp nat_cmp k.now other.now) old) ≡ false
+    → Updates (λ a b. slice_cmp nat_cmp a.now b.now) old new k (Some n) → HasNumbers new (names ++ k.now ∷ [])
+numbers-new old new names k n has is absent update = λ q.
+    btree_map_updates_str k.now old new (Some n) update q
+    ∙ ap (λ b. cond b (Some n) (get_by (λ other. slice_cmp nat_cmp q other.now) old)) (nat_list_eq_equiv.symm k.now q)
+    ∙ ap (cond (bytes_eq q k.now) (Some n)) (has q)
+    ∙ ap (λ m. cond (bytes_eq q k.now) (Some m) (position (bytes_eq q) names)) is
+    ∙ last q k.now names (bytes_eq q k.now) refl (sym (has k.now) ∙ none_from _ absent)
     ∙ sym (position-pushed (bytes_eq q) names k.now)
 
 -- the names of the first items, and of one more
@@ -96,24 +100,25 @@ pub names_so_far : {X : Type 0} (name : X → List ℕ) (items : List X) (i : �
 names_so_far name items i within = length-map (take i items) name ∙ length-take-le i items within
 
 -- a turn at a name that is there already
-pub known_turn : {S : Type 0} (numbers : IndexMap (Bor (List ℕ)) ℕ S) (names : List (Bor (List ℕ))) (i : ℕ) (d : Bor (List ℕ))
+pub known_turn : (numbers : BTreeMap (Bor (List ℕ)) ℕ) (names : List (Bor (List ℕ))) (i : ℕ) (d : Bor (List ℕ))
     → i < length names → HasNumbers numbers (map (λ s. s.now) (take i names))
-    → is_some (get_by (λ k. bytes_eq (get_or names i d).now k.now) numbers) ≡ true
+    → is_some (get_by (λ k. slice_cmp nat_cmp (get_or names i d).now k.now) numbers) ≡ true
     → HasNumbers numbers (map (λ s. s.now) (take (i + 1) names))
 known_turn numbers names i d within has there =
     subst (HasNumbers numbers) (sym (map_more (λ (s : Bor (List ℕ)). s.now) names i d within))
     (numbers-known numbers (map (λ s. s.now) (take i names)) (get_or names i d).now has there)
 
 -- a turn at a new name
-pub new_turn : {S : Type 0} (old new : IndexMap (Bor (List ℕ)) ℕ S) (names : List (Bor (List ℕ))) (i : ℕ) (d : Bor (List ℕ))
+pub new_turn : (old put new : BTreeMap (Bor (List ℕ)) ℕ) (names : List (Bor (List ℕ))) (i : ℕ) (d : Bor (List ℕ))
     → i < length names → HasNumbers old (map (λ s. s.now) (take i names))
-    → is_some (get_by (λ other. bytes_eq (get_or names i d).now other.now) old) ≡ false
-    → new.entries ≡ insert_entry (λ a b. bytes_eq a.now b.now) old.entries (get_or names i d) i
+    → is_some (get_by (λ other. slice_cmp nat_cmp (get_or names i d).now other.now) old) ≡ false
+    → new ≡ put → Updates (λ a b. slice_cmp nat_cmp a.now b.now) old put (get_or names i d) (Some i)
     → HasNumbers new (map (λ s. s.now) (take (i + 1) names))
-new_turn old new names i d within has absent entries =
-    subst (HasNumbers new) (sym (map_more (λ (s : Bor (List ℕ)). s.now) names i d within))
-    (numbers-new old new (map (λ s. s.now) (take i names)) (get_or names i d) i has
-    (sym (names_so_far (λ (s : Bor (List ℕ)). s.now) names i (omega (arith, within)))) absent entries)
+new_turn old put new names i d within has absent is update =
+    subst (λ m. HasNumbers m (map (λ s. s.now) (take (i + 1) names))) (sym is)
+    (subst (HasNumbers put) (sym (map_more (λ (s : Bor (List ℕ)). s.now) names i d within))
+    (numbers-new old put (map (λ s. s.now) (take i names)) (get_or names i d) i has
+    (sym (names_so_far (λ (s : Bor (List ℕ)). s.now) names i (omega (arith, within)))) absent update))
 
 -- looking up
 
@@ -121,8 +126,8 @@ given : (place count : ℕ) (b : Bool) (n : ℕ) → cond b (Some place) None �
 given place count true n e = cc
 given place count false n e = cc
 
-pub number-found : {S : Type 0} (numbers : IndexMap (Bor (List ℕ)) ℕ S) (names : List (List ℕ)) (name : List ℕ) (n : ℕ)
-    → HasNumbers numbers names → Some n ≡ get_by (λ k. bytes_eq name k.now) numbers → n ≡ number_of names name
+pub number-found : (numbers : BTreeMap (Bor (List ℕ)) ℕ) (names : List (List ℕ)) (name : List ℕ) (n : ℕ)
+    → HasNumbers numbers names → Some n ≡ get_by (λ k. slice_cmp nat_cmp name k.now) numbers → n ≡ number_of names name
 number-found numbers names name n has is =
     given (position_or_len (bytes_eq name) names) (length names) (ltb (position_or_len (bytes_eq name) names) (length names)) n
     (sym (is ∙ has name))
@@ -131,8 +136,9 @@ past : (place count : ℕ) (b : Bool) → ltb place count ≡ b → place ≤ co
 past place count true e within none = cc
 past place count false e within none = let above : count ≤ place = ltb-false place count e in omega arith
 
-pub number-absent : {S : Type 0} (numbers : IndexMap (Bor (List ℕ)) ℕ S) (names : List (List ℕ)) (name : List ℕ) (count : ℕ)
-    → HasNumbers numbers names → length names ≡ count → None ≡ get_by (λ k. bytes_eq name k.now) numbers → count ≡ number_of names name
+pub number-absent : (numbers : BTreeMap (Bor (List ℕ)) ℕ) (names : List (List ℕ)) (name : List ℕ) (count : ℕ)
+    → HasNumbers numbers names → length names ≡ count → None ≡ get_by (λ k. slice_cmp nat_cmp name k.now) numbers
+    → count ≡ number_of names name
 number-absent numbers names name count has is none =
     sym is ∙ past (position_or_len (bytes_eq name) names) (length names) (ltb (position_or_len (bytes_eq name) names) (length names)) refl
     (prefix_len-le-length _ names) (sym (none ∙ has name))

@@ -3,10 +3,10 @@
 ghost use Rattle.std.specs.Prelude.{◌≡◌, ◌<◌, ◌^◌, List, ℕ, IfOk, map, length};
 ghost use Rattle.net_reader.specs.Numbering.{HasNumbers, number_of};
 
-use indexmap::IndexMap;
 use net_model::Name;
 use net_words::{DescribedLink, DescribedNode, DescribedPolicy};
 use std::alloc::{AllocError, Global};
+use std::collections::BTreeMap;
 use std::marker::Model;
 
 /// What has a name (own rule).
@@ -56,11 +56,11 @@ fn names_of<'a, X: Named>(alloc: Global, items: &'a [X]) -> Result<Vec<&'a str>,
 }
 
 /// The numbers of names, in their order from 0; of one that stands twice the first.
-fn numbers_of<'a>(alloc: Global, names: &[&'a str]) -> Result<IndexMap<&'a str, u32>, AllocError>
+fn numbers_of<'a>(alloc: Global, names: &[&'a str]) -> Result<BTreeMap<&'a str, u32>, AllocError>
     requires { length names.now < 2 ^ 32 }
     ensures { IfOk result (λ numbers. HasNumbers numbers (map (λ s. s.now) names.now)) }
 {
-    let mut numbers = IndexMap::new(alloc);
+    let mut numbers = BTreeMap::new(alloc);
     for (i, name) in names.iter().enumerate() {
         if !numbers.contains_key(*name) {
             numbers.insert(*name, i as u32)?;
@@ -71,7 +71,7 @@ fn numbers_of<'a>(alloc: Global, names: &[&'a str]) -> Result<IndexMap<&'a str, 
 
 /// The number that a map has for a name, and the count where it has none.
 #[tactic(auto, using(crate::proofs::NumberLemmas::looking))]
-fn number_in(numbers: &IndexMap<&str, u32>, count: u32, name: &str) -> u32
+fn number_in(numbers: &BTreeMap<&str, u32>, count: u32, name: &str) -> u32
     ensures { (names : List (List ℕ)) → HasNumbers numbers.now names → length names ≡ count
         → result ≡ number_of names name.now }
 {
@@ -86,7 +86,7 @@ fn number_in(numbers: &IndexMap<&str, u32>, count: u32, name: &str) -> u32
 #[derive(Debug, Drop)]
 pub struct Numbering<'a> {
     names: Vec<&'a str>,
-    numbers: IndexMap<&'a str, u32>,
+    numbers: BTreeMap<&'a str, u32>,
 }
 
 impl<'a> Model for Numbering<'a> {
