@@ -8,5 +8,3 @@ pub joined_more : {X Y : Type 0} (of : X → Y) (items : List X) (i : ℕ) (d : 
     → parts ++ part ∷ [] ≡ map of (take (i + 1) items)
 joined_more of items i d parts part so_far within is =
     ap (λ front. front ++ part ∷ []) so_far ∙ ap (λ last. map of (take i items) ++ last ∷ []) is ∙ sym (map_more of items i d within)
-
-pub ruleset each_joined = (joined_more)

@@ -152,6 +152,4 @@ kept_names name items i x names s so_far within is same =
     ∙ ap (λ front. front ++ s.now ∷ []) so_far ∙ ap (λ last. map name (take i items) ++ last ∷ []) same
     ∙ sym (names_more name items i x within is)
 
-pub ruleset naming = (kept_names)
-
 pub ruleset looking = (number-found, number-absent)

@@ -1,21 +1,19 @@
 -- From what a text describes to its network, or to its first fault.
-use Rattle.std.proofs.Common.{◌≡◌, ◌∙◌, ◌↔◌, ℕ, ◌+◌, ◌<◌, ◌≤◌, ◌^◌, List, [], ◌∷◌, ◌++◌, length, take, map, get_or, refl, sym, ap, subst, arith}
+use Rattle.std.proofs.Common.{◌≡◌, ◌∙◌, ◌↔◌, ℕ, ◌<◌, ◌≤◌, ◌^◌, List, [], length, map, refl, sym, ap, subst, arith}
 use Rattle.std.specs.Prelude.{Result, Ok, Err, IfOk}
 use Rattle.std.proofs.lemmas.Bool.{and_parts, leb-true}
-use Rattle.std.proofs.lemmas.List.{map_more, length-map}
+use Rattle.std.proofs.lemmas.List.{length-map}
 use Rattle.net_model.specs.declared.limits.TheConstants.{MAX_NODES, MAX_LINKS, MAX_POLICIES, MAX_SIDS}
 use Rattle.text_faults.specs.declared.fault.TextFault.{TextFault}
 use Rattle.text_faults.specs.declared.fault.OrNoMemory.{OrNoMemory}
 use Rattle.text_faults.specs.declared.kind.FaultKind.TheVariants as kinds
 use Rattle.text_faults.specs.Faults.{fault_at}
-use Rattle.net_model.specs.declared.standing.Standing.{Standing}
 use Rattle.net_model.specs.Network.{Network}
 use Rattle.net_model.specs.Rules.{IsNetwork}
 use Rattle.net_model.specs.Judging.{InRange, judging}
 use Rattle.net_model.proofs.PublicLaws.{exact_law, enough_law}
 use Rattle.text_faults.specs.Reading.{Gives}
 use Rattle.toml_words.specs.Reading.{◌>>=◌, or_fault, document_of}
-use Rattle.net_words.specs.declared.sid.DescribedSid.{DescribedSid}
 use Rattle.net_words.specs.declared.description.Description.{Description}
 use Rattle.net_words.specs.Description.{description_in, net_place}
 use Rattle.net_reader.specs.Joining.{node_names, link_names, policy_names, joined_block, joined}
@@ -25,17 +23,6 @@ use Rattle.net_reader.proofs.YieldLemmas.{Yields, yielded, yields-behind}
 use Rattle.net_reader.proofs.DescribedLemmas.{Fits, description-fits}
 use Rattle.net_reader.proofs.RangeLemmas.{in_range, as_many}
 use Rattle.net_reader.proofs.ExactLemmas.{well_from, judging_alike}
-
--- ---- standings
-
-pub standings-more : (sids : List DescribedSid) (i : ℕ) (d : DescribedSid) (standings : List Standing) (standing : Standing)
-    → standings ≡ map standing_of (take i sids) → i < length sids → standing ≡ standing_of (get_or sids i d)
-    → standings ++ standing ∷ [] ≡ map standing_of (take (i + 1) sids)
-standings-more sids i d standings standing so_far within is =
-    ap (λ front. front ++ standing ∷ []) so_far ∙ ap (λ last. map standing_of (take i sids) ++ last ∷ []) is
-    ∙ sym (map_more standing_of sids i d within)
-
-pub ruleset standing = (standings-more)
 
 -- ---- what a text describes
 

@@ -63,5 +63,3 @@ titles-few (Some title) = omega arith
 pub titles-bound : (titles : List (List ℕ)) (title : Option (List ℕ)) (i : ℕ) → length titles ≤ i
     → length (titles ++ option_to_list title) ≤ i + 1
 titles-bound titles title i few = omega (arith, few, titles-few title, length-append titles (option_to_list title))
-
-pub ruleset sids = (titles-more, entries-more, titles-bound)

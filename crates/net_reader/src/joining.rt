@@ -22,7 +22,6 @@ pub(crate) trait Joins<D, P> {
 }
 
 /// What is made of items, one after another.
-#[tactic(auto, using(crate::proofs::JoiningLemmas::each_joined))]
 pub(crate) fn each<D, P: Drop, J: Joins<D, P>>(
     alloc: Global,
     by: &J,
@@ -46,7 +45,6 @@ pub(crate) fn same_name(alloc: Global, name: &Name) -> Result<Name, AllocError>
 }
 
 /// The numbers of names.
-#[tactic(auto, using(crate::proofs::JoiningLemmas::each_joined))]
 pub(crate) fn numbers(
     alloc: Global,
     names: &Numbering<'_>,

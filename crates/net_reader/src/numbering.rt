@@ -44,7 +44,6 @@ impl Named for DescribedPolicy {
 }
 
 /// The names of items, in their order.
-#[tactic(auto, using(crate::proofs::NumberLemmas::naming))]
 fn names_of<'a, X: Named>(alloc: Global, items: &'a [X]) -> Result<Vec<&'a str>, AllocError>
     ensures { IfOk result (λ names. map (λ s. s.now) names.items ≡ map X.name items.now) }
 {

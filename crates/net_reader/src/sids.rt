@@ -179,7 +179,6 @@ fn entry(
 }
 
 /// The titles of SIDs in order, and their entries with the titles' numbers.
-#[tactic(auto, using(crate::proofs::SidLemmas::sids))]
 pub(crate) fn join_sids(
     alloc: Global,
     names: &Names<'_>,

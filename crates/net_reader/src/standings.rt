@@ -47,7 +47,6 @@ fn standing_of(sid: &DescribedSid) -> Standing
 }
 
 /// How SIDs stand, in their order.
-#[tactic(auto, using(crate::proofs::ReadLemmas::standing))]
 pub(crate) fn standings(alloc: Global, sids: &[DescribedSid]) -> Result<Vec<Standing>, AllocError>
     ensures { IfOk result (λ standings. standings.items ≡ map standing_of sids.now) }
 {
