@@ -15,5 +15,3 @@ none_given text (Some p) is none = absurd (none p ((prefix4_text_is text p).0 is
 
 pub prefix4_of_text-None : (text : List ℕ) → ((p : PrefixValue) → IsPrefix4Text text p → ⊥) → None ≡ prefix4_of_text text
 prefix4_of_text-None text none = none_given text (prefix4_of_text text) refl none
-
-pub ruleset texts4 = (prefix4_of_text-Some, prefix4_of_text-None)

@@ -22,7 +22,6 @@ pub struct FamilyPrefix {
 }
 
 /// The IPv4 prefix that a text writes.
-#[tactic(auto, using(crate::proofs::Prefixes4::texts4))]
 fn prefix4_of(text: &[u8]) -> Option<Prefix>
     ensures { result ≡ prefix4_of_text text.now }
 {
