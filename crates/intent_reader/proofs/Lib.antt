@@ -1,4 +1,5 @@
 pub mod Searches
+mod StepLemmas
 pub mod FunctionLemmas
 pub mod ListReading
 pub mod WalkLemmas
