@@ -44,8 +44,9 @@ pub sid_prefix-refused : (p : FaultPlace) (t : Members) (fault : TextFault) → 
 sid_prefix-refused p t fault refused =
     sid_prefix-parts p t keys.Prefix ∙ ap (λ r. ◌>>=◌ r (with_bits p keys.Prefix)) refused
 
-pub sid_prefix-empty : (p : FaultPlace) (t : Members) (prefix : PrefixValue) (fault : TextFault) → needed prefix_in p t keys.Prefix ≡ Ok prefix
-    → prefix.len ≡ 0 → fault_at p (kinds.Limit keys.Prefix (pos 0)) ≡ fault → needed sid_prefix_in p t keys.Prefix ≡ Err fault
+pub sid_prefix-empty : (p : FaultPlace) (t : Members) (prefix : PrefixValue) (fault : TextFault)
+    → needed prefix_in p t keys.Prefix ≡ Ok prefix → prefix.len ≡ 0 → fault_at p (kinds.Limit keys.Prefix (pos 0)) ≡ fault
+    → needed sid_prefix_in p t keys.Prefix ≡ Err fault
 sid_prefix-empty p t prefix fault given empty is =
     sid_prefix-parts p t keys.Prefix ∙ ap (λ r. ◌>>=◌ r (with_bits p keys.Prefix)) given
     ∙ ap (λ n. if nat_le 1 n then Ok prefix else Err (fault_at p (kinds.Limit keys.Prefix (pos n)))) empty ∙ ap Err is
