@@ -1,7 +1,7 @@
 //! The first tight move from a state: one whose cost, with what is left after it, is what is left
 //! in front of it.
 
-ghost use Rattle.std.specs.Prelude.{◌≡◌, ◌*◌, length};
+ghost use Rattle.std.specs.Prelude.{◌≡◌, ◌+◌, ◌*◌, ◌==◌, length};
 ghost use Rattle.std.specs.Option.{option_map};
 ghost use Rattle.list_encoder.specs.Cells.{AreCells};
 ghost use Rattle.list_encoder.specs.Table.{IsCellEdge};
@@ -57,13 +57,20 @@ fn better(best: Option<Pick>, other: Option<Pick>) -> Option<Pick>
     }
 }
 
+/// a number is the sum of two others
+fn adds_up(a: u32, b: u32, sum: u32) -> bool
+    ensures { result ≡ (a + b == sum) }
+{
+    u64::from(a) + u64::from(b) == u64::from(sum)
+}
+
 /// a cost is the sum of two others
 fn is_sum(a: Cost, b: Cost, sum: Cost) -> bool
     ensures { result ≡ is_sum a b sum }
 {
-    let containers = u64::from(a.containers) + u64::from(b.containers);
-    let hops = u64::from(a.hops) + u64::from(b.hops);
-    containers == u64::from(sum.containers) && hops == u64::from(sum.hops)
+    let containers = adds_up(a.containers, b.containers, sum.containers);
+    let hops = adds_up(a.hops, b.hops, sum.hops);
+    containers && hops
 }
 
 /// the move by an edge that stays in the container, or the one that doesn't, where it is tight
