@@ -1,5 +1,4 @@
-use Rattle.std.proofs.Common.{◌≡◌, ℕ, Option, Some, refl, sym, ◌∙◌, ap, subst}
-use Rattle.list_pack.specs.Costs.{nothing}
+use Rattle.std.proofs.Common.{ℕ, Option, sym, ◌∙◌, ap, subst}
 use Rattle.list_encoder.specs.Table.{rest_at, AreInRange}
 use Rattle.list_encoder.proofs.table.rest_at.Goals as goal
 

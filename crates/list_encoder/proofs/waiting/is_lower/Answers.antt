@@ -1,4 +1,4 @@
-use Rattle.std.proofs.Common.{Option, true, Some, sym, subst}
+use Rattle.std.proofs.Common.{Option, Some, sym, subst}
 use Rattle.std.specs.Prelude.{MatchBool}
 use Rattle.list_pack.specs.declared.types.Cost.{Cost}
 use Rattle.list_pack.specs.Costs.{Under}
