@@ -83,16 +83,19 @@ pub(crate) fn is_prefix(word: &str) -> bool
 fn is_reason_of_headers(word: &str) -> bool
     ensures { result ≡ names_one reasons_of_headers word.now }
 {
-    word == "BadChain"
-        || word == "LateHopByHop"
-        || word == "OptionDiscard"
-        || word == "OptionUnknown"
-        || word == "Fragment"
-        || word == "BadSegments"
-        || word == "HmacTlv"
-        || word == "BadTlv"
-        || word == "UnknownRouting"
-        || word == "UpperLayer"
+    match word {
+        "BadChain"
+        | "LateHopByHop"
+        | "OptionDiscard"
+        | "OptionUnknown"
+        | "Fragment"
+        | "BadSegments"
+        | "HmacTlv"
+        | "BadTlv"
+        | "UnknownRouting"
+        | "UpperLayer" => true,
+        _ => false,
+    }
 }
 
 /// Whether a word is the name of another reason.
@@ -100,15 +103,18 @@ fn is_reason_of_headers(word: &str) -> bool
 fn is_other_reason(word: &str) -> bool
     ensures { result ≡ names_one other_reasons word.now }
 {
-    word == "Truncated"
-        || word == "BadVersion"
-        || word == "Multicast"
-        || word == "NoRoute"
-        || word == "HopLimit"
-        || word == "Ttl"
-        || word == "TooBig"
-        || word == "InnerHop"
-        || word == "MtuExceeded"
+    match word {
+        "Truncated"
+        | "BadVersion"
+        | "Multicast"
+        | "NoRoute"
+        | "HopLimit"
+        | "Ttl"
+        | "TooBig"
+        | "InnerHop"
+        | "MtuExceeded" => true,
+        _ => false,
+    }
 }
 
 /// Whether a word is the name of a reason for a drop.
