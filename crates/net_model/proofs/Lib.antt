@@ -9,6 +9,7 @@ pub mod BlockLemmas
 pub mod CompressionLaws
 pub mod AnswerLemmas
 pub mod HiddenLemmas
+pub mod ShownLemmas
 pub mod FillLemmas
 pub mod ListedLemmas
 pub mod SettleLemmas

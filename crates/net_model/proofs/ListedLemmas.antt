@@ -1,21 +1,23 @@
 -- The entries of all tables are those of each table.
 use Rattle.std.proofs.Common.{◌≡◌, ℕ, zero, suc, ◌+◌, ◌<◌, Bool, true, false, ◌==◌, ◌&&◌, List, [], ◌∷◌, ◌++◌, refl, sym, ap, ◌∙◌, subst, arith, inl, inr}
-use Rattle.std.specs.List.{slice_get}
+use Rattle.std.specs.List.{slice_get, filter}
 use Rattle.std.proofs.lemmas.Bool.{cases_Bool, both_ways, eqb-true, eq-eqb}
 use Rattle.std.proofs.lemmas.List.{append_assoc}
+use Rattle.std.proofs.lemmas.List.Elements.{filter-append}
 use Rattle.std.specs.BTreeMap.{BTreeMap}
 use Rattle.srv6_rules.specs.declared.family.Family.{Family}
 use Rattle.srv6_rules.specs.declared.family.Family.TheVariants as families
 use Rattle.srv6_rules.specs.declared.sid.SidEntry.{SidEntry}
 use Rattle.net_model.specs.declared.parts.Node.{Node}
 use Rattle.net_model.specs.declared.parts.Route.{Route}
+use Rattle.net_model.specs.declared.net.Hit.{Hit}
 use Rattle.net_model.specs.declared.tables.TableKey.{TableKey}
 use Rattle.net_model.specs.declared.tables.TableEntry.{TableEntry}
-use Rattle.net_model.specs.Network.{Network}
+use Rattle.net_model.specs.Network.{Network, is_shown}
 use Rattle.net_model.specs.Rules.{same_family}
 use Rattle.net_model.specs.Best.{Entry, sid_entries, is_route_of, route_entries, address_entries, has_sids, all_entries_of}
-use Rattle.net_model.specs.Tables.{HitTable, table_at, is_entry_of, entries_at, entries_from, sid_entry, address_entry, route_entry, all_entries, IsExact, AnswerFor, AreTables}
-use Rattle.net_model.proofs.EntryLemmas.{all_entries_of-first, all_entries_of-other, whole_entries}
+use Rattle.net_model.specs.Tables.{HitTable, table_at, is_entry_of, entries_at, entries_from, shown_of, sid_entry, address_entry, route_entry, all_entries, IsExact, AnswerFor, AreTables}
+use Rattle.net_model.proofs.EntryLemmas.{all_entries_of-first, all_entries_of-other}
 use Rattle.net_model.proofs.FillLemmas.{entries_at-append}
 
 -- ---- of table 0 of IPv6, and of other tables
@@ -112,18 +114,49 @@ all_at net node table family =
           ∙ sym (all_entries_of-other net node table family other))
     ]
 
-pub are_tables : (net : Network) (sids : List SidEntry) (nodes : List Node) (routes : List Route) (tables : BTreeMap TableKey HitTable)
-    → net.hidden ≡ [] → sids ≡ net.sids → nodes ≡ net.nodes → routes ≡ net.routes
-    → AnswerFor ((entries_from sid_entry 0 sids ++ entries_from address_entry 0 nodes) ++ entries_from route_entry 0 routes) tables
-    → AreTables net tables
-are_tables net sids nodes routes tables whole_net is_sids is_nodes is_routes answers node table family =
+-- ---- those that are shown
+
+-- of one table's entries those that are shown are the shown ones' of that table
+shown_at : (hidden : List Hit) (es : List TableEntry) (node table : ℕ) (family : Family)
+    → entries_at (shown_of hidden es) node table family ≡ filter (λ x. is_shown hidden x.hit) (entries_at es node table family)
+shown_at hidden [] node table family = refl
+shown_at hidden (e ∷ es) node table family =
+    let rest = shown_at hidden es node table family in
+    elim (cases_Bool (is_entry_of node table family e)) [
+      | inl here ↦ elim (cases_Bool (is_shown hidden e.hit)) [
+        | inl shown ↦ rw (here, shown, here) (ap (λ (fs : List Entry). record { hit = e.hit; prefix = e.prefix } ∷ fs) rest)
+        | inr gone ↦ rw (here, gone) rest
+      ]
+      | inr apart ↦ elim (cases_Bool (is_shown hidden e.hit)) [
+        | inl shown ↦ rw (apart, shown, apart) rest
+        | inr gone ↦ rw (apart, gone) rest
+      ]
+    ]
+
+pub shown_of-append : (hidden : List Hit) (es fs : List TableEntry) → shown_of hidden (es ++ fs) ≡ shown_of hidden es ++ shown_of hidden fs
+shown_of-append hidden es fs = filter-append (λ (e : TableEntry). is_shown hidden e.hit) es fs
+
+pub are_tables : (net : Network) (hidden : List Hit) (sids : List SidEntry) (nodes : List Node) (routes : List Route)
+    (tables : BTreeMap TableKey HitTable) → sids ≡ net.sids → nodes ≡ net.nodes → routes ≡ net.routes
+    → AnswerFor ((shown_of hidden (entries_from sid_entry 0 sids) ++ shown_of hidden (entries_from address_entry 0 nodes))
+    ++ shown_of hidden (entries_from route_entry 0 routes)) tables
+    → AreTables (record net { hidden = hidden }) tables
+are_tables net hidden sids nodes routes tables is_sids is_nodes is_routes answers node table family =
     let Three : List SidEntry → List Node → List Route → List TableEntry =
     λ ss ns rs. (entries_from sid_entry 0 ss ++ entries_from address_entry 0 ns) ++ entries_from route_entry 0 rs in
     let same : Three sids nodes routes ≡ Three net.sids net.nodes net.routes =
     λ i. (entries_from sid_entry 0 (is_sids i) ++ entries_from address_entry 0 (is_nodes i)) ++ entries_from route_entry 0 (is_routes i) in
-    let whole = same ∙ append_assoc (entries_from sid_entry 0 net.sids) (entries_from address_entry 0 net.nodes)
+    let whole : Three sids nodes routes ≡ all_entries net =
+    same ∙ append_assoc (entries_from sid_entry 0 net.sids) (entries_from address_entry 0 net.nodes)
     (entries_from route_entry 0 net.routes) in
+    let ss = entries_from sid_entry 0 sids in
+    let ns = entries_from address_entry 0 nodes in
+    let rs = entries_from route_entry 0 routes in
+    let joined : (shown_of hidden ss ++ shown_of hidden ns) ++ shown_of hidden rs ≡ shown_of hidden (all_entries net) =
+    ap (λ (es : List TableEntry). es ++ shown_of hidden rs) (sym (shown_of-append hidden ss ns))
+    ∙ (sym (shown_of-append hidden (ss ++ ns) rs) ∙ ap (shown_of hidden) whole) in
     subst (λ (es : List Entry). IsExact es (table_at tables node table family))
-    (all_at net node table family ∙ sym (whole_entries net node table family whole_net))
-    (subst (λ (es : List TableEntry). IsExact (entries_at es node table family) (table_at tables node table family)) whole
+    (shown_at hidden (all_entries net) node table family
+    ∙ ap (λ (es : List Entry). filter (λ x. is_shown hidden x.hit) es) (all_at net node table family))
+    (subst (λ (es : List TableEntry). IsExact (entries_at es node table family) (table_at tables node table family)) joined
     (answers node table family))

@@ -1,5 +1,5 @@
 -- A network as the lists of its parts, in the order of its description, and what of it is hidden (own rules).
-use Rattle.std.specs.Prelude.{◌≡◌, ℕ, ◌+◌, Bool, true, false, ◌==◌, not, if◌then◌else◌, List, [], ◌∷◌, ◌++◌, length, slice_get, slice_set, IsSome}
+use Rattle.std.specs.Prelude.{◌≡◌, ℕ, ◌+◌, Bool, true, false, ◌==◌, not, if◌then◌else◌, List, [], ◌∷◌, ◌++◌, map, length, slice_get, slice_set, Some, IsSome}
 use Rattle.std.specs.List.{list_any}
 use Rattle.srv6_rules.specs.declared.sid.SidEntry.{SidEntry}
 use Rattle.net_model.specs.declared.parts.Block.{Block}
@@ -105,6 +105,14 @@ abbrev pub CanHide : Network → EntryId → Type 0
 CanHide net (entries.Route n) = IsSome (slice_get net.routes n)
 CanHide net (entries.Sid n) = IsSome (slice_get net.sids n)
 CanHide net (entries.Address n) = ⊥
+
+-- the entries are routes and SIDs of a network
+abbrev pub CanHideAll : Network → List EntryId → Type 0
+CanHideAll net es = (i : ℕ) (entry : EntryId) → slice_get es i ≡ Some entry → CanHide net entry
+
+-- the entries are hidden, and no others
+abbrev pub HidesThese : List Hit → List EntryId → Type 0
+HidesThese hidden es = (h : Hit) → is_shown hidden h ≡ is_shown (map hit_of_entry es) h
 
 -- an entry comes or goes: it is shown now or not, every other is as before, and so is all else of the network
 pub record IsEdited (old new : Network) (h : Hit) (shown : Bool) : Type 0 where

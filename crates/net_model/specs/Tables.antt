@@ -93,6 +93,10 @@ abbrev pub AnswerFor : List TableEntry → BTreeMap TableKey HitTable → Type 0
 AnswerFor entries tables = (node table : ℕ) (family : Family)
     → IsExact (entries_at entries node table family) (table_at tables node table family)
 
+-- of entries those that are shown
+abbrev pub shown_of : List Hit → List TableEntry → List TableEntry
+shown_of hidden es = filter (λ e. is_shown hidden e.hit) es
+
 -- the keys tell of each prefix whether it is in a table
 abbrev pub AreTaken : BTreeSet EntryKey → BTreeMap TableKey HitTable → Type 0
 AreTaken taken tables = (node table : ℕ) (family : Family) (p : PrefixValue)

@@ -2,7 +2,7 @@
 
 ghost use Rattle.std.specs.Prelude.{◌≡◌, ◌↔◌, ◌<◌, ◌^◌, [], length, slice_index_or, false, IsTrue, IfOk, OnOk, OnErr, Some};
 ghost use Rattle.prefix_table.specs.Table.{HasPrefix};
-ghost use Rattle.net_model.specs.Network.{CanHide, HasFlags, IsMarked, hidden_hits, is_shown, network_of, network_with};
+ghost use Rattle.net_model.specs.Network.{CanHide, CanHideAll, HasFlags, HidesThese, IsMarked, hidden_hits, is_shown, network_of, network_with};
 ghost use Rattle.std.specs.BTreeMap.{IsUnchanged};
 ghost use Rattle.net_model.specs.Judging.{InRange};
 ghost use Rattle.net_model.specs.Best.{entries_of};
@@ -76,6 +76,23 @@ pub(crate) fn mark(parts: &NetParts, hidden: &mut Hidden, entry: EntryId, flag: 
         EntryId::Sid(n) => hidden.sids[n as usize] = flag,
         EntryId::Address(_) => {}
     }
+}
+
+/// Entries are hidden, and no others.
+pub(crate) fn hidden_of(
+    alloc: Global,
+    parts: &NetParts,
+    entries: &[EntryId],
+) -> Result<Hidden, AllocError>
+    requires { CanHideAll (network_of parts.now) entries.now }
+    ensures flags { IfOk result (λ hidden. HasFlags parts.now hidden) }
+    ensures these { IfOk result (λ hidden. HidesThese (hidden_hits hidden) entries.now) }
+{
+    let mut hidden = none_hidden(alloc, parts)?;
+    for entry in entries {
+        mark(parts, &mut hidden, *entry, true);
+    }
+    Ok(hidden)
 }
 
 /// The entry of a route or a SID.

@@ -8,7 +8,8 @@
 //! Building and showing take memory.
 //!
 //! Routes and SIDs can be hidden and shown again (`Net::hide`, `Net::show`): they stay in the lists
-//! at their numbers, and look-ups go over those that are shown. A network as built has none hidden.
+//! at their numbers, and look-ups go over those that are shown. A network as built has none hidden,
+//! but for `Net::build_without`, which builds one with some hidden at once.
 //! The laws about the definitions are the contracts of empty functions.
 #![tactic(auto)]
 

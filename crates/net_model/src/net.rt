@@ -1,7 +1,8 @@
 //! The network that keeps the rules, and the look-up of an address.
 
 use crate::hidden::{
-    Hidden, entry_of, first_shown, hides_nothing, is_shown, mark, none_hidden, place, settle,
+    Hidden, entry_of, first_shown, hidden_of, hides_nothing, is_shown, mark, none_hidden, place,
+    settle,
 };
 use crate::judge_parts::judge_parts;
 use crate::named::{place_of_link, place_of_node};
@@ -65,7 +66,7 @@ impl Net {
     ghost use Rattle.std.specs.Prelude.{◌≡◌, ◌↔◌, ◌<◌, [], true, false, length, slice_get, option_copied, IsTrue, IfOk, OnOk, OnErr};
     ghost use Rattle.std.specs.Option.{unwrap_or};
     ghost use Rattle.net_model.specs.declared.parts.NamedPolicy.{NamedPolicy};
-    ghost use Rattle.net_model.specs.Network.{network_of, CanHide, IsEdited, hit_of_entry, is_shown};
+    ghost use Rattle.net_model.specs.Network.{network_of, CanHide, CanHideAll, HidesThese, IsEdited, hit_of_entry, is_shown};
     ghost use Rattle.net_model.specs.Rules.{IsNetwork, is_link_set};
     ghost use Rattle.text_faults.specs.Reading.{Gives};
     ghost use Rattle.net_model.specs.Judging.{InRange, judging};
@@ -103,8 +104,35 @@ impl Net {
         ensures value { IfOk result (λ net. net ≡ network_of parts) }
     {
         judge_parts(alloc, &parts, standings)?;
-        let tables = tables_of(alloc, &parts)?;
         let hidden = none_hidden(alloc, &parts)?;
+        let tables = tables_of(alloc, &parts, &hidden)?;
+        Ok(Net {
+            parts,
+            hidden,
+            tables,
+        })
+    }
+
+    /// The network with these parts and with some of its routes and SIDs hidden, or the first fault
+    /// of the parts, which doesn't look at what is hidden, as `build` has it (own rules). Hiding
+    /// them one by one in a network that was built would look over all entries for each.
+    pub fn build_without(
+        alloc: Global,
+        parts: NetParts,
+        standings: &[Standing],
+        entries: &[EntryId],
+    ) -> Result<Net, NetFault>
+        requires range { InRange (network_of parts) }
+        requires there { CanHideAll (network_of parts) entries.now }
+        ensures first { Gives (λ _. tt) result (judging (network_of parts) standings.now) }
+        ensures same { IfOk result (λ net. net ≡ record (network_of parts) {
+          hidden = net.hidden;
+        }) }
+        ensures hidden { IfOk result (λ net. HidesThese net.hidden entries.now) }
+    {
+        judge_parts(alloc, &parts, standings)?;
+        let hidden = hidden_of(alloc, &parts, entries)?;
+        let tables = tables_of(alloc, &parts, &hidden)?;
         Ok(Net {
             parts,
             hidden,

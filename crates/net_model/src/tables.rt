@@ -5,11 +5,12 @@ ghost use Rattle.std.specs.Prelude.{◌≡◌, ℕ, ◌<◌, ◌^◌, ◌∷◌,
 ghost use Rattle.std.specs.Option.{unwrap_or};
 ghost use Rattle.std.specs.BTreeMap as map;
 ghost use Rattle.prefix_table.specs.Table.{HasPrefix};
-ghost use Rattle.net_model.specs.Network.{network_of};
+ghost use Rattle.net_model.specs.Network.{hidden_hits, network_of, network_with};
 ghost use Rattle.net_model.specs.Judging.{InRange};
-ghost use Rattle.net_model.specs.Tables.{table_key_cmp, table_key, table_at, AreTables, AreTaken, AnswerFor, HasOneMore, entries_from, sid_entry, address_entry, route_entry};
+ghost use Rattle.net_model.specs.Tables.{table_key_cmp, table_key, table_at, AreTables, AreTaken, AnswerFor, HasOneMore, entries_from, shown_of, sid_entry, address_entry, route_entry};
 ghost use Rattle.net_model.specs.declared.tables.TableEntry.{TableEntry};
 
+use crate::hidden::{Hidden, is_shown};
 use crate::net::Hit;
 use crate::parts::{NetParts, Node, Route};
 use crate::route_set::{EntryKey, entry_key};
@@ -162,36 +163,80 @@ fn put(
     Ok(())
 }
 
-/// The entries of items are put into their tables, in order.
+/// An entry that is shown is put after the others of its table, as `put` has it.
+fn put_shown(
+    alloc: Global,
+    tables: &mut Tables,
+    taken: &mut BTreeSet<EntryKey>,
+    hidden: &Hidden,
+    e: &TableEntry,
+) -> Result<(), AllocError>
+    requires { AreTaken taken.old tables.old }
+    ensures taken { OnOk result (AreTaken taken.new tables.new) }
+    ensures answers { (before : List TableEntry) → AnswerFor before tables.old
+        → OnOk result (AnswerFor (before ++ shown_of (hidden_hits hidden.now) (e.now ∷ []))
+        tables.new) }
+{
+    if is_shown(hidden, e.hit) {
+        put(alloc, tables, taken, e)?;
+    }
+    Ok(())
+}
+
+/// The entries of items that are shown are put into their tables, in order.
 fn put_all<X: Listed>(
     alloc: Global,
     tables: &mut Tables,
     taken: &mut BTreeSet<EntryKey>,
+    hidden: &Hidden,
     items: &[X],
 ) -> Result<(), AllocError>
     requires few { length items.now < 2 ^ 32 }
     requires taken { AreTaken taken.old tables.old }
     ensures taken { OnOk result (AreTaken taken.new tables.new) }
     ensures answers { (before : List TableEntry) → AnswerFor before tables.old
-        → OnOk result (AnswerFor (before ++ entries_from X.entry 0 items.now) tables.new) }
+        → OnOk result (AnswerFor (before
+        ++ shown_of (hidden_hits hidden.now) (entries_from X.entry 0 items.now)) tables.new) }
 {
     for (i, item) in items.iter().enumerate() {
-        put(alloc, tables, taken, &item.entry(i as u32))?;
+        put_shown(alloc, tables, taken, hidden, &item.entry(i as u32))?;
     }
     Ok(())
 }
 
-/// The tables of the parts of a network. SIDs go before the nodes' addresses and these before
-/// routes, so that of equal prefixes they stay in this order (own rule).
+/// The tables of the parts of a network, without what is hidden. SIDs go before the nodes'
+/// addresses and these before routes, so that of equal prefixes they stay in this order (own rule).
 #[tactic(auto, using(crate::proofs::JudgingLemmas::few_bound))]
-pub(crate) fn tables_of(alloc: Global, parts: &NetParts) -> Result<Tables, AllocError>
+pub(crate) fn tables_of(
+    alloc: Global,
+    parts: &NetParts,
+    hidden: &Hidden,
+) -> Result<Tables, AllocError>
     requires { InRange (network_of parts.now) }
-    ensures { IfOk result (λ tables. AreTables (network_of parts.now) tables) }
+    ensures { IfOk result (λ tables. AreTables (network_with parts.now hidden.now) tables) }
 {
     let mut tables = BTreeMap::new(alloc);
     let mut taken = BTreeSet::new(alloc);
-    put_all(alloc, &mut tables, &mut taken, parts.sids.as_slice())?;
-    put_all(alloc, &mut tables, &mut taken, parts.nodes.as_slice())?;
-    put_all(alloc, &mut tables, &mut taken, parts.routes.as_slice())?;
+    put_all(
+        alloc,
+        &mut tables,
+        &mut taken,
+        hidden,
+        parts.sids.as_slice(),
+    )?;
+    put_all(
+        alloc,
+        &mut tables,
+        &mut taken,
+        hidden,
+        parts.nodes.as_slice(),
+    )?;
+    put_all(
+        alloc,
+        &mut tables,
+        &mut taken,
+        hidden,
+        parts.routes.as_slice(),
+    )?;
     Ok(tables)
 }

@@ -150,7 +150,7 @@ module _ (net : Network) (t : Transition) (h : IsUpdate net t) where
         let was : ShowsWithout net (take j t.removed) =
         subst (ShowsWithout net) (hidden-removing t.added t.removed j t.done at) h.shows in
         subst (ShowsWithout now) (sym (hidden-removing t.added t.removed (suc j) (t.done + 1) (omega (arith, at))))
-        (hide-next net now e net t.removed j there changed was)
+        (hide-next net now e t.removed j there changed was)
     shows-after Finished next same =
         let one : t.done ≡ t.done + 0 = omega arith in
         shows-same (hidden_after t.added t.removed t.done) (hidden_after t.added t.removed (t.done + 0))

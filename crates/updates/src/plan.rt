@@ -123,28 +123,18 @@ fn entries_behind(
     Ok(ids)
 }
 
-/// The network of parts that keep the rules, so that they have no fault.
-fn build_of(alloc: Global, parts: NetParts) -> Result<Net, PlanFault>
+/// The network of parts that keep the rules, so that they have no fault, with entries hidden.
+fn build_of(alloc: Global, parts: NetParts, entries: &[EntryId]) -> Result<Net, PlanFault>
     requires rules { IsNetwork (network_of parts) }
     requires range { InRange (network_of parts) }
-    ensures ok { IfOk result (λ net. net ≡ network_of parts) }
+    requires there { AreHideable (network_of parts) entries.now }
+    ensures same { IfOk result (λ net. net ≡ record (network_of parts) { hidden = net.hidden }) }
+    ensures shows { IfOk result (λ net. ShowsWithout net entries.now) }
     ensures err { IfErr result (λ why. why ≡ NoMemory) }
 {
-    match Net::build(alloc, parts, &[]) {
+    match Net::build_without(alloc, parts, &[], entries) {
         Ok(net) => Ok(net),
         Err(_) => Err(PlanFault::NoMemory),
-    }
-}
-
-/// Hides entries of a network of which nothing is hidden.
-fn hide_all(net: &mut Net, entries: &[EntryId])
-    requires whole { net.old.hidden ≡ [] }
-    requires there { AreHideable net.old entries.now }
-    ensures same { net.new ≡ record net.old { hidden = net.new.hidden } }
-    ensures shows { ShowsWithout net.new entries.now }
-{
-    for entry in entries {
-        net.hide(*entry);
     }
 }
 
@@ -162,8 +152,7 @@ pub fn plan_update(alloc: Global, old: &Net, new: &Net) -> Result<Plan, PlanFaul
     let parts = plan_parts(alloc, copy, new.parts())?;
     let added = entries_behind(alloc, &parts, old.routes(), old.sids())?;
     let removed = removed_entries(alloc, old.parts(), new.parts())?;
-    let mut net = build_of(alloc, parts)?;
-    hide_all(&mut net, added.as_slice());
+    let net = build_of(alloc, parts, added.as_slice())?;
     Ok(Plan {
         net,
         added,

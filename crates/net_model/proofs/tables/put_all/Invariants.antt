@@ -1,6 +1,7 @@
 use Rattle.std.proofs.Common.{◌++◌, take, List}
 use Rattle.net_model.specs.declared.tables.TableEntry.{TableEntry}
-use Rattle.net_model.specs.Tables.{entries_from, AnswerFor, AreTaken}
+use Rattle.net_model.specs.Network.{hidden_hits}
+use Rattle.net_model.specs.Tables.{entries_from, shown_of, AnswerFor, AreTaken}
 use Rattle.net_model.proofs.tables.put_all.Given as goal
 
 -- the items so far are in their tables
@@ -8,5 +9,5 @@ abbrev pub invariant-loop-i : goal.invariant-loop-i
 invariant-loop-i g l = record {
   taken : AreTaken l.taken l.tables;
   answers : (before : List TableEntry) → AnswerFor before l.fn.tables
-      → AnswerFor (before ++ entries_from g.X.Listed.entry 0 (take l.i l.items)) l.tables;
+      → AnswerFor (before ++ shown_of (hidden_hits l.hidden) (entries_from g.X.Listed.entry 0 (take l.i l.items))) l.tables;
 }

@@ -1,7 +1,6 @@
 use Rattle.std.proofs.Common.{◌≡◌, List, Ok, refl, sym, ap₂, ◌∙◌, subst}
 use Rattle.net_model.specs.declared.net.EntryId.{EntryId}
 use Rattle.net_model.specs.Network.{network_of}
-use Rattle.net_model.specs.Rules.{IsNetwork}
 use Rattle.update_rules.specs.Changes.{added_entries, removed_entries}
 use Rattle.update_rules.specs.Joined.{joined_of}
 use Rattle.update_rules.specs.Planning.{planning}
@@ -9,8 +8,8 @@ use Rattle.updates.specs.Update.{AreHideable, ShowsWithout}
 use Rattle.updates.proofs.PlanFacts.{added-by, added-there, plan-is, plan-kept, whole-parts}
 use Rattle.updates.proofs.plan.plan_update.Goals as goal
 
-pub hide_all-requires-clause-there : goal.hide_all-requires-clause-there
-hide_all-requires-clause-there c =
+pub build_of-requires-clause-there : goal.build_of-requires-clause-there
+build_of-requires-clause-there c =
     let old = c.args.old.now in
     let new = c.args.new.now in
     let one : network_of c.parts.result.now ≡ old = whole-parts old (network_of c.parts.result.now) c.parts.ensures refl c.requires.old in
@@ -21,8 +20,8 @@ hide_all-requires-clause-there c =
     let added : c.in_ok-added.added.items ≡ added_entries old new =
     c.in_ok-added.ensures
     ∙ added-by old new (network_of c.in_ok-parts.parts) c.routes.result c.sids.result parts c.routes.ensures c.sids.ensures in
-    subst (λ (l : List EntryId). AreHideable c.in_ok-net.net l) (sym c.as_slice.ensures.value)
-    (added-there old new c.in_ok-net.net c.in_ok-added.added.items (removed_entries old new) (c.in_ok-net.ensures.ok ∙ parts) added refl)
+    subst (λ (l : List EntryId). AreHideable (network_of c.in_ok-parts.parts) l) (sym c.as_slice.ensures.value)
+    (added-there old new (network_of c.in_ok-parts.parts) c.in_ok-added.added.items (removed_entries old new) parts added refl)
 
 pub invariant_of-result : goal.invariant_of-result
 invariant_of-result c =
@@ -42,11 +41,10 @@ invariant_of-result c =
     ∙ added-by old new (network_of c.in_ok-parts.parts) c.routes.result c.sids.result parts c.routes.ensures c.sids.ensures in
     let removed : c.in_ok-removed.removed.items ≡ removed_entries old new = c.in_ok-removed.ensures ∙ ap₂ removed_entries third fourth in
     let accepted : planning old new ≡ Ok tt = sym (ap₂ planning copy other) ∙ c.in_ok-parts.ensures.answer in
-    let shows : ShowsWithout c.hide_all.new.net c.in_ok-added.added.items =
-    subst (ShowsWithout c.hide_all.new.net) c.as_slice.ensures.value c.hide_all.ensures.shows in
-    let rules : IsNetwork c.in_ok-net.net = subst IsNetwork (sym c.in_ok-net.ensures.ok) c.in_ok-parts.ensures.rules in
-    plan-kept old new c.in_ok-net.net c.in_ok-added.added.items c.in_ok-removed.removed.items (c.in_ok-net.ensures.ok ∙ parts) added removed
-    c.hide_all.new.net c.hide_all.ensures.same shows rules c.keeps_rules.ensures.network accepted
+    let shows : ShowsWithout c.in_ok-net.net c.in_ok-added.added.items =
+    subst (ShowsWithout c.in_ok-net.net) c.as_slice.ensures.value c.in_ok-net.ensures.shows in
+    plan-kept old new (network_of c.in_ok-parts.parts) c.in_ok-added.added.items c.in_ok-removed.removed.items parts added removed
+    c.in_ok-net.net c.in_ok-net.ensures.same shows c.in_ok-parts.ensures.rules c.keeps_rules.ensures.network accepted
 
 pub returns-clause-plan : goal.returns-clause-plan
 returns-clause-plan c =
@@ -65,5 +63,5 @@ returns-clause-plan c =
     c.in_ok-added.ensures
     ∙ added-by old new (network_of c.in_ok-parts.parts) c.routes.result c.sids.result parts c.routes.ensures c.sids.ensures in
     let removed : c.in_ok-removed.removed.items ≡ removed_entries old new = c.in_ok-removed.ensures ∙ ap₂ removed_entries third fourth in
-    plan-is old new c.in_ok-net.net c.in_ok-added.added.items c.in_ok-removed.removed.items (c.in_ok-net.ensures.ok ∙ parts) added removed
-    c.hide_all.new.net c.hide_all.ensures.same
+    plan-is old new (network_of c.in_ok-parts.parts) c.in_ok-added.added.items c.in_ok-removed.removed.items parts added removed
+    c.in_ok-net.net c.in_ok-net.ensures.same
