@@ -137,6 +137,18 @@ impl<T> Table<T> {
         }
     }
 
+    /// The value of a prefix (own rule). `None` exactly where the prefix is not there.
+    pub fn get(&self, p: &Prefix) -> Option<T>
+    where
+        T: Copy,
+        ensures { result ≡ value_at self.now p.now }
+    {
+        match self.index.place(key_of(*p)) {
+            None => None,
+            Some(place) => Some(self.entries[place].1),
+        }
+    }
+
     /// The longest entry that holds the address (RFC 1812 section 5.2.4.3, rule 2). `None` exactly
     /// where no entry holds it.
     pub fn best(&self, a: Addr) -> Option<(&Prefix, &T)>
