@@ -1,11 +1,11 @@
--- A table without a prefix, and with another value at one.
-use Rattle.std.proofs.Common.{◌≡◌, ◌↔◌, ℕ, zero, suc, ◌<◌, ◌≤◌, ◌⊎◌, true, false, ◌==◌, List, [], ◌∷◌, ◌++◌, slice_get, slice_set, Some, None, refl, sym, ap, ◌∙◌, subst, arith, inl, inr}
+-- The values of a table, and the table with another value at a prefix.
+use Rattle.std.proofs.Common.{◌≡◌, ◌↔◌, ℕ, zero, suc, ◌⊎◌, true, false, ◌==◌, List, [], ◌∷◌, ◌++◌, slice_get, slice_set, Some, None, refl, sym, ap, ◌∙◌, subst, inl, inr}
 use Rattle.std.specs.Prelude.{if◌then◌else◌, is_some, IsSome}
-use Rattle.std.specs.List.{Contains, remove}
+use Rattle.std.specs.List.{Contains}
 use Rattle.std.proofs.lemmas.Bool.{cases_Bool, both_ways, and_parts, and_from, eqb-true, eq-eqb, false≢true}
 use Rattle.std.proofs.lemmas.Option.{none-some, same_Some}
 use Rattle.v6_addr.specs.Address.{PrefixValue, IsPrefix}
-use Rattle.prefix_table.specs.Table.{HasPrefix, EachOnce, IsTable, is_one_prefix, value_at, without, with_value}
+use Rattle.prefix_table.specs.Table.{HasPrefix, EachOnce, IsTable, is_one_prefix, value_at, with_value}
 use Rattle.prefix_table.proofs.TableLemmas.{contains_none, contains_cases, contains_first, contains_later, same_prefix, has_by}
 use Rattle.prefix_table.proofs.IndexLemmas.{place_of, contains_at}
 
@@ -19,28 +19,12 @@ one_to p q is =
     and_from _ _ (eq-eqb p.value q.value (ap (λ (r : PrefixValue). r.value) is)) (eq-eqb p.len q.len (ap (λ (r : PrefixValue). r.len) is))
 
 -- two prefixes are one, or differ
-one_or_other : (p q : PrefixValue) → ((p ≡ q) × (is_one_prefix p q ≡ true)) ⊎ ((p ≡ q → ⊥) × (is_one_prefix p q ≡ false))
+pub one_or_other : (p q : PrefixValue) → ((p ≡ q) × (is_one_prefix p q ≡ true)) ⊎ ((p ≡ q → ⊥) × (is_one_prefix p q ≡ false))
 one_or_other p q =
     elim (cases_Bool (is_one_prefix p q)) [
       | inl one ↦ inl (one_from p q one, one)
       | inr other ↦ inr (λ is. both_ways _ other (one_to p q is), other)
     ]
-
--- ---- the elements but one
-
-pub get_before : {X : Type 0} (xs : List X) (i j : ℕ) → j < i → slice_get (remove xs i) j ≡ slice_get xs j
-get_before [] zero j h = refl
-get_before [] (suc i) j h = refl
-get_before (x ∷ xs) zero j h = absurd (omega (arith, h))
-get_before (x ∷ xs) (suc i) zero h = refl
-get_before (x ∷ xs) (suc i) (suc j) h = get_before xs i j (omega (arith, h))
-
-pub get_behind : {X : Type 0} (xs : List X) (i j : ℕ) → i ≤ j → slice_get (remove xs i) j ≡ slice_get xs (suc j)
-get_behind [] zero j h = refl
-get_behind [] (suc i) j h = refl
-get_behind (x ∷ xs) zero j h = refl
-get_behind (x ∷ xs) (suc i) zero h = absurd (omega (arith, h))
-get_behind (x ∷ xs) (suc i) (suc j) h = get_behind xs i j (omega (arith, h))
 
 module _ {T : Type 0} where
   -- ---- a prefix that isn't there
@@ -55,10 +39,6 @@ module _ {T : Type 0} where
   not_later : (e : PrefixValue × T) (es : List (PrefixValue × T)) (p : PrefixValue) → ¬ HasPrefix (e ∷ es) p → ¬ HasPrefix es p
   not_later e es p none has = none (has.0, contains_later e es (p, has.0) has.1)
 
-  pub without_none : (es : List (PrefixValue × T)) (p : PrefixValue) → ¬ HasPrefix es p → without es p ≡ es
-  without_none [] p none = refl
-  without_none (e ∷ es) p none = rw (not_first e es p none) (ap (λ fs. e ∷ fs) (without_none es p (not_later e es p none)))
-
   pub with_none : (es : List (PrefixValue × T)) (p : PrefixValue) (t : T) → ¬ HasPrefix es p → with_value es p t ≡ es
   with_none [] p t none = refl
   with_none (e ∷ es) p t none = rw (not_first e es p none) (ap (λ fs. e ∷ fs) (with_none es p t (not_later e es p none)))
@@ -66,6 +46,14 @@ module _ {T : Type 0} where
   pub value_none : (es : List (PrefixValue × T)) (p : PrefixValue) → ¬ HasPrefix es p → value_at es p ≡ None
   value_none [] p none = refl
   value_none (e ∷ es) p none = rw (not_first e es p none) (value_none es p (not_later e es p none))
+
+  pub value_absent : (es : List (PrefixValue × T)) (p q : PrefixValue) → ¬ HasPrefix es p
+      → value_at es q ≡ (if is_one_prefix p q then None else value_at es q)
+  value_absent es p q none =
+      elim (one_or_other p q) [
+        | inl one ↦ rw one.1 (value_none es q (subst (λ r. ¬ HasPrefix es r) one.0 none))
+        | inr other ↦ rw other.1 refl
+      ]
 
   -- ---- a prefix at its place
 
@@ -85,15 +73,6 @@ module _ {T : Type 0} where
   first_one : (x e : PrefixValue × T) (p : PrefixValue) → Some x ≡ Some e → e.0 ≡ p → x.0 ≡ p
   first_one x e p same is = ap (λ (f : PrefixValue × T). f.0) (same_Some x e same) ∙ is
 
-  pub without_at : (es : List (PrefixValue × T)) (i : ℕ) (e : PrefixValue × T) (p : PrefixValue) → EachOnce es → slice_get es i ≡ Some e
-      → e.0 ≡ p → remove es i ≡ without es p
-  without_at [] i e p once at is = absurd (none-some e at)
-  without_at (x ∷ es) zero e p once at is =
-      let first = first_one x e p at is in
-      rw (one_to x.0 p first) (sym (without_none es p (λ h. once.0 (subst (HasPrefix es) (sym first) h))))
-  without_at (x ∷ es) (suc i) e p once at is =
-      rw (before_other x es p once (has_at_place es i e p at is)) (ap (λ fs. x ∷ fs) (without_at es i e p once.1 at is))
-
   pub value_at_place : (es : List (PrefixValue × T)) (i : ℕ) (e : PrefixValue × T) (p : PrefixValue) → EachOnce es
       → slice_get es i ≡ Some e → e.0 ≡ p → value_at es p ≡ Some e.1
   value_at_place [] i e p once at is = absurd (none-some e at)
@@ -112,32 +91,7 @@ module _ {T : Type 0} where
   with_at (x ∷ es) (suc i) e p t once at is =
       rw (before_other x es p once (has_at_place es i e p at is)) (ap (λ fs. x ∷ fs) (with_at es i e p t once.1 at is))
 
-  -- ---- both are tables
-
-  contains_without : (es : List (PrefixValue × T)) (p : PrefixValue) (e : PrefixValue × T) → Contains (without es p) e → Contains es e
-  contains_without [] p e c = c
-  contains_without (x ∷ es) p e c =
-      elim (cases_Bool (is_one_prefix x.0 p)) [
-        | inl one ↦ contains_later x es e (contains_without es p e (rw one at c))
-        | inr other ↦ elim (contains_cases x (without es p) e (rw other at c)) [
-          | inl is ↦ subst (Contains (x ∷ es)) is (contains_first x es)
-          | inr more ↦ contains_later x es e (contains_without es p e more)
-        ]
-      ]
-
-  once_without : (es : List (PrefixValue × T)) (p : PrefixValue) → EachOnce es → EachOnce (without es p)
-  once_without [] p once = once
-  once_without (x ∷ es) p once =
-      elim (cases_Bool (is_one_prefix x.0 p)) [
-        | inl one ↦ rw one (once_without es p once.1)
-        | inr other ↦ rw other (λ h. once.0 (h.0, contains_without es p (x.0, h.0) h.1), once_without es p once.1)
-      ]
-
-  pub is_table_without : (es : List (PrefixValue × T)) (p : PrefixValue) → IsTable es → IsTable (without es p)
-  is_table_without es p table = record {
-    prefixes = λ e c. table.prefixes e (contains_without es p e c);
-    once = once_without es p table.once;
-  }
+  -- ---- another value leaves a table
 
   -- an entry of the table with another value has the prefix of an entry that was there
   abbrev WasThere : List (PrefixValue × T) → PrefixValue × T → Type 0
@@ -211,26 +165,6 @@ module _ {T : Type 0} where
 
   pub value_tells : (es : List (PrefixValue × T)) (p : PrefixValue) (t : T) → IsTable es → Contains es (p, t) → value_at es p ≡ Some t
   value_tells es p t table c = let at = place_of es (p, t) c in value_at_place es at.0 (p, t) p table.once at.1 refl
-
-  pub value_without : (es : List (PrefixValue × T)) (p q : PrefixValue)
-      → value_at (without es p) q ≡ (if is_one_prefix p q then None else value_at es q)
-  value_without [] p q = elim (cases_Bool (is_one_prefix p q)) [ inl one ↦ rw one refl | inr other ↦ rw other refl ]
-  value_without (x ∷ es) p q =
-      elim (one_or_other x.0 p) [
-        | inl gone ↦ elim (one_or_other p q) [
-          | inl one ↦ rw (gone.1, one.1) (value_without es p q ∙ rw one.1 refl)
-          | inr other ↦
-              let apart : is_one_prefix x.0 q ≡ false = subst (λ r. is_one_prefix r q ≡ false) (sym gone.0) other.1 in
-              rw (gone.1, other.1, apart) (value_without es p q ∙ rw other.1 refl)
-        ]
-        | inr stays ↦ elim (one_or_other x.0 q) [
-          | inl here ↦ elim (one_or_other p q) [
-            | inl one ↦ absurd (stays.0 (here.0 ∙ sym one.0))
-            | inr other ↦ rw (stays.1, other.1, here.1) refl
-          ]
-          | inr there ↦ rw (stays.1, there.1) (value_without es p q)
-        ]
-      ]
 
   pub value_with : (es : List (PrefixValue × T)) (p q : PrefixValue) (t : T) → HasPrefix es p
       → value_at (with_value es p t) q ≡ (if is_one_prefix p q then Some t else value_at es q)

@@ -1,13 +1,10 @@
 -- The places of entries by the keys of their prefixes, and the lengths of keys.
-use Rattle.std.proofs.Common.{◌≡◌, ◌↔◌, ℕ, zero, suc, ◌-◌, ◌/◌, ◌^◌, ◌<◌, ◌≤◌, ◌⊎◌, Bool, true, false, ◌==◌, ◌&&◌, cond, List, [], ◌∷◌, ◌++◌, length, get_or, slice_get, Option, Some, None, Contains, refl, sym, ap, ◌∙◌, subst, arith, inl, inr}
-use Rattle.std.specs.Prelude.{is_some, option_map, map, IsTrue}
+use Rattle.std.proofs.Common.{◌≡◌, ◌↔◌, ℕ, zero, suc, ◌-◌, ◌/◌, ◌^◌, ◌<◌, ◌≤◌, ◌⊎◌, Bool, true, ◌==◌, ◌&&◌, cond, List, [], ◌∷◌, ◌++◌, length, get_or, slice_get, Option, Some, None, Contains, refl, sym, ap, ◌∙◌, subst, arith, inl, inr}
+use Rattle.std.specs.Prelude.{is_some, IsTrue}
 use Rattle.std.specs.declared.cmp.Ordering.{Ordering}
 use Rattle.std.specs.declared.cmp.Ordering.TheVariants.{Less, Equal, Greater}
 use Rattle.std.specs.Ordering.{nat_cmp, ordering_then, is_eq}
-use Rattle.std.specs.BTreeMap.{BTreeMap}
 use Rattle.std.specs.BTreeMap as map
-use Rattle.std.specs.Map.{lookup}
-use Rattle.std.proofs.lemmas.Map.Made.{lookup-map_values}
 use Rattle.std.proofs.lemmas.Bool.{cases_Bool, cases_lt, cases_eq, both_ways, and_parts, and_from, eqb-true, eq-eqb, false≢true}
 use Rattle.std.proofs.lemmas.Bool.Decides.{nat_tests}
 use Rattle.std.proofs.lemmas.Option.{none-some, slice_get-get_or, slice_get_within, get_or_from_slice_get}
@@ -16,7 +13,7 @@ use Rattle.v6_addr.proofs.PublicLaws.{same_value, Holds_own_value}
 use Rattle.prefix_table.specs.declared.index.Key.{Key}
 use Rattle.prefix_table.specs.declared.index.Index.{Index}
 use Rattle.prefix_table.specs.Table.{HasPrefix, IsTable, HoldsNone, IsBest, HasAround}
-use Rattle.prefix_table.specs.Index.{key_cmp, key_at, key_of, place_at, AreFalling, HasLength, Keeps, AreLengths, HasNoKey, IsLongest, HasBelow, HasShorter, closed, ClosesGap, IsIndex, IsWhole}
+use Rattle.prefix_table.specs.Index.{key_cmp, key_at, key_of, place_at, AreFalling, HasLength, Keeps, AreLengths, HasNoKey, IsLongest, HasBelow, HasShorter, IsIndex, IsWhole}
 use Rattle.prefix_table.proofs.TableLemmas.{same_prefix, is_table_push}
 
 -- ---- keys
@@ -76,43 +73,61 @@ lengths_put old new key n are falling keeps noted update = record {
   ];
 }
 
--- ---- a key is taken out
+-- ---- a key is taken out, and another gets another place
 
-gap_of : (b : Bool) (gone : ℕ) (o : Option ℕ) → option_map (closed gone) (cond b None o) ≡ cond b None (option_map (closed gone) o)
-gap_of true gone o = refl
-gap_of false gone o = refl
-
-pub closes_gap : (old new : Index) (mid : BTreeMap Key ℕ) (key : Key) (gone : ℕ) → map.Updates key_cmp old.places mid key None
-    → new.places.entries ≡ map (λ (e : Key × ℕ). (e.0, closed gone e.1)) mid.entries → ClosesGap old new key gone
-closes_gap old new mid key gone update is k =
-    let there : place_at new k ≡ option_map (closed gone) (map.get key_cmp mid k) =
-    ap (lookup (λ q. is_eq (key_cmp k q))) is ∙ lookup-map_values (closed gone) (λ q. is_eq (key_cmp k q)) mid.entries in
-    there ∙ (ap (option_map (closed gone)) (update.0 k) ∙ gap_of (is_eq (key_cmp key k)) gone (place_at old k))
-
--- what has a place when the gap is closed had one before, and isn't the key that was taken out
-abbrev pub ComesFrom : Index → Key → ℕ → Key → ℕ → Type 0
-ComesFrom old key gone k i = (is_eq (key_cmp key k) ≡ false) × ((m : ℕ) × (place_at old k ≡ Some m) × (closed gone m ≡ i))
-
-came_from : (gone i : ℕ) (o : Option ℕ) → option_map (closed gone) o ≡ Some i → (m : ℕ) × (o ≡ Some m) × (closed gone m ≡ i)
-came_from gone i None e = absurd (none-some i e)
-came_from gone i (Some m) e = (m, refl, cc)
-
-pub gap_cases : (old new : Index) (key k : Key) (gone i : ℕ) → ClosesGap old new key gone → place_at new k ≡ Some i
-    → ComesFrom old key gone k i
-gap_cases old new key k gone i closes is =
+-- what has a place after a key was taken out had it before, and is another key
+pub taken_cases : (old new : Index) (key k : Key) (i : ℕ) → map.Updates key_cmp old.places new.places key None → place_at new k ≡ Some i
+    → (key ≡ k → ⊥) × (place_at old k ≡ Some i)
+taken_cases old new key k i update is =
+    let told : place_at new k ≡ cond (is_eq (key_cmp key k)) None (place_at old k) = update.0 k in
     elim (cases_Bool (is_eq (key_cmp key k))) [
-      | inl here ↦ let none : place_at new k ≡ None = rw here at (closes k) in absurd (none-some i (sym none ∙ is))
-      | inr apart ↦ let got : place_at new k ≡ option_map (closed gone) (place_at old k) = rw apart at (closes k) in
-          (apart, came_from gone i (place_at old k) (sym got ∙ is))
+      | inl here ↦ let none : place_at new k ≡ None = rw here at told in absurd (none-some i (sym none ∙ is))
+      | inr apart ↦ let got : place_at new k ≡ place_at old k = rw apart at told in
+          (λ same. both_ways _ apart (ap (λ q. is_eq (key_cmp q k)) same ∙ key_self k), sym got ∙ is)
     ]
 
-pub lengths_taken : (old new : Index) (key : Key) (gone : ℕ) → AreLengths old → new.lengths.items ≡ old.lengths.items
-    → ClosesGap old new key gone → AreLengths new
-lengths_taken old new key gone are same closes = record {
+-- after a key got a place, or lost it, another key has what it had
+pub updated_other : (old new : Index) (key k : Key) (o : Option ℕ) → map.Updates key_cmp old.places new.places key o → (key ≡ k → ⊥)
+    → place_at new k ≡ place_at old k
+updated_other old new key k o update other =
+    let told : place_at new k ≡ cond (is_eq (key_cmp key k)) o (place_at old k) = update.0 k in
+    elim (cases_Bool (is_eq (key_cmp key k))) [
+      | inl here ↦ absurd (other (key_same key k here))
+      | inr apart ↦ rw apart at told
+    ]
+
+-- a key that has no place can be taken out without a change
+pub taken_none : (old new : Index) (key : Key) → map.Updates key_cmp old.places new.places key None → place_at old key ≡ None
+    → (k : Key) → place_at new k ≡ place_at old k
+taken_none old new key update none k =
+    elim (cases_Bool (is_eq (key_cmp key k))) [
+      | inl here ↦
+          let told : place_at new k ≡ cond (is_eq (key_cmp key k)) None (place_at old k) = update.0 k in
+          let gone : place_at new k ≡ None = rw here at told in
+          gone ∙ (sym none ∙ ap (place_at old) (key_same key k here))
+      | inr apart ↦ updated_other old new key k None update (λ same.
+          both_ways _ apart (ap (λ q. is_eq (key_cmp q k)) same ∙ key_self k))
+    ]
+
+pub lengths_taken : (old new : Index) (key : Key) → AreLengths old → new.lengths.items ≡ old.lengths.items
+    → map.Updates key_cmp old.places new.places key None → AreLengths new
+lengths_taken old new key are same update = record {
   falling = subst AreFalling (sym same) are.falling;
-  each = λ k i is. let was = (gap_cases old new key k gone i closes is).1 in
-      subst (λ ls. HasLength ls k.len) (sym same) (are.each k was.0 was.1);
+  each = λ k i is. subst (λ ls. HasLength ls k.len) (sym same) (are.each k i (taken_cases old new key k i update is).1);
 }
+
+-- a key that has a place has its length among those of the keys
+length_there : (old : Index) (key : Key) (o : Option ℕ) → AreLengths old → place_at old key ≡ o → is_some o ≡ true
+    → HasLength old.lengths.items key.len
+length_there old key None are at some = absurd (false≢true some)
+length_there old key (Some i) are at some = are.each key i at
+
+pub lengths_moved : (old new : Index) (key : Key) (n : ℕ) → AreLengths old → new.lengths.items ≡ old.lengths.items
+    → is_some (place_at old key) ≡ true → map.Updates key_cmp old.places new.places key (Some n) → AreLengths new
+lengths_moved old new key n are same there update =
+    lengths_put old new key n are (subst AreFalling (sym same) are.falling)
+    (λ len has. subst (λ ls. HasLength ls len) (sym same) has)
+    (subst (λ ls. HasLength ls key.len) (sym same) (length_there old key (place_at old key) are refl there)) update
 
 -- ---- the longest key of an address
 

@@ -2,5 +2,6 @@ pub mod TableLemmas
 pub mod LengthLemmas
 pub mod IndexLemmas
 pub mod EditLemmas
-pub mod TakeLemmas
+pub mod PlaceLemmas
+pub mod SwapLemmas
 pub mod PublicLaws

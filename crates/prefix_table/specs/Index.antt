@@ -1,7 +1,7 @@
 -- Where the entries of a table stand, by the lengths and the first bits of their prefixes (own rule).
-use Rattle.std.specs.Prelude.{◌≡◌, ℕ, ◌-◌, ◌/◌, ◌^◌, ◌<◌, ◌≤◌, nat_lt, if◌then◌else◌, cond, option_map, List, length, slice_get, slice_index, Option, Some, None, IsSome}
+use Rattle.std.specs.Prelude.{◌≡◌, ℕ, ◌-◌, ◌/◌, ◌^◌, ◌<◌, ◌≤◌, List, length, slice_get, slice_index, Option, Some, None, IsSome}
 use Rattle.std.specs.declared.cmp.Ordering.{Ordering}
-use Rattle.std.specs.Ordering.{nat_cmp, ordering_then, is_eq}
+use Rattle.std.specs.Ordering.{nat_cmp, ordering_then}
 use Rattle.std.specs.BTreeMap as map
 use Rattle.v6_addr.specs.Address.{PrefixValue}
 use Rattle.prefix_table.specs.declared.index.Key.{Key}
@@ -56,19 +56,16 @@ HasBelow index a len other = (other < len) × IsSome (place_at index (key_at a o
 abbrev pub HasShorter : Index → ℕ → ℕ → Type 0
 HasShorter index a len = (other : ℕ) × HasBelow index a len other
 
--- where an entry stands once the entry at a place is gone: those behind it come one down
-abbrev pub closed : ℕ → ℕ → ℕ
-closed gone place = if nat_lt gone place then place - 1 else place
-
--- a key has lost its place, and those behind it have come one down
-abbrev pub ClosesGap : Index → Index → Key → ℕ → Type 0
-ClosesGap old new key gone =
-    (k : Key) → place_at new k ≡ cond (is_eq (key_cmp key k)) None (option_map (closed gone) (place_at old k))
-
 -- each entry has the place of its prefix's key, and each place is that of an entry with the key
 pub record IsIndex {T : Type 0} (entries : List (PrefixValue × T)) (index : Index) : Type 0 where
   pub each : (i : ℕ) (e : PrefixValue × T) → slice_get entries i ≡ Some e → place_at index (key_of e.0) ≡ Some i
   pub leads : (k : Key) (i : ℕ) → place_at index k ≡ Some i → (e : PrefixValue × T) × (slice_get entries i ≡ Some e) × (key_of e.0 ≡ k)
+
+-- the key of the entry at a place, where one stands there, has the place, and each other key has what it had
+pub record IsTold {T : Type 0} (entries : List (PrefixValue × T)) (old new : Index) (place : ℕ) : Type 0 where
+  pub here : (e : PrefixValue × T) → slice_get entries place ≡ Some e → place_at new (key_of e.0) ≡ Some place
+  pub others : (k : Key) → ((e : PrefixValue × T) → slice_get entries place ≡ Some e → ¬ (key_of e.0 ≡ k))
+      → place_at new k ≡ place_at old k
 
 -- what is true of every table: its entries are those of a table, and each is found by its prefix
 pub record IsWhole {T : Type 0} (entries : List (PrefixValue × T)) (index : Index) : Type 0 where

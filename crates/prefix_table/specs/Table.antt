@@ -1,4 +1,4 @@
--- A table of prefixes as a plain list of pairs, each a prefix and its value, in the order of insertion.
+-- A table of prefixes as a plain list of pairs, each a prefix and its value.
 use Rattle.std.specs.Prelude.{◌≡◌, ℕ, Bool, ◌<◌, ◌≤◌, ◌==◌, ◌&&◌, if◌then◌else◌, List, [], ◌∷◌, Option, Some, None, Contains}
 use Rattle.v6_addr.specs.Address.{PrefixValue, IsPrefix, Holds, IsInside}
 use Rattle.prefix_table.specs.declared.fault.TableFault.{TableFault}
@@ -16,11 +16,6 @@ is_one_prefix p q = (p.value == q.value) && (p.len == q.len)
 abbrev pub value_at : {T : Type 0} → List (PrefixValue × T) → PrefixValue → Option T
 value_at [] p = None
 value_at (e ∷ es) p = if is_one_prefix e.0 p then Some e.1 else value_at es p
-
--- the entries of the other prefixes, in their order
-abbrev pub without : {T : Type 0} → List (PrefixValue × T) → PrefixValue → List (PrefixValue × T)
-without [] p = []
-without (e ∷ es) p = if is_one_prefix e.0 p then without es p else e ∷ without es p
 
 -- the entries with a value in place of that of a prefix; where the prefix isn't there nothing changes
 abbrev pub with_value : {T : Type 0} → List (PrefixValue × T) → PrefixValue → T → List (PrefixValue × T)

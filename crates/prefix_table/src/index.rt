@@ -1,9 +1,9 @@
 //! Where the entries of a table stand, by the lengths and the first bits of their prefixes.
 
-ghost use Rattle.std.specs.Prelude.{◌≡◌, ℕ, ◌/◌, ◌^◌, ◌<◌, ◌≤◌, ◌↔◌, IsTrue, length, slice_index, is_some, Some, None, OnOk, OnErr, IfSome, IfNone, MatchOption};
+ghost use Rattle.std.specs.Prelude.{◌≡◌, ℕ, ◌/◌, ◌^◌, ◌<◌, ◌≤◌, ◌↔◌, IsTrue, length, slice_index, is_some, Some, None, IsSome, OnOk, OnErr, MatchOption};
 ghost use Rattle.std.specs.BTreeMap as map;
 ghost use Rattle.v6_addr.specs.Address.{IsPrefix};
-ghost use Rattle.prefix_table.specs.Index.{key_cmp, key_at, key_of, place_at, AreFalling, HasLength, Keeps, AreLengths, HasNoKey, IsLongest, HasBelow, HasShorter, closed, ClosesGap};
+ghost use Rattle.prefix_table.specs.Index.{key_cmp, key_at, key_of, place_at, AreFalling, HasLength, Keeps, AreLengths, HasNoKey, IsLongest, HasBelow, HasShorter};
 
 use std::alloc::{AllocError, Global};
 use std::collections::BTreeMap;
@@ -79,13 +79,6 @@ fn note_length(lengths: &mut Vec<u8>, len: u8) -> Result<(), AllocError>
     }
     lengths.insert(place, len)?;
     Ok(())
-}
-
-/// Where an entry stands once the entry at a place is gone: those behind it come one down.
-fn closed(gone: usize, place: usize) -> usize
-    ensures { result ≡ closed gone place }
-{
-    if gone < place { place - 1 } else { place }
 }
 
 /// The places of entries by the keys of their prefixes, and the lengths of the keys, from the
@@ -173,24 +166,25 @@ impl Index {
         self.places.get(&key).copied()
     }
 
-    /// The place of a key is given up, and those behind it come one down; none exactly where the
-    /// key has no place, and then all stay.
+    /// The place of a key is given up, if it has one; the other keys keep theirs.
     pub(crate) fn take(&mut self, key: Key) -> Option<usize>
         requires { AreLengths self.old }
         ensures place { result ≡ place_at self.old key }
         ensures lengths { AreLengths self.new }
-        ensures none { IfNone result ((k : Key) → place_at self.new k ≡ place_at self.old k) }
-        ensures some { IfSome result (λ gone. ClosesGap self.old self.new key gone) }
+        ensures gone { map.Updates key_cmp self.old.places self.new.places key None }
     {
-        match self.places.remove(&key) {
-            None => None,
-            Some(gone) => {
-                self.places.retain(|_, place| {
-                    *place = closed(gone, *place);
-                    true
-                });
-                Some(gone)
-            }
+        self.places.remove(&key)
+    }
+
+    /// A key that has a place gets another. It takes no memory.
+    pub(crate) fn move_to(&mut self, key: Key, place: usize)
+        requires lengths { AreLengths self.old }
+        requires there { IsSome (place_at self.old key) }
+        ensures lengths { AreLengths self.new }
+        ensures moved { map.Updates key_cmp self.old.places self.new.places key (Some place) }
+    {
+        if let Some(old) = self.places.get_mut(&key) {
+            *old = place;
         }
     }
 }

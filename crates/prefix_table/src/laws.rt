@@ -1,8 +1,9 @@
 //! Laws of the definitions: each is the contract of an empty function.
 
-ghost use Rattle.std.specs.Prelude.{◌≡◌, ◌↔◌, ℕ, true, List, [], ◌∷◌, ◌++◌, if◌then◌else◌, Option, Some, None, IsSome, Contains};
+ghost use Rattle.std.specs.Prelude.{◌≡◌, ◌↔◌, ℕ, true, List, [], ◌∷◌, ◌++◌, if◌then◌else◌, Option, Some, None, IsSome, slice_get, Contains};
+ghost use Rattle.std.specs.List.{swap_remove};
 ghost use Rattle.v6_addr.specs.Address.{PrefixValue};
-ghost use Rattle.prefix_table.specs.Table.{IsTable, HasPrefix, IsBest, IsBestMatch, IsBetter, is_one_prefix, value_at, without, with_value};
+ghost use Rattle.prefix_table.specs.Table.{IsTable, HasPrefix, IsBest, IsBestMatch, IsBetter, is_one_prefix, value_at, with_value};
 
 /// A law: since each prefix stands once, the longest entry that holds an address is one (RFC 1812
 /// section 5.2.4.3, rule 2).
@@ -38,14 +39,16 @@ pub fn edits_change_one_prefix<T>()
     ensures more { (entries : List (PrefixValue × T)) (p q : PrefixValue) (t : T)
         → ¬ HasPrefix entries p → value_at (entries ++ (p, t) ∷ []) q
         ≡ (if is_one_prefix p q then Some t else value_at entries q) }
-    ensures less { (entries : List (PrefixValue × T)) (p q : PrefixValue)
-        → value_at (without entries p) q
+    ensures less { (entries : List (PrefixValue × T)) (place : ℕ) (p q : PrefixValue) (t : T)
+        → IsTable entries → slice_get entries place ≡ Some (p, t)
+        → value_at (swap_remove entries place (p, t)) q
         ≡ (if is_one_prefix p q then None else value_at entries q) }
     ensures other { (entries : List (PrefixValue × T)) (p q : PrefixValue) (t : T)
         → HasPrefix entries p → value_at (with_value entries p t) q
         ≡ (if is_one_prefix p q then Some t else value_at entries q) }
-    ensures less_is_table { (entries : List (PrefixValue × T)) (p : PrefixValue) → IsTable entries
-        → IsTable (without entries p) }
+    ensures less_is_table { (entries : List (PrefixValue × T)) (place : ℕ) (e : PrefixValue × T)
+        → IsTable entries → slice_get entries place ≡ Some e
+        → IsTable (swap_remove entries place e) }
     ensures other_is_table { (entries : List (PrefixValue × T)) (p : PrefixValue) (t : T)
         → IsTable entries → IsTable (with_value entries p t) }
 {}

@@ -1,11 +1,12 @@
 //! The table: a list of entries, and where each stands by its prefix.
 
-ghost use Rattle.std.specs.Prelude.{◌≡◌, ℕ, ◌<◌, ◌≤◌, ◌↔◌, IsTrue, ◌∷◌, ◌++◌, [], length, slice_get, Some, MatchOption, MatchResult, OnOk, OnErr};
+ghost use Rattle.std.specs.Prelude.{◌≡◌, ℕ, ◌<◌, ◌≤◌, ◌↔◌, IsTrue, ◌∷◌, ◌++◌, [], if◌then◌else◌, length, slice_get, Some, None, IsSome, IfSome, IfNone, MatchOption, MatchResult, OnOk, OnErr};
+ghost use Rattle.std.specs.List.{swap_remove};
 ghost use Rattle.std.specs.Vec.{vec_len, vec_capacity};
 ghost use Rattle.std.specs.BTreeMap as map;
 ghost use Rattle.v6_addr.specs.Address.{PrefixValue};
-ghost use Rattle.prefix_table.specs.Table.{HasPrefix, InsertFails, IsTable, HoldsNone, IsBest, HasAround, value_at, without, with_value};
-ghost use Rattle.prefix_table.specs.Index.{key_cmp, place_at, AreLengths};
+ghost use Rattle.prefix_table.specs.Table.{HasPrefix, InsertFails, IsTable, HoldsNone, IsBest, HasAround, is_one_prefix, value_at, with_value};
+ghost use Rattle.prefix_table.specs.Index.{key_cmp, key_of, place_at, AreLengths, IsTold};
 ghost use Rattle.prefix_table.specs.declared.index.Key.{Key};
 
 use crate::fault::TableFault;
@@ -14,7 +15,8 @@ use std::alloc::{AllocError, AllocFailed, Global};
 use std::marker::Model;
 use v6_addr::{Addr, Prefix};
 
-/// Prefixes with a value each, in the order of insertion. Each prefix stands once (own rule).
+/// Prefixes with a value each. Each prefix stands once (own rule). An entry that is added stands
+/// after the others; where one is taken out the last takes its place.
 ///
 /// A look-up takes as many steps as lengths occur, each a look-up in an ordered map.
 #[derive(Debug, Drop)]
@@ -52,6 +54,19 @@ fn make_room<T>(
 {
     entries.reserve(1)?;
     index.put(key, entries.len())
+}
+
+/// The key of the entry at a place is told the place, where an entry stands there.
+fn tell_place<T>(entries: &[(Prefix, T)], index: &mut Index, place: usize)
+    requires lengths { AreLengths index.old }
+    requires there { (e : PrefixValue × T) → slice_get entries.now place ≡ Some e
+        → IsSome (place_at index.old (key_of e.0)) }
+    ensures lengths { AreLengths index.new }
+    ensures told { IsTold entries.now index.old index.new place }
+{
+    if let Some(entry) = entries.get(place) {
+        index.move_to(key_of(entry.0), place);
+    }
 }
 
 impl<T> Table<T> {
@@ -105,17 +120,27 @@ impl<T> Table<T> {
         }
     }
 
-    /// Takes the entry with a prefix out, and gives its value; the others stay in their order (own
-    /// rule). `None` exactly where the prefix is not there. It takes no memory.
-    pub fn remove(&mut self, p: &Prefix) -> Option<T>
+    /// Takes the entry with a prefix out, and gives its value; the last entry takes its place (own
+    /// rule). `None` exactly where the prefix is not there, and then nothing changes. It takes no
+    /// memory.
+    pub fn swap_remove(&mut self, p: &Prefix) -> Option<T>
     where
         T: Drop,
         ensures value { result ≡ value_at self.old p.now }
-        ensures others { self.new ≡ without self.old p.now }
+        ensures gone { IfSome result (λ t. (place : ℕ)
+            × (slice_get self.old place ≡ Some (p.now, t))
+            × (self.new ≡ swap_remove self.old place (p.now, t))) }
+        ensures none { IfNone result (self.new ≡ self.old) }
+        ensures others { (q : PrefixValue) → value_at self.new q
+            ≡ (if is_one_prefix p.now q then None else value_at self.old q) }
     {
         match self.index.take(key_of(*p)) {
             None => None,
-            Some(place) => Some(self.entries.remove(place).1),
+            Some(place) => {
+                let gone = self.entries.swap_remove(place);
+                tell_place(&self.entries, &mut self.index, place);
+                Some(gone.1)
+            }
         }
     }
 
@@ -177,7 +202,7 @@ impl<T> Table<T> {
         self.entries.len()
     }
 
-    /// Entry `i`, counted from 0 in the order of insertion (own rule).
+    /// Entry `i`, counted from 0 (own rule).
     pub fn entry(&self, i: usize) -> (&Prefix, &T)
         requires { i < length self.now }
         ensures { slice_get self.now i ≡ Some (result.0.now, result.1.now) }

@@ -3,7 +3,7 @@ use Rattle.std.proofs.lemmas.Option.{slice_get-get_or}
 use Rattle.prefix_table.specs.Table.{value_at, with_value}
 use Rattle.prefix_table.specs.Index.{key_of, place_at}
 use Rattle.prefix_table.proofs.EditLemmas.{with_none, value_none}
-use Rattle.prefix_table.proofs.TakeLemmas.{place_is_within, value_taken, with_replaced, whole_replaced, none_there}
+use Rattle.prefix_table.proofs.PlaceLemmas.{place_is_within, value_there, with_replaced, whole_replaced, none_there}
 use Rattle.prefix_table.proofs.table.Table.replace.Goals as goal
 
 pub invariant_of-self : goal.invariant_of-self
@@ -13,14 +13,14 @@ invariant_of-self g c =
     let es = c.self.inside.entries.items in
     let at : place_at index (key_of p) ≡ Some c.in-Some.place =
     ap (place_at index) (sym c.key_of.ensures.key) ∙ sym c.in-Some.ensures in
-    whole_replaced es index index p (slice_set es c.in-Some.place (p, c.args.t)) c.in-Some.place c.args.t c.self.invariant
+    whole_replaced es index p (slice_set es c.in-Some.place (p, c.args.t)) c.in-Some.place c.args.t c.self.invariant
     c.key_of.ensures.is_prefix at refl
 
 pub returns-in-None-clause-value : goal.returns-in-None-clause-value
 returns-in-None-clause-value g c =
     let index = c.self.inside.index in
     let p = c.args.p.now in
-    let none = none_there c.self.inside.entries.items index index p c.self.invariant
+    let none = none_there c.self.inside.entries.items index p c.self.invariant
     (ap (place_at index) (sym c.key_of.ensures.key) ∙ sym c.in-None.ensures) in
     subst (λ xs. None ≡ value_at xs p) c.self.view_is (sym (value_none c.self.inside.entries.items p none))
 
@@ -28,7 +28,7 @@ pub returns-in-None-clause-entries : goal.returns-in-None-clause-entries
 returns-in-None-clause-entries g c =
     let index = c.self.inside.index in
     let p = c.args.p.now in
-    let none = none_there c.self.inside.entries.items index index p c.self.invariant
+    let none = none_there c.self.inside.entries.items index p c.self.invariant
     (ap (place_at index) (sym c.key_of.ensures.key) ∙ sym c.in-None.ensures) in
     subst (λ xs. xs ≡ with_value xs p c.args.t) c.self.view_is (sym (with_none c.self.inside.entries.items p c.args.t none))
 
@@ -39,11 +39,11 @@ returns-in-Some-clause-value g c =
     let es = c.self.inside.entries.items in
     let at : place_at index (key_of p) ≡ Some c.in-Some.place =
     ap (place_at index) (sym c.key_of.ensures.key) ∙ sym c.in-Some.ensures in
-    let within = place_is_within es index index p c.in-Some.place c.self.invariant c.key_of.ensures.is_prefix at in
+    let within = place_is_within es index p c.in-Some.place c.self.invariant c.key_of.ensures.is_prefix at in
     let there : slice_get es c.in-Some.place ≡ Some c.index.result.now =
     slice_get-get_or es c.in-Some.place c.index.result.now within ∙ ap Some (sym c.index.ensures) in
     subst (λ xs. Some c.index.result.now.1 ≡ value_at xs p) c.self.view_is
-    (sym (value_taken es index index p c.in-Some.place c.index.result.now c.self.invariant c.key_of.ensures.is_prefix at there))
+    (sym (value_there es index p c.in-Some.place c.index.result.now c.self.invariant c.key_of.ensures.is_prefix at there))
 
 pub returns-in-Some-clause-entries : goal.returns-in-Some-clause-entries
 returns-in-Some-clause-entries g c =
@@ -53,4 +53,4 @@ returns-in-Some-clause-entries g c =
     let at : place_at index (key_of p) ≡ Some c.in-Some.place =
     ap (place_at index) (sym c.key_of.ensures.key) ∙ sym c.in-Some.ensures in
     subst (λ xs. slice_set es c.in-Some.place (p, c.args.t) ≡ with_value xs p c.args.t) c.self.view_is
-    (with_replaced es index index p c.in-Some.place c.args.t c.self.invariant c.key_of.ensures.is_prefix at)
+    (with_replaced es index p c.in-Some.place c.args.t c.self.invariant c.key_of.ensures.is_prefix at)
