@@ -255,7 +255,7 @@ any_entry_is_there net node table family p hits.Nothing none = absurd none
 
 -- ---- those that are shown
 
-among_passing : (test : Entry → Bool) (es : List Entry) (e : Entry) → Contains es e → test e ≡ true → Contains (filter test es) e
+pub among_passing : (test : Entry → Bool) (es : List Entry) (e : Entry) → Contains es e → test e ≡ true → Contains (filter test es) e
 among_passing test [] e c passes = c
 among_passing test (x ∷ es) e c passes =
     elim (contains_cases x es e c) [

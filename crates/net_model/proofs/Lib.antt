@@ -13,6 +13,7 @@ pub mod ShownLemmas
 pub mod FillLemmas
 pub mod ListedLemmas
 pub mod SettleLemmas
+pub mod FirstLemmas
 pub mod JudgingLemmas
 pub mod PassesLemmas
 pub mod TableLaws

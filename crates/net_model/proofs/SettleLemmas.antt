@@ -104,7 +104,7 @@ listed_where net (ids.Address n) e node table family p h listed is same = absurd
 
 -- ---- the first on a prefix where entries come or go on another
 
-first_stays : (before after : Entry → Bool) (q : PrefixValue) (es : List Entry)
+pub first_stays : (before after : Entry → Bool) (q : PrefixValue) (es : List Entry)
     → ((x : Entry) → Contains es x → x.prefix ≡ q → after x ≡ before x)
     → first_on q (filter after es) ≡ first_on q (filter before es)
 first_stays before after q [] same = refl
@@ -156,7 +156,7 @@ module _ (p : NetParts) (old new : Hidden) (entry : EntryId) (e : TableEntry) (l
 
 -- ---- the entry is in its table
 
-first_some : (q : PrefixValue) (es : List Entry) (x : Entry) → Contains es x → x.prefix ≡ q → IsSome (first_on q es)
+pub first_some : (q : PrefixValue) (es : List Entry) (x : Entry) → Contains es x → x.prefix ≡ q → IsSome (first_on q es)
 first_some q [] x c is = absurd (contains_none x c)
 first_some q (y ∷ es) x c is =
     elim (cases_Bool (is_one_prefix y.prefix q)) [

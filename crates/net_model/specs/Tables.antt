@@ -1,7 +1,7 @@
 -- The tables in which addresses are looked up: one for each node, table number and family that has entries (RFC 8986 sections 4.3 and 4.6
 -- to 4.8; one for each number is an own rule).
 use Rattle.std.specs.List.{filter}
-use Rattle.std.specs.Prelude.{slice_get, ◌≡◌, ◌↔◌, ℕ, ◌+◌, Bool, true, ◌==◌, ◌&&◌, if◌then◌else◌, List, [], ◌∷◌, ◌++◌, Option, Some, None}
+use Rattle.std.specs.Prelude.{slice_get, ◌≡◌, ◌↔◌, ℕ, ◌+◌, Bool, true, false, ◌==◌, ◌&&◌, if◌then◌else◌, List, [], ◌∷◌, ◌++◌, Option, Some, None}
 use Rattle.std.specs.Option.{unwrap_or}
 use Rattle.std.specs.declared.cmp.Ordering.{Ordering}
 use Rattle.std.specs.Ordering.{nat_cmp, bool_cmp, ordering_then}
@@ -25,7 +25,7 @@ use Rattle.net_model.specs.declared.parts.NetParts.{NetParts}
 use Rattle.net_model.specs.declared.hidden.Hidden.{Hidden}
 use Rattle.net_model.specs.declared.net.EntryId.{EntryId}
 use Rattle.net_model.specs.declared.net.EntryId.TheVariants as ids
-use Rattle.net_model.specs.Network.{Network, is_shown, network_of, network_with, HasFlags}
+use Rattle.net_model.specs.Network.{Network, same_hit, is_shown, network_of, network_with, HasFlags}
 use Rattle.net_model.specs.Judging.{InRange}
 use Rattle.net_model.specs.Rules.{same_family, IsNetwork}
 use Rattle.net_model.specs.Best.{Entry, entries_of}
@@ -144,6 +144,19 @@ first_at hidden e es = first_on e.prefix (filter (λ f. is_shown hidden f.hit) (
 -- it stands in another's table on its prefix, and is shown
 abbrev pub stands_on : List Hit → TableEntry → TableEntry → Bool
 stands_on hidden e f = (is_entry_of e.node e.table e.family f && is_one_prefix f.prefix e.prefix) && is_shown hidden f.hit
+
+-- a hit that isn't a route's
+abbrev pub unless_route : Option Hit → Option Hit
+unless_route None = None
+unless_route (Some (hits.Sid n)) = Some (hits.Sid n)
+unless_route (Some hits.Address) = Some hits.Address
+unless_route (Some (hits.Route n)) = None
+unless_route (Some hits.Nothing) = Some hits.Nothing
+
+-- the tables are still those from before an entry's flag was set or cleared
+abbrev pub AreTablesBefore : Network → Hit → BTreeMap TableKey HitTable → Type 0
+AreTablesBefore net h tables = (was : List Hit) × ((k : Hit) → same_hit h k ≡ false → is_shown net.hidden k ≡ is_shown was k)
+    × AreTables (record net { hidden = was }) tables
 
 -- a table with another hit on a prefix, or none; the rest is as it was
 abbrev pub SettlesIn : PrefixValue → Option Hit → HitTable → HitTable → Type 0

@@ -1,12 +1,14 @@
 //! Entries that are hidden, and what stands on their prefixes without them.
 
 ghost use Rattle.std.specs.Prelude.{◌≡◌, ◌↔◌, ◌<◌, ◌^◌, [], length, slice_index_or, false, IsTrue, IfOk, OnOk, OnErr, Some};
-ghost use Rattle.prefix_table.specs.Table.{HasPrefix};
+ghost use Rattle.prefix_table.specs.Table.{HasPrefix, value_at};
 ghost use Rattle.net_model.specs.Network.{CanHide, CanHideAll, HasFlags, HidesThese, IsMarked, hidden_hits, is_shown, network_of, network_with};
 ghost use Rattle.std.specs.BTreeMap.{IsUnchanged};
 ghost use Rattle.net_model.specs.Judging.{InRange};
 ghost use Rattle.net_model.specs.Best.{entries_of};
-ghost use Rattle.net_model.specs.Tables.{IsListed, Settles, SettlesIn, entries_from, first_at, first_on, stands_on, table_at};
+ghost use Rattle.net_model.specs.Entries.{IsEntryAs};
+ghost use Rattle.net_model.specs.Rules.{IsNetwork};
+ghost use Rattle.net_model.specs.Tables.{AreTablesBefore, IsListed, Settles, SettlesIn, entries_from, first_at, first_on, stands_on, table_at, unless_route};
 
 use crate::net::{EntryId, Hit};
 use crate::parts::NetParts;
@@ -135,7 +137,7 @@ fn first_of<X: Listed>(items: &[X], hidden: &Hidden, at: &TableEntry) -> Option<
 /// The first entry that is shown in an entry's table on its prefix: a SID, the node's address or a
 /// route.
 #[tactic(auto, using(crate::proofs::JudgingLemmas::few_bound))]
-pub(crate) fn first_shown(parts: &NetParts, hidden: &Hidden, at: &TableEntry) -> Option<Hit>
+fn first_shown(parts: &NetParts, hidden: &Hidden, at: &TableEntry) -> Option<Hit>
     requires { InRange (network_of parts.now) }
     ensures { result ≡ first_on at.now.prefix (entries_of (network_with parts.now hidden.now)
         at.now.node at.now.table at.now.family) }
@@ -147,6 +149,63 @@ pub(crate) fn first_shown(parts: &NetParts, hidden: &Hidden, at: &TableEntry) ->
         return Some(hit);
     }
     first_of(parts.routes.as_slice(), hidden, at)
+}
+
+/// What stands on an entry's prefix in its table.
+fn hit_on(tables: &Tables, e: &TableEntry) -> Option<Hit>
+    ensures { result ≡ value_at (table_at tables.now e.now.node e.now.table e.now.family)
+        e.now.prefix }
+{
+    match tables.get(&table_key(e.node, e.table, e.family)) {
+        None => None,
+        Some(table) => table.get(&e.prefix),
+    }
+}
+
+/// A hit that isn't a route's.
+fn unless_route(hit: Option<Hit>) -> Option<Hit>
+    ensures { result ≡ unless_route hit }
+{
+    match hit {
+        None => None,
+        Some(Hit::Sid(n)) => Some(Hit::Sid(n)),
+        Some(Hit::Address) => Some(Hit::Address),
+        Some(Hit::Route(_)) => None,
+        Some(Hit::Nothing) => Some(Hit::Nothing),
+    }
+}
+
+/// What stands first on an entry's prefix, once its flag was set or cleared, while the tables are
+/// still those from before. No other route of its table has a route's prefix, so for a route that
+/// table is enough: a SID or an address that stands there stays, and else it is the route, where it
+/// is shown. A SID's prefix can be that of other entries, so for a SID they are looked over.
+pub(crate) fn first_after(
+    parts: &NetParts,
+    hidden: &Hidden,
+    tables: &Tables,
+    e: &TableEntry,
+) -> Option<Hit>
+    requires rules { IsNetwork (network_of parts.now) }
+    requires range { InRange (network_of parts.now) }
+    requires listed { IsEntryAs (network_of parts.now) e.now.node e.now.table e.now.family
+        e.now.prefix e.now.hit }
+    requires tables { AreTablesBefore (network_with parts.now hidden.now) e.now.hit tables.now }
+    ensures { result ≡ first_on e.now.prefix (entries_of (network_with parts.now hidden.now)
+        e.now.node e.now.table e.now.family) }
+{
+    match e.hit {
+        Hit::Route(_) => match unless_route(hit_on(tables, e)) {
+            Some(hit) => Some(hit),
+            None => {
+                if is_shown(hidden, e.hit) {
+                    Some(e.hit)
+                } else {
+                    None
+                }
+            }
+        },
+        Hit::Sid(_) | Hit::Address | Hit::Nothing => first_shown(parts, hidden, e),
+    }
 }
 
 /// A prefix that is in a table gets another hit, or goes. It takes no memory.

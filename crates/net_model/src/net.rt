@@ -1,7 +1,7 @@
 //! The network that keeps the rules, and the look-up of an address.
 
 use crate::hidden::{
-    Hidden, entry_of, first_shown, hidden_of, hides_nothing, is_shown, mark, none_hidden, place,
+    Hidden, entry_of, first_after, hidden_of, hides_nothing, is_shown, mark, none_hidden, place,
     settle,
 };
 use crate::judge_parts::judge_parts;
@@ -115,7 +115,7 @@ impl Net {
 
     /// The network with these parts and with some of its routes and SIDs hidden, or the first fault
     /// of the parts, which doesn't look at what is hidden, as `build` has it (own rules). Hiding
-    /// them one by one in a network that was built would look over all entries for each.
+    /// SIDs one by one in a network that was built would look over all entries for each.
     pub fn build_without(
         alloc: Global,
         parts: NetParts,
@@ -149,7 +149,7 @@ impl Net {
     {
         let e = entry_of(&self.parts, entry);
         mark(&self.parts, &mut self.hidden, entry, true);
-        let first = first_shown(&self.parts, &self.hidden, &e);
+        let first = first_after(&self.parts, &self.hidden, &self.tables, &e);
         settle(&mut self.tables, &e, first);
     }
 
@@ -163,7 +163,7 @@ impl Net {
     {
         let e = entry_of(&self.parts, entry);
         mark(&self.parts, &mut self.hidden, entry, false);
-        let first = first_shown(&self.parts, &self.hidden, &e).unwrap_or(e.hit);
+        let first = first_after(&self.parts, &self.hidden, &self.tables, &e).unwrap_or(e.hit);
         match place(alloc, &mut self.tables, &e, first) {
             Ok(()) => Ok(()),
             Err(fault) => {

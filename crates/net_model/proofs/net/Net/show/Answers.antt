@@ -1,8 +1,9 @@
 use Rattle.std.proofs.Common.{◌≡◌, Some, true, false, sym, ◌∙◌, subst}
 use Rattle.std.specs.Prelude.{IsSome}
-use Rattle.net_model.specs.Network.{Network, network_with, is_shown, hit_of_entry, CanHide, IsEdited}
+use Rattle.net_model.specs.Network.{Network, network_of, network_with, is_shown, hit_of_entry, CanHide, IsEdited}
 use Rattle.net_model.specs.Tables.{AreTables}
 use Rattle.net_model.proofs.HiddenLemmas.{can_hide_of, marked_there, marked_others, marked_flags, edited_by, marked_back}
+use Rattle.net_model.proofs.FirstLemmas.{entry_listed, tables_before}
 use Rattle.net_model.proofs.SettleLemmas.{tables_settled, listed_first, some_unwrapped, unchanged_tables}
 use Rattle.net_model.proofs.net.Net.show.Goals as goal
 
@@ -19,8 +20,23 @@ mark-requires-clause-there c =
 pub mark-requires-clause-flags : goal.mark-requires-clause-flags
 mark-requires-clause-flags c = c.self.invariant.flags
 
-pub first_shown-requires : goal.first_shown-requires
-first_shown-requires c = c.self.invariant.range
+pub first_after-requires-clause-rules : goal.first_after-requires-clause-rules
+first_after-requires-clause-rules c = c.self.invariant.rules
+
+pub first_after-requires-clause-range : goal.first_after-requires-clause-range
+first_after-requires-clause-range c = c.self.invariant.range
+
+pub first_after-requires-clause-listed : goal.first_after-requires-clause-listed
+first_after-requires-clause-listed c =
+    entry_listed (network_of c.self.inside.parts) c.args.entry c.entry_of-e.result c.entry_of-e.ensures
+
+pub first_after-requires-clause-tables : goal.first_after-requires-clause-tables
+first_after-requires-clause-tables c =
+    let parts = c.self.inside.parts in
+    let old = c.self.inside.hidden in
+    let new = c.mark.new.hidden in
+    tables_before parts old new c.args.entry c.entry_of-e.result c.self.inside.tables c.entry_of-e.ensures
+    (marked_others parts old new false c.args.entry c.mark.ensures) c.self.invariant.tables
 
 pub invariant_of-self : goal.invariant_of-self
 invariant_of-self c =
@@ -38,8 +54,8 @@ invariant_of-self c =
       flags = marked_flags parts old new false entry c.self.invariant.flags c.mark.ensures;
       tables = tables_settled parts old new entry e c.entry_of-e.ensures (marked_others parts old new false entry c.mark.ensures)
           (Some c.unwrap_or-first.result) c.self.inside.tables c.place.new.tables
-          (some_unwrapped c.first_shown.result c.unwrap_or-first.result e.hit
-          (subst (λ o. IsSome o) (sym c.first_shown.ensures) there) c.unwrap_or-first.ensures ∙ c.first_shown.ensures)
+          (some_unwrapped c.first_after.result c.unwrap_or-first.result e.hit
+          (subst (λ o. IsSome o) (sym c.first_after.ensures) there) c.unwrap_or-first.ensures ∙ c.first_after.ensures)
           c.self.invariant.tables c.in-Ok.ensures.ok;
     }
 
