@@ -49,6 +49,9 @@ first_among q (e ∷ es) h is =
 
 -- ---- a route among the entries of a table
 
+abbrev IsNoRoute : Entry → Type 0
+IsNoRoute e = unless_route (Some e.hit) ≡ Some e.hit
+
 module _ (net : Network) (node table : ℕ) (family : Family) where
   -- the entries before the routes
   abbrev before_routes : List Entry
@@ -66,22 +69,22 @@ module _ (net : Network) (node table : ℕ) (family : Family) where
       ]
 
   -- none of those before the routes is a route
-  no_route : (x : Entry) → Contains before_routes x → unless_route (Some x.hit) ≡ Some x.hit
+  no_route : (x : Entry) → Contains before_routes x → IsNoRoute x
   no_route x c =
       elim (cases_Bool (has_sids table family)) [
         | inl first ↦ elim (Contains-append_cases (sid_entries node 0 net.sids) (address_entries (slice_get net.nodes node)) x
             (rw first at c)) [
-              | inl sid ↦ let (i, s, at, of, is) = sid_means node 0 net.sids x sid in subst (λ (e : Entry). unless_route (Some e.hit) ≡ Some e.hit) (sym is) refl
+              | inl sid ↦ let (i, s, at, of, is) = sid_means node 0 net.sids x sid in subst IsNoRoute (sym is) refl
               | inr own ↦ of_address (slice_get net.nodes node) own
             ]
         | inr other ↦ absurd (contains_none x (rw other at c))
       ]
     where
-      of_address : (o : Option Node) → Contains (address_entries o) x → unless_route (Some x.hit) ≡ Some x.hit
+      of_address : (o : Option Node) → Contains (address_entries o) x → IsNoRoute x
       of_address None own = absurd (contains_none x own)
       of_address (Some m) own =
           elim (contains_cases (record { hit = hits.Address; prefix = record { value = m.address.value; len = 128 } }) [] x own) [
-            | inl is ↦ subst (λ (e : Entry). unless_route (Some e.hit) ≡ Some e.hit) is refl
+            | inl is ↦ subst IsNoRoute is refl
             | inr none ↦ absurd (contains_none x none)
           ]
 

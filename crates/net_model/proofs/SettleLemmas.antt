@@ -11,8 +11,8 @@ use Rattle.std.proofs.lemmas.Bool.{cases_Bool, both_ways, and_parts, and_from, e
 use Rattle.std.proofs.lemmas.List.{drop_more, drop_all}
 use Rattle.std.proofs.lemmas.Option.{none-some, same_Some}
 use Rattle.v6_addr.specs.Address.{PrefixValue}
-use Rattle.prefix_table.specs.Table.{HasPrefix, is_one_prefix, value_at, without, with_value}
-use Rattle.prefix_table.proofs.PublicLaws.{one_from, one_to, there_tells, value_pushed, value_without, value_with}
+use Rattle.prefix_table.specs.Table.{HasPrefix, is_one_prefix, value_at, with_value}
+use Rattle.prefix_table.proofs.PublicLaws.{one_from, one_to, there_tells, value_pushed, value_with}
 use Rattle.srv6_rules.specs.declared.family.Family.{Family}
 use Rattle.srv6_rules.specs.declared.sid.SidEntry.{SidEntry}
 use Rattle.net_model.specs.declared.parts.NetParts.{NetParts}
@@ -36,9 +36,6 @@ use Rattle.net_model.proofs.ListedLemmas.{all_at}
 
 pub settles_with : (t : HitTable) (p : PrefixValue) (h : Hit) → HasPrefix t p → SettlesIn p (Some h) t (with_value t p h)
 settles_with t p h has q = value_with t p q h has
-
-pub settles_without : (t : HitTable) (p : PrefixValue) → SettlesIn p None t (without t p)
-settles_without t p q = value_without t p q
 
 pub settles_pushed : (t : HitTable) (p : PrefixValue) (h : Hit) → ¬ HasPrefix t p → SettlesIn p (Some h) t (t ++ (p, h) ∷ [])
 settles_pushed t p h new q = value_pushed t p q h new

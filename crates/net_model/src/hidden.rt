@@ -218,7 +218,7 @@ fn settle_in(table: &mut Table<Hit>, p: &Prefix, hit: Option<Hit>)
             table.replace(p, hit);
         }
         None => {
-            table.remove(p);
+            table.swap_remove(p);
         }
     }
 }

@@ -1,7 +1,7 @@
 use Rattle.std.proofs.Common.{sym, subst}
-use Rattle.prefix_table.specs.Table.{without, with_value}
+use Rattle.prefix_table.specs.Table.{with_value}
 use Rattle.net_model.specs.Tables.{HitTable, SettlesIn}
-use Rattle.net_model.proofs.SettleLemmas.{settles_with, settles_without}
+use Rattle.net_model.proofs.SettleLemmas.{settles_with}
 use Rattle.net_model.proofs.hidden.settle_in.Goals as goal
 
 pub returns-in-Some : goal.returns-in-Some
@@ -12,6 +12,4 @@ returns-in-Some c =
 
 pub returns-in-None : goal.returns-in-None
 returns-in-None c =
-    subst (λ (t : HitTable). SettlesIn c.args.p.now c.args.hit c.args.table.now t) (sym c.remove.ensures.others)
-    (subst (λ o. SettlesIn c.args.p.now o c.args.table.now (without c.args.table.now c.args.p.now)) (sym c.in-None.is)
-    (settles_without c.args.table.now c.args.p.now))
+    subst (λ o. SettlesIn c.args.p.now o c.args.table.now c.swap_remove.new.self) (sym c.in-None.is) c.swap_remove.ensures.others
