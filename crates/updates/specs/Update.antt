@@ -3,8 +3,7 @@
 -- were removed.
 use Rattle.std.specs.Prelude.{◌≡◌, ℕ, ◌+◌, ◌<◌, ◌^◌, true, false, List, [], ◌∷◌, map, length, Result, Ok, Err}
 use Rattle.net_model.specs.declared.net.EntryId.{EntryId}
-use Rattle.net_model.specs.declared.net.Hit.{Hit}
-use Rattle.net_model.specs.Network.{CanHide, IsEdited, Network, hit_of_entry, is_shown}
+use Rattle.net_model.specs.Network.{CanHide, HidesThese, IsEdited, Network, hit_of_entry, is_shown}
 use Rattle.packet_walk.specs.Flight.{ArePlaced}
 use Rattle.update_rules.specs.Joined.{joined_of}
 use Rattle.update_rules.specs.Changes.{added_entries, removed_entries}
@@ -53,7 +52,7 @@ AreHideable net (entry ∷ entries) =
 
 -- what is shown of a network is what is shown without some entries
 abbrev pub ShowsWithout : Network → List EntryId → Type 0
-ShowsWithout net entries = (h : Hit) → is_shown net.hidden h ≡ is_shown (map hit_of_entry entries) h
+ShowsWithout net entries = HidesThese net.hidden entries
 
 -- what is so of each plan: its network shows all but what is added, and its tables pass from one description to the other
 pub record IsPlan (net : Network) (added removed : List EntryId) : Type 0 where
