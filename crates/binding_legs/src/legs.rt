@@ -175,8 +175,7 @@ impl<'a> Legs for BindingLegs<'a> {
 }
 
 impl<'a> ListLegs for BindingLegs<'a> {
-    ghost use Rattle.own_hands.specs.Realizes.{OwnListRealizes, OwnListExecutes};
-    ghost use Rattle.binding_meanings.specs.Hands.{OwnListHands};
+    ghost use Rattle.binding_meanings.specs.Hands.{OwnListExecutes, OwnListHands, OwnListRealizes};
 
     ghost network = { λ t. t.net };
 

@@ -24,7 +24,7 @@ use Rattle.leg_table.specs.Sids.{is_sid_at, node_at}
 use Rattle.leg_table.specs.Trace.{Event}
 use Rattle.leg_table.proofs.RideFacts.{StartFacts, start_from, sid-at, stand_after-append}
 use Rattle.leg_table.proofs.Arrivals.{drop-drop}
-use Rattle.own_hands.specs.OwnHands.{most_stages}
+use Rattle.deep_choices.specs.Hands.{most_stages}
 use Rattle.deep_walks.specs.Moves.{End, Got, left_by, got_after, end_with}
 use Rattle.deep_walks.specs.Choices.{EndsWith}
 use Rattle.deep_walks.specs.Deep.{Deep, Bared, Met, open_at, pushed_at, met_move, met_bottom, tunnel_of, AreJoined}

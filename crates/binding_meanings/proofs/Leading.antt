@@ -16,7 +16,7 @@ use Rattle.leg_table.proofs.RideFacts.{intent-stands}
 use Rattle.leg_table.specs.Ride.{Ride}
 use Rattle.leg_table.specs.Ride as rides
 use Rattle.leg_table.specs.Trace.{Event, executed}
-use Rattle.own_hands.specs.OwnHands.{most_stages}
+use Rattle.deep_choices.specs.Hands.{most_stages}
 use Rattle.deep_walks.specs.Moves.{Done, End, left_by, end_with, end_of}
 use Rattle.deep_walks.specs.Choices.{EndsWith}
 use Rattle.deep_walks.specs.Deep.{Deep, Look, Met, open_at, met_by, met_move, AreJoined, IsJoined}

@@ -13,7 +13,7 @@ use Rattle.intent_reader.specs.declared.intent.Step.{Step}
 use Rattle.leg_table.specs.Trace.{Event, Handed}
 use Rattle.leg_table.specs.Tasks.{matches, is_done}
 use Rattle.leg_table.proofs.PublicLaws.{matches-by}
-use Rattle.own_hands.specs.OwnHands.{most_stages}
+use Rattle.deep_choices.specs.Hands.{most_stages}
 use Rattle.deep_walks.specs.Moves.{Got, advance, left_by, got_of}
 use Rattle.deep_walks.specs.Deep.{World, Deep, Bared, open_at, pushed_at, own_move, met_move}
 use Rattle.deep_walks.proofs.PublicLaws.{then_parts, map_parts, map_from}

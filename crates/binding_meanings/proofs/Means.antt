@@ -29,9 +29,8 @@ use Rattle.leg_table.proofs.ListShapes.{suits-by, there}
 use Rattle.leg_table.proofs.Shapes.{sid-shape}
 use Rattle.leg_table.proofs.Stays.{stays-follow}
 use Rattle.leg_table.proofs.Meanings as means
-use Rattle.own_hands.specs.Small.{IsSmall, KeepsTo}
-use Rattle.own_hands.proofs.PublicLaws.{small-keeps}
-use Rattle.own_hands.specs.Realizes.{OwnHandsOver, OwnListRealizes, OwnListExecutes}
+use Rattle.deep_choices.proofs.PublicLaws.{small-keeps}
+use Rattle.deep_choices.specs.Hands.{IsSmall, KeepsTo, OwnHandsOver, OwnListExecutes, OwnListRealizes}
 use Rattle.deep_walks.specs.Moves.{left_by}
 use Rattle.deep_walks.specs.Deep.{own_move}
 use Rattle.deep_walks.proofs.PublicLaws.{rows-agree}

@@ -5,7 +5,8 @@ use Rattle.net_model.specs.Network.{Network}
 use Rattle.intent_reader.specs.declared.intent.Intent.{Intent}
 use Rattle.list_pack.specs.declared.types.Container.{Container}
 use Rattle.list_pack.specs.SidLists.{list_values}
-use Rattle.own_hands.specs.Realizes.{AlwaysHands, OwnHandsOver}
+use Rattle.deep_choices.specs.Hands.{AlwaysHands, OwnHandsOver}
+pub use Rattle.deep_choices.specs.Hands.{OwnListExecutes, OwnListRealizes}
 
 -- one inner packet at one outer hop limit above 0, for every list of choices
 pub record OwnHandsSome (net : Network) (intent : Intent) (segments : List ℕ) (hop : ℕ) : Type 0 where

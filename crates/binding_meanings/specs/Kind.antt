@@ -15,7 +15,7 @@ use Rattle.leg_table.specs.Realizes.{headend_place}
 use Rattle.leg_table.specs.Value.{no_mark, strict_kept}
 use Rattle.leg_table.specs.Trace.{Handed}
 use Rattle.deep_stages.specs.Walks.{deep_walk}
-use Rattle.own_hands.specs.OwnHands.{handed_own}
+use Rattle.deep_choices.specs.Hands.{handed_own}
 use Rattle.deep_walks.specs.Deep.{Deep, open_at, pushed_at}
 use Rattle.binding_starts.specs.Value.{binding_legs_value}
 

@@ -15,7 +15,7 @@ use Rattle.leg_table.specs.Leg.{place_behind}
 use Rattle.leg_table.specs.Realizes.{headend_place}
 use Rattle.leg_table.specs.Ride.{Ride, ride_of}
 use Rattle.leg_table.specs.Sids.{is_sid_at, sid_address}
-use Rattle.own_hands.specs.OwnHands.{most_stages}
+use Rattle.deep_choices.specs.Hands.{most_stages}
 use Rattle.deep_walks.specs.Moves.{End}
 use Rattle.deep_walks.specs.Deep.{tunnel_of}
 use Rattle.deep_choices.specs.Look.{world}

@@ -7,3 +7,4 @@ pub use Rattle.deep_choices.proofs.Starts.{policy-head, tunnel-starts}
 pub use Rattle.deep_choices.proofs.Forms.{look-shows, network-forms, hands-need}
 pub use Rattle.deep_choices.proofs.Intents.{own-path, own-sids}
 pub use Rattle.deep_choices.proofs.Meetings.{leg-meets, leg-met, ride-meets, ride-met}
+pub use Rattle.own_hands.proofs.PublicLaws.{small-keeps}

@@ -5,3 +5,4 @@ pub mod Starts
 pub mod Kinds
 pub mod Paths
 pub mod Meets
+pub mod Hands

@@ -11,7 +11,7 @@ use Rattle.intent_reader.specs.Rules.{first_end}
 use Rattle.intent_reader.specs.declared.intent.Step.{Step}
 use Rattle.leg_table.specs.Ride.{all_in_step}
 use Rattle.leg_table.specs.Trace.{Event}
-use Rattle.own_hands.specs.OwnHands.{most_stages}
+use Rattle.deep_choices.specs.Hands.{most_stages}
 use Rattle.deep_walks.specs.Moves.{Move, End, end_of, end_with}
 use Rattle.deep_walks.specs.Deep.{Inside, World, inside_by, inside_move}
 use Rattle.deep_choices.specs.Look.{look_by, step_events, world}

@@ -5,7 +5,7 @@ ghost use Rattle.std.specs.Option.{option_map};
 ghost use Rattle.walk_rules.specs.Relation.{IsPlace};
 ghost use Rattle.intent_reader.specs.Rules.{IsIntent};
 ghost use Rattle.leg_table.specs.Sids.{is_sid_at};
-ghost use Rattle.own_hands.specs.OwnHands.{most_stages};
+ghost use Rattle.deep_choices.specs.Hands.{most_stages};
 ghost use Rattle.binding_starts.specs.Starts as starts;
 ghost use Rattle.header_walks.specs.Walks.{end_at, inside_end, inside_of};
 

@@ -17,8 +17,7 @@ use Rattle.list_certificate.specs.Reading.{IsNetworkOf}
 use Rattle.leg_table.proofs.FlatNets.{flat-facts}
 use Rattle.leg_table.proofs.PublicLaws.{strict-laws}
 use Rattle.binding_legs.proofs.PublicLaws.{binding-laws, binding-means}
-use Rattle.loose_laws.proofs.LegLaws.{loose-laws}
-use Rattle.loose_lists.proofs.PublicLaws.{loose-means}
+use Rattle.loose_legs.proofs.PublicLaws.{loose-laws, loose-means}
 use Rattle.loose_legs.specs.Steps.{trace_steps}
 use Rattle.loose_legs.proofs.StepLaws.{are-steps}
 use Rattle.path_compiler.specs.declared.compiled.Compiled.{Compiled}

@@ -13,7 +13,7 @@ use Rattle.step_traces.specs.Traces as traces
 use Rattle.loose_ways.specs.Stops.{ends_in}
 use Rattle.leg_table.specs.Tasks.{matches, meets}
 use Rattle.leg_table.specs.Trace.{Crossed, Event, Executed}
-use Rattle.loose_lists.specs.Executions.{trace_event}
+use Rattle.loose_legs.specs.Legs.{trace_event}
 use Rattle.loose_legs.specs.Steps.{trace_step}
 use Rattle.intent_legs.specs.Kinds.{ReachesNothing}
 use Rattle.intent_legs.specs.Steps.{IsOfSteps, KeepsIf, KeepsToSteps, MayCross, OnCrossed}

@@ -7,8 +7,7 @@ use Rattle.list_pack.specs.declared.types.Container.{Container}
 use Rattle.list_certificate.specs.declared.types.Verdict.{Verdict}
 use Rattle.own_hands.specs.Realizes.{OwnListExecutes, OwnListRealizes}
 use Rattle.binding_legs.specs.Legs.{OwnListHands, binding_legs_value}
-use Rattle.loose_laws.specs.Value.{loose_legs_value}
-use Rattle.loose_lists.specs.Realizes.{LooseListExecutes, LooseListHands, LooseListRealizes}
+use Rattle.loose_legs.specs.Legs.{LooseListExecutes, LooseListHands, LooseListRealizes, loose_legs_value}
 use Rattle.loose_legs.specs.Steps.{trace_steps}
 use Rattle.path_compiler.specs.declared.compiled.Compiled.{Compiled}
 use Rattle.path_compiler.specs.declared.compiled.CompileFault.{CompileFault}

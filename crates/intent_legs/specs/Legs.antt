@@ -9,8 +9,7 @@ use Rattle.list_pack.specs.declared.types.Container.{Container}
 use Rattle.list_pack.specs.Value.{LegsValue}
 use Rattle.own_hands.specs.Realizes.{OwnListExecutes, OwnListRealizes}
 use Rattle.binding_legs.specs.Legs.{OwnListHands, binding_legs_value}
-use Rattle.loose_laws.specs.Value.{loose_legs_value}
-use Rattle.loose_lists.specs.Realizes.{LooseListExecutes, LooseListHands, LooseListRealizes}
+use Rattle.loose_legs.specs.Legs.{LooseListExecutes, LooseListHands, LooseListRealizes, loose_legs_value}
 use Rattle.loose_legs.specs.Steps.{trace_steps}
 
 -- ---- by whether a step is to reach a node

@@ -5,7 +5,7 @@ use Rattle.net_model.specs.Network.{Network}
 use Rattle.intent_reader.specs.declared.intent.Intent.{Intent}
 use Rattle.intent_reader.specs.Rules.{has_reach}
 use Rattle.own_hands.specs.Small.{IsSmall}
-pub use Rattle.loose_lists.specs.Small.{AllFit, LooseIsSmall}
+pub use Rattle.loose_legs.specs.Legs.{AllFit, LooseIsSmall}
 
 abbrev pub IsSmallIf : Bool → Network → Intent → List ℕ → Content → ℕ → Type 0
 IsSmallIf true net intent = LooseIsSmall net intent

@@ -9,7 +9,7 @@ use Rattle.step_traces.specs.Traces.{Matches}
 use Rattle.loose_ways.specs.Stops.{ends_in}
 use Rattle.leg_table.specs.Tasks.{has_link, matches}
 use Rattle.leg_table.specs.Trace.{Crossed, Event, Executed}
-use Rattle.loose_lists.specs.Executions.{trace_event}
+use Rattle.loose_legs.specs.Legs.{trace_event}
 pub use Rattle.loose_legs.specs.Steps.{trace_steps}
 
 abbrev pub KeepsIf : Bool → Network → Intent → List Event → Type 0

@@ -14,6 +14,7 @@ use Rattle.loose_meanings.specs.Steps.{AreSteps}
 use Rattle.loose_kinds.specs.Kind.{loose_kind}
 use Rattle.loose_kinds.specs.Longest.{Longest}
 use Rattle.loose_kinds.proofs.PublicLaws.{loose-finish_over, loose-leg_over, some-longest}
+pub use Rattle.loose_kinds.proofs.PublicLaws.{loose-kind_laws}
 use Rattle.loose_leg_laws.proofs.Down.{leg-down}
 use Rattle.loose_leg_laws.proofs.First.{Setting}
 use Rattle.loose_leg_laws.proofs.LongestWays.{are-tight}

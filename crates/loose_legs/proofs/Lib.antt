@@ -1,3 +1,4 @@
 pub mod Positions
 pub mod StepLaws
 pub mod OnwardRows
+pub mod PublicLaws

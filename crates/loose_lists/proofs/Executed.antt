@@ -17,7 +17,7 @@ use Rattle.leg_table.specs.Sids.{is_binding, prefix_at}
 use Rattle.leg_table.specs.Table.{node_by, node_of}
 use Rattle.leg_table.specs.Trace.{Crossed, Event, Executed, Handed, behind_stage, through_hand}
 use Rattle.leg_table.proofs.Options.{map-some, some-same, then-some}
-use Rattle.loose_kinds.specs.Kind.{behind_event, behind_execution, hand_first, hand_of, kept_from, left_on, marked}
+use Rattle.loose_leg_laws.specs.Legs.{behind_event, behind_execution, hand_first, hand_of, kept_from, left_on, marked}
 use Rattle.loose_lists.specs.Executions.{Execution, execution_by, executions_from, executions_of, left_by_outcome}
 use Rattle.loose_lists.proofs.Shown.{left-event, marks_from, marks_then}
 

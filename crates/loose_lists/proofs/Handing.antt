@@ -13,7 +13,7 @@ use Rattle.leg_table.specs.OneLeg.{LegKind}
 use Rattle.leg_table.specs.Realizes.{encapsulated_for, headend_place}
 use Rattle.leg_table.specs.Sids.{is_binding, prefix_at}
 use Rattle.leg_table.specs.Trace.{Handed, through_hand}
-use Rattle.loose_kinds.specs.Kind.{hand_of, loose_kind}
+use Rattle.loose_leg_laws.specs.Legs.{hand_of, loose_kind}
 use Rattle.loose_lists.specs.Executions.{Execution, executions_of, trace_event}
 use Rattle.loose_lists.specs.Realizes.{LooseHandsOver, stages_for}
 use Rattle.loose_lists.proofs.Shown.{HandsAs, as_shown, hand-shown, kept-left, left-kept, left_shown, marks_from, shown-hand}

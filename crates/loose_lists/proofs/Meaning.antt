@@ -13,11 +13,8 @@ use Rattle.step_traces.specs.declared.steps.Step.{Step}
 use Rattle.leg_table.specs.Meant.{IsExecuting, IsRealizing}
 use Rattle.leg_table.specs.OneLeg.{KindLaws}
 use Rattle.leg_table.proofs.Meanings.{means-as}
-use Rattle.loose_meanings.specs.Steps.{AreSteps}
-use Rattle.loose_laws.specs.Value.{loose_legs_value}
-use Rattle.loose_kinds.specs.Kind.{loose_kind}
-use Rattle.loose_kinds.specs.Longest.{Longest}
-use Rattle.loose_kinds.proofs.PublicLaws.{loose-kind_laws}
+use Rattle.loose_leg_laws.specs.Legs.{AreSteps, Longest, loose_kind, loose_legs_value}
+use Rattle.loose_leg_laws.proofs.PublicLaws.{loose-kind_laws}
 use Rattle.loose_leg_laws.proofs.PublicLaws.{loose-leg_laws}
 use Rattle.loose_lists.specs.Executions.{Execution}
 use Rattle.loose_lists.specs.Realizes.{ExecutesEach, LooseAlwaysHands, LooseListExecutes, LooseListHands, LooseListRealizes, LooseReaches}

@@ -16,7 +16,7 @@ use Rattle.leg_table.specs.Sids.{prefix_at}
 use Rattle.leg_table.proofs.Inners.{some_inner, some_inner-is}
 use Rattle.leg_table.proofs.PathNames.{shapes-prefixes}
 use Rattle.leg_table.proofs.Realizing as any
-use Rattle.loose_kinds.specs.Kind.{loose_kind}
+use Rattle.loose_leg_laws.specs.Legs.{loose_kind}
 use Rattle.loose_lists.specs.Executions.{Execution}
 use Rattle.loose_lists.specs.Realizes.{ExecutesEach, LooseAlwaysHands, LooseListExecutes, LooseListHands, LooseListRealizes, LooseReaches}
 use Rattle.loose_lists.proofs.Executed.{flat, turned-prefixes, unflat}

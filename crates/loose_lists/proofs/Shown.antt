@@ -14,7 +14,7 @@ use Rattle.loose_ways.specs.Stops.{ends_in}
 use Rattle.leg_table.specs.Sids.{is_binding}
 use Rattle.leg_table.specs.Trace.{Crossed, Event, Executed, Handed, after_events, after_execution, executed, handed_first, handed_over, is_titled}
 use Rattle.leg_table.proofs.Options.{map-some, some-same, then-some}
-use Rattle.loose_kinds.specs.Kind.{behind_event, behind_execution, hand_first, hand_of, kept_from, left_on, marked, none_left}
+use Rattle.loose_leg_laws.specs.Legs.{behind_event, behind_execution, hand_first, hand_of, kept_from, left_on, marked, none_left}
 use Rattle.loose_lists.specs.Executions.{trace_event}
 
 some-last : {X : Type 0} (o : Option X) → option_and_then (λ x. Some x) o ≡ o

@@ -24,13 +24,11 @@ use Rattle.leg_table.specs.Reach.{IsStart}
 use Rattle.leg_table.specs.Sids.{is_sid_at, node_at}
 use Rattle.leg_table.proofs.PublicLaws.{are-sids}
 use Rattle.leg_table.proofs.RideFacts.{StartFacts, sid-at, intent-stands, stand_after-append, stand_after-split}
-use Rattle.own_hands.specs.OwnHands.{most_stages}
 use Rattle.deep_walks.specs.Moves.{End}
 use Rattle.deep_walks.specs.Deep.{tunnel_of}
 use Rattle.deep_walks.proofs.PublicLaws.{map_parts, if_parts}
-use Rattle.deep_choices.specs.Look.{world}
-use Rattle.deep_choices.specs.Starts.{StartsBehind}
-use Rattle.deep_choices.proofs.Starts.{tunnel-starts, policy-head}
+use Rattle.binding_starts.specs.Headers.{StartsBehind, most_stages, world}
+use Rattle.binding_starts.proofs.PublicLaws.{policy-head, tunnel-starts}
 use Rattle.list_pack.specs.Value.{IsVia}
 use Rattle.binding_starts.specs.declared.starts.Start.{Start}
 use Rattle.binding_starts.specs.Starts.{binding_start, sid_leads_on, start_after, start_behind, start_onward, start_pushed}
