@@ -1,7 +1,8 @@
 //! Tests of `serve` where the outside fails, is slow or never fails, by files, an input and sinks
 //! in memory; of schedules of two packets; and of the sums of `gen` over any intent. What whole
 //! commands write stands in the rows of the crate `worked_rows`. Here the tests are proved once,
-//! and `srv6_cli` isn't proved again with them.
+//! and `srv6_cli` isn't proved again with them. It is a program, which does nothing, and no library,
+//! since some versions of the gate take a library's sum along each path to the crates below it.
 #![tactic(auto)]
 
 #[cfg(test)]
@@ -16,3 +17,8 @@ mod schedule_tests;
 mod slow_tests;
 #[cfg(test)]
 mod tunnel;
+
+/// Does nothing: the tests are all that there is.
+fn main(rt: HostRuntime) {
+    let _ = rt;
+}
