@@ -1,9 +1,10 @@
 //! What a row gives, beside what must come.
 
 use crate::row::{Row, row_of, text_of};
+use crate::served::served;
 use crate::trouble::Trouble;
-use srv6_cli::{Status, serve};
-use srx_edge::{Files, MemSink, MemSource};
+use srv6_cli::Status;
+use srx_edge::Files;
 use std::alloc::Global;
 
 /// What of a row is another than what must come.
@@ -35,22 +36,17 @@ fn is_number_of(text: &str, status: Status) -> bool {
 /// Runs a row over memory, and compares what comes with what must come.
 fn run(alloc: Global, row: Row) -> Result<Difference, Trouble> {
     let mut row = row;
-    let mut input = MemSource::new(alloc, row.input.as_slice(), &[])?;
-    let mut out = MemSink::new(alloc, &[])?;
-    let mut err = MemSink::new(alloc, &[])?;
-    let status = serve(
+    let came = served(
         alloc,
         row.words.as_slice(),
         &mut row.files,
-        &mut input,
-        &mut out,
-        &mut err,
-    );
+        row.input.as_slice(),
+    )?;
     let wanted = text_of(row.status.as_slice(), "status")?;
     Ok(Difference {
-        out: out.held() != row.out.as_slice(),
-        err: err.held() != row.err.as_slice(),
-        status: !is_number_of(wanted, status),
+        out: came.out.held() != row.out.as_slice(),
+        err: came.err.held() != row.err.as_slice(),
+        status: !is_number_of(wanted, came.status),
     })
 }
 

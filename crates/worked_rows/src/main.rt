@@ -23,6 +23,7 @@
 mod compared;
 mod packets;
 mod row;
+mod served;
 mod trouble;
 
 use compared::{Difference, compare};

@@ -7,9 +7,10 @@
 ghost use Rattle.std.specs.Prelude.{◌<◌, IfSome};
 
 use crate::row::{file_of, text_of};
+use crate::served::served;
 use crate::trouble::Trouble;
-use srv6_cli::{Status, serve};
-use srx_edge::{Files, MemFiles, MemSink, MemSource};
+use srv6_cli::Status;
+use srx_edge::{Files, MemFiles};
 use std::alloc::Global;
 
 /// The file of packets, and the description of their node.
@@ -130,18 +131,8 @@ pub(crate) fn gives(
     }
     let mut files = MemFiles::new(alloc, &[])?;
     files.hold("packets.toml", file.net.as_slice())?;
-    let mut input = MemSource::new(alloc, packet.bytes.as_slice(), &[])?;
-    let mut out = MemSink::new(alloc, &[])?;
-    let mut err = MemSink::new(alloc, &[])?;
-    let status = serve(
-        alloc,
-        words.as_slice(),
-        &mut files,
-        &mut input,
-        &mut out,
-        &mut err,
-    );
+    let came = served(alloc, words.as_slice(), &mut files, packet.bytes.as_slice())?;
     let wanted = packet.wanted;
     let line = format!(in alloc; "packet 1: {wanted}\n")?;
-    Ok(matches!(status, Status::Done) && err.held() == line.as_bytes())
+    Ok(matches!(came.status, Status::Done) && came.err.held() == line.as_bytes())
 }
