@@ -109,13 +109,13 @@ module _ (net : Network) (intent : Intent) (steps : List Step) (tunnel : Tunnel)
   pub always : (position : ℕ) (via : Option ℕ) (p : Packet) (place : Place) → place_from net intent via ≡ Some place
       → (hands : AlwaysHands k via p position) → Always place p (drop position steps) hands.0
   always position via p place is hands pick taken =
-      let row : ℕ → ℕ = λ d. pick (taken + d) in
-      let h = hands.1 row in (
+      let picks : ℕ → ℕ = λ d. pick (taken + d) in
+      let h = hands.1 picks in (
         h.0,
         (
           h.1.0,
-          ap (hand_of net) (sym (walk-same net h.1.0 (Some place) (V6 p) row pick 0 taken (λ d. at d)))
-              ∙ ap (λ (o : Option Place). hand_of net (walk_of h.1.0 net o (V6 p) row 0)) (sym is)
+          ap (hand_of net) (sym (walk-same net h.1.0 (Some place) (V6 p) picks pick 0 taken (λ d. at d)))
+              ∙ ap (λ (o : Option Place). hand_of net (walk_of h.1.0 net o (V6 p) picks 0)) (sym is)
               ∙ h.1.1,
         ),
         h.2,

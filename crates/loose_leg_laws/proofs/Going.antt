@@ -193,12 +193,12 @@ module _ (net : Network) (intent : Intent) (steps : List Step) (tunnel : Tunnel)
               → (l : Handed) × HandsOver k (Some f.sid) r other 0 l × (k.kept done l.trace ≡ Some f.later)
               × All (λ m. k.barred m ≡ false) l.sids
           each other =
-              let row = joined n pick other in
-              let own = o.all row 0 in
-              let at = stop-over net ts o.place p pick 0 a.met.stop a.met.walked row 0 (λ d few. joined-first n pick other d few) own.0
+              let picks = joined n pick other in
+              let own = o.all picks 0 in
+              let at = stop-over net ts o.place p pick 0 a.met.stop a.met.walked picks 0 (λ d few. joined-first n pick other d few) own.0
               own.1 in
-              let go = again-over net a.met.stop.stage.place (place_behind f.sid f.entry) (V6 (packet a)) (V6 r) row (0 + n) at.0 f.sid
-              (onward_from f.sid f.entry.behaviour) ((goes-at pick 0 h a).1 (row (0 + n))) (behind-there pick 0 h a) at.1 in
+              let go = again-over net a.met.stop.stage.place (place_behind f.sid f.entry) (V6 (packet a)) (V6 r) picks (0 + n) at.0 f.sid
+              (onward_from f.sid f.entry.behaviour) ((goes-at pick 0 h a).1 (picks (0 + n))) (behind-there pick 0 h a) at.1 in
               let trace : kept_from net count ts (links ++ (Executed f.sid ∷ go.0.trace)) ≡ Some o.marks
               = ap (λ (g : Handed). kept_from net count ts (links ++ g.trace)) go.2
               ∙ ap (λ (g : Handed). kept_from net count ts g.trace) at.2 ∙ own.2 in
@@ -214,7 +214,7 @@ module _ (net : Network) (intent : Intent) (steps : List Step) (tunnel : Tunnel)
                 (
                   go.1.0,
                   ap (λ (l : Option Place). hand_of net (walk_of go.1.0 net l (V6 r) other 0)) from-sid
-                      ∙ ap (hand_of net) (sym (walk-same net go.1.0 (Some (place_behind f.sid f.entry)) (V6 r) row other (0 + n + 0) 0
+                      ∙ ap (hand_of net) (sym (walk-same net go.1.0 (Some (place_behind f.sid f.entry)) (V6 r) picks other (0 + n + 0) 0
                       (λ d. joined-later n pick other d)))
                       ∙ go.1.1,
                 ),

@@ -79,7 +79,7 @@ module _ (net : Network) (keeps : Keeps net) (facts : FlatFacts net) (intent : I
       → w.found.most ≤ p.hop_limit - 1 → Reached position via next w x p s pick taken
   reached position via next w x hop p s pick taken there same along nests few =
       let st = start-at net keeps intent steps are position via w.place w.start w.from in
-      let row : ℕ → ℕ = λ d. pick (taken + d) in
+      let picks : ℕ → ℕ = λ d. pick (taken + d) in
       let fuel = p.hop_limit + 2 in
       let sid : w.found.answer / 64 ≡ next = w.sid in
       let answer : w.found.answer ≡ next * 64 + w.found.answer % 64 = omega (arith, sid) in
@@ -87,12 +87,12 @@ module _ (net : Network) (keeps : Keeps net) (facts : FlatFacts net) (intent : I
       let c =
       (where-found net steps (length steps - position) w.place p fuel next (w.found.answer % 64) (p.hop_limit - 1 - w.found.most) keeps
       are.few (omega arith) st.is_place st.family (omega arith)).1
-      (w.found, found-there position via next w x hop p s there same along nests, answer, all) row in
+      (w.found, found-there position via next w x hop p s there same along nests, answer, all) picks in
       let back : length steps - (length steps - position) ≡ position = (let l = st.within in omega (arith, l)) in
       let first : first_stop (ends_in net) (drop position steps) (walk_of fuel net (Some w.place) (V6 p) pick taken) ≡ Some c.stop
       = ap (λ (ss : List Stage). first_stop (ends_in net) (drop position steps) ss)
-      (sym (walk-same net fuel (Some w.place) (V6 p) row pick 0 taken (λ d. at d)))
-      ∙ ap (λ (m : ℕ). first_stop (ends_in net) (drop m steps) (walk_of fuel net (Some w.place) (V6 p) row 0)) (sym back)
+      (sym (walk-same net fuel (Some w.place) (V6 p) picks pick 0 taken (λ d. at d)))
+      ∙ ap (λ (m : ℕ). first_stop (ends_in net) (drop m steps) (walk_of fuel net (Some w.place) (V6 p) picks 0)) (sym back)
       ∙ c.first in
       let sw = stop-walk net fuel (drop position steps) w.place p pick taken c.stop first in
       let last = left-further steps (drop position steps) c.stop.left (take position steps, sym (take-append-drop position steps))
