@@ -244,7 +244,8 @@ def block_changed(draw, text, kind, others):
     start, size = draw.choice(starts)
     if draw.random() < 0.1:
         return text[:start] + text[start + size:]
-    at = start + draw.choice((0, 0, 4, 8, 12, 20, size - 4))
+    # A last block may be too short for the later places.
+    at = min(start + draw.choice((0, 0, 4, 8, 12, 20, size - 4)), len(text) - 4)
     old = struct.unpack_from("<I", text, at)[0]
     value = draw.choice((0, 1, 2, 2, 3, 5, 6, 12, 13, 28, 32, old + 1, old + 4, old - 4, 2**32 - 1)) % 2**32
     return text[:at] + struct.pack("<I", value) + text[at + 4:]
