@@ -1,7 +1,7 @@
 //! Want of memory.
 use std::alloc::{AllocError, AllocFailed};
 
-/// Want of memory. (own rule)
+/// Want of memory.
 #[derive(Clone, Copy, Debug, PartialEq, Eq)]
 pub struct NoMemory;
 

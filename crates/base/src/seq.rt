@@ -4,8 +4,7 @@ ghost use Rattle.std.specs.Prelude.{◌≡◌};
 
 use std::marker::Model;
 
-/// A list that contracts see as one. Made from a `Vec` and given back without taking memory. (own
-/// rule)
+/// A list that contracts see as one. Made from a `Vec` and given back without taking memory.
 #[derive(Debug, Drop)]
 pub struct Seq<T> {
     items: Vec<T>,
@@ -20,21 +19,21 @@ impl<T> Model for Seq<T> {
 }
 
 impl<T> Seq<T> {
-    /// The items of a `Vec`, in this order (own rule).
+    /// The items of a `Vec`, in this order.
     pub fn new(items: Vec<T>) -> Seq<T>
         ensures { result ≡ items.items }
     {
         Seq { items }
     }
 
-    /// The items, in order (own rule).
+    /// The items, in order.
     pub fn as_slice(&self) -> &[T]
         ensures { result.now ≡ self.now }
     {
         self.items.as_slice()
     }
 
-    /// The items as a `Vec` (own rule).
+    /// The items as a `Vec`.
     pub fn into_vec(self) -> Vec<T>
         ensures { result.items ≡ self }
     {

@@ -1,4 +1,4 @@
-pub mod Ways
-pub mod StartRows
-pub mod Starts
+pub mod BindingTableWays
+pub mod OriginRows
+pub mod OriginTables
 pub mod PublicLaws

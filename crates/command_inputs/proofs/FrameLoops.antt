@@ -3,13 +3,13 @@ use Rattle.std.proofs.Common.{◌≡◌, List, [], ◌∷◌, ◌++◌, Option, 
 use Rattle.std.specs.List.{flat_map}
 use Rattle.std.proofs.lemmas.Grind.{flat_map-append}
 use Rattle.pcap_io.specs.declared.frame.Frame.{Frame}
-use Rattle.srx_edge.specs.Steps.{Whole, Memory}
+use Rattle.srx_edge.specs.CallSteps.{Whole, Memory}
 use Rattle.command_output.specs.declared.halt.Failure.{Failure}
 use Rattle.command_output.specs.declared.halt.Failure.TheVariants as failures
-use Rattle.command_output.specs.Answers.{ending_of_failure}
-use Rattle.command_inputs.specs.Frames.{FramesSeen, FindsFrame}
-use Rattle.command_output.specs.Gathered.{Goes, Pooled}
-use Rattle.command_output.specs.Pieces.{Piece}
+use Rattle.command_output.specs.CommandAnswers.{ending_of_failure}
+use Rattle.command_inputs.specs.InputFrames.{FramesSeen, FindsFrame}
+use Rattle.command_output.specs.GatheredTerms.{Goes, Pooled}
+use Rattle.command_output.specs.OutputPieces.{Piece}
 use Rattle.command_output.proofs.PublicLaws.{goes_behind, goes_both, goes_kept, goes_longer, goes_nowhere}
 
 -- of the frames that were to come some are done, and the others are still to come
@@ -22,22 +22,22 @@ abbrev pub all_left : (whole : FramesSeen) → FramesLeft whole whole
 all_left whole = record { done = []; frames = refl; end = refl }
 
 module _ (whole old new : FramesSeen) (p : FramesLeft whole old) (h : FindsFrame old new) where
-  pub frames-on : whole.frames ≡ (p.done ++ h.frame ∷ []) ++ new.frames
-  frames-on = p.frames ∙ (ap (λ (fs : List Frame). p.done ++ fs) h.front ∙ sym (append_assoc p.done (h.frame ∷ []) new.frames))
+  pub frames_on : whole.frames ≡ (p.done ++ h.frame ∷ []) ++ new.frames
+  frames_on = p.frames ∙ (ap (λ (fs : List Frame). p.done ++ fs) h.front ∙ sym (append_assoc p.done (h.frame ∷ []) new.frames))
 
   abbrev pub one_done : FramesLeft whole new
-  one_done = record { done = p.done ++ h.frame ∷ []; frames = frames-on; end = h.end ∙ p.end }
+  one_done = record { done = p.done ++ h.frame ∷ []; frames = frames_on; end = h.end ∙ p.end }
 
   -- what all frames give, by those that are done, this one and the others
 
   pub flat_one : {A : Type 0} (f : Frame → List A) → flat_map f (p.done ++ h.frame ∷ []) ≡ flat_map f p.done ++ f h.frame
   flat_one {A} f = flat_map-append f p.done (h.frame ∷ []) ∙ ap (λ (last : List A). flat_map f p.done ++ last) (append-nil (f h.frame))
 
-  flat-each : {A : Type 0} (f : Frame → List A)
+  flat_each : {A : Type 0} (f : Frame → List A)
       → (flat_map f p.done ++ f h.frame) ++ flat_map f new.frames ≡ flat_map f whole.frames
-  flat-each {A} f =
+  flat_each {A} f =
       ap (λ (all : List A). all ++ flat_map f new.frames) (sym (flat_one f))
-      ∙ (sym (flat_map-append f (p.done ++ h.frame ∷ []) new.frames) ∙ ap (λ (fs : List Frame). flat_map f fs) (sym frames-on))
+      ∙ (sym (flat_map-append f (p.done ++ h.frame ∷ []) new.frames) ∙ ap (λ (fs : List Frame). flat_map f fs) (sym frames_on))
 
   -- at hand is the frame that was found
   pub at_hand : (P : Frame → Type 0) → IfSome new.at P → P h.frame
@@ -47,9 +47,9 @@ module _ (whole old new : FramesSeen) (p : FramesLeft whole old) (h : FindsFrame
 pub frames_done : (whole now : FramesSeen) (p : FramesLeft whole now) → now.frames ≡ [] → p.done ≡ whole.frames
 frames_done whole now p none = sym (p.frames ∙ (ap (λ (fs : List Frame). p.done ++ fs) none ∙ append-nil p.done))
 
-flat-left : {A : Type 0} (f : Frame → List A) (whole now : FramesSeen) (p : FramesLeft whole now)
+flat_left : {A : Type 0} (f : Frame → List A) (whole now : FramesSeen) (p : FramesLeft whole now)
     → flat_map f p.done ++ flat_map f now.frames ≡ flat_map f whole.frames
-flat-left f whole now p = sym (flat_map-append f p.done now.frames) ∙ ap (λ (fs : List Frame). flat_map f fs) (sym p.frames)
+flat_left f whole now p = sym (flat_map-append f p.done now.frames) ∙ ap (λ (fs : List Frame). flat_map f fs) (sym p.frames)
 
 -- the pieces of the frames that are done went out or wait, by the pool
 
@@ -73,7 +73,7 @@ module _ (f : Frame → List Piece) (whole old new : FramesSeen) (first mid pool
   pub put_cut : (failure : Failure) → IfSome new.at (λ frame. Goes (ending_of_failure failure) (f frame) mid pool)
       → Goes (ending_of_failure failure) (flat_map f whole.frames) first pool
   put_cut failure wrote = subst (λ (pieces : List Piece). Goes (ending_of_failure failure) pieces first pool)
-      (flat-each whole old new p.left h f)
+      (flat_each whole old new p.left h f)
       (goes_longer failure (flat_map f p.left.done ++ f h.frame) (flat_map f new.frames) first pool
       (goes_behind failure (flat_map f p.left.done) (f h.frame) first mid pool p.went
       (at_hand whole old new p.left h (λ frame. Goes (ending_of_failure failure) (f frame) mid pool) wrote)))
@@ -86,6 +86,6 @@ put_to_the_end f whole now first pool p none =
 pub put_in_part : (f : Frame → List Piece) (whole now : FramesSeen) (first pool : Pooled) → FramesPut f whole now first pool
     → Goes Memory (flat_map f whole.frames) first pool
 put_in_part f whole now first pool p = subst (λ (pieces : List Piece). Goes Memory pieces first pool)
-    (flat-left f whole now p.left)
+    (flat_left f whole now p.left)
     (goes_behind failures.NoMemory (flat_map f p.left.done) (flat_map f now.frames) first pool pool p.went
     (goes_kept (flat_map f now.frames) pool))

@@ -3,17 +3,18 @@ use Rattle.std.proofs.Common.{◌≡◌, ℕ, suc, ◌+◌, ◌-◌, ◌<◌, fa
 use Rattle.pcap_io.specs.declared.fault.CaptureFault.TheVariants.{FrameLimit}
 use Rattle.pcap_io.specs.declared.frame.Frame.{Frame}
 use Rattle.pcap_io.specs.declared.numbers.TheConstants.{MAX_FRAMES}
-use Rattle.pcap_io.specs.Capture.{Reader, IsDone, IsAtLimit, Takes, next_frame}
+use Rattle.pcap_io.specs.CaptureTerms.{Reader, IsDone, IsAtLimit, Takes, next_frame}
 use Rattle.pcap_io.specs.Frames.{Reading, with_front, frames_of}
 use Rattle.pcap_io.specs.declared.pieces.CaptureEnd.{CaptureEnd}
 use Rattle.pcap_io.specs.declared.pieces.CaptureEnd.TheVariants as ends
 use Rattle.pcap_io.specs.declared.pieces.FrameNext.TheVariants as nexts
 use Rattle.pcap_io.specs.Feeding.{EndsWith, GoesOn, PiecesSeen}
-use Rattle.pcap_io.proofs.PublicLaws.{frames_of-zero, frames_of-whole, frames_of-none}
+use Rattle.pcap_io.proofs.PublicLaws.{frames_of_zero, frames_of_whole, frames_of_none}
 use Rattle.command_output.specs.declared.refusal.Refusal.{Refusal}
 use Rattle.command_output.specs.declared.refusal.Refusal.TheVariants as refusals
-use Rattle.command_inputs.specs.Frames.{FindsFrame, seen_at}
-use Rattle.command_inputs.specs.Packets.{fault_behind, refusal_of_capture_end, left_of}
+use Rattle.command_inputs.specs.InputFrames.{FindsFrame, seen_at}
+use Rattle.command_inputs.specs.InputPackets.{fault_behind}
+use Rattle.command_inputs.specs.InputPacketsTerms.{refusal_of_capture_end, left_of}
 
 -- what is after the last frame
 
@@ -27,9 +28,9 @@ fault_cut count number rest some within is =
     let below : (count == MAX_FRAMES) ≡ false = grind (arith, within) in
     rw (more, below, is) refl
 
-pub fault-limit : (count : ℕ) (rest : List ℕ) → 0 < length rest → count ≡ MAX_FRAMES
+pub fault_limit : (count : ℕ) (rest : List ℕ) → 0 < length rest → count ≡ MAX_FRAMES
     → Some (refusals.Capture FrameLimit) ≡ fault_behind count rest
-fault-limit count rest some full =
+fault_limit count rest some full =
     let more : (length rest == 0) ≡ false = search rules in
     rw (more, full) refl
 
@@ -38,34 +39,34 @@ abbrev end_of : ℕ → Reading → Option Refusal
 end_of taken read = fault_behind (taken + length read.frames) read.rest
 
 module _ (old new : Reader) (frame : Frame) (at : Option Frame) (h : Takes old new (Ok (Some frame))) where
-  left-frame : left_of old ≡ with_front (frame ∷ []) (left_of new)
-  left-frame =
+  left_frame : left_of old ≡ with_front (frame ∷ []) (left_of new)
+  left_frame =
       let count : MAX_FRAMES - old.taken ≡ suc (MAX_FRAMES - (old.taken + 1)) = omega (arith, h.0.0) in
       rw (h.1, h.2) (ap (λ (most : ℕ). frames_of old.head most (old.taken + 1) old.rest) count
-      ∙ frames_of-whole old.head (MAX_FRAMES - (old.taken + 1)) (old.taken + 1) old.rest h.0.1)
+      ∙ frames_of_whole old.head (MAX_FRAMES - (old.taken + 1)) (old.taken + 1) old.rest h.0.1)
 
-  one-more : new.taken ≡ old.taken + 1
-  one-more = ap (λ (r : Reader). r.taken) h.2
+  one_more : new.taken ≡ old.taken + 1
+  one_more = ap (λ (r : Reader). r.taken) h.2
 
-  end-same : end_of new.taken (left_of new) ≡ end_of old.taken (left_of old)
-  end-same =
-      let count : new.taken + length (left_of new).frames ≡ old.taken + suc (length (left_of new).frames) = omega (arith, one-more) in
-      ap (λ (n : ℕ). fault_behind n (left_of new).rest) count ∙ sym (ap (end_of old.taken) left-frame)
+  end_same : end_of new.taken (left_of new) ≡ end_of old.taken (left_of old)
+  end_same =
+      let count : new.taken + length (left_of new).frames ≡ old.taken + suc (length (left_of new).frames) = omega (arith, one_more) in
+      ap (λ (n : ℕ). fault_behind n (left_of new).rest) count ∙ sym (ap (end_of old.taken) left_frame)
 
   pub frame_found : FindsFrame (seen_at at old) (seen_at (Some frame) new)
   frame_found = record {
     frame = frame;
     at = refl;
-    front = ap (λ (r : Reading). r.frames) left-frame;
-    end = end-same;
+    front = ap (λ (r : Reading). r.frames) left_frame;
+    end = end_same;
     number = ap (λ (f : Frame). f.number) h.1;
-    taken = one-more;
-    few = omega (arith, one-more, h.0.0);
+    taken = one_more;
+    few = omega (arith, one_more, h.0.0);
   }
 
-nothing-left : (at : Option Frame) (old : Reader) (fault : Option Refusal) → left_of old ≡ record { frames = []; rest = old.rest }
+nothing_left : (at : Option Frame) (old : Reader) (fault : Option Refusal) → left_of old ≡ record { frames = []; rest = old.rest }
     → fault ≡ fault_behind old.taken old.rest → ((seen_at at old).frames ≡ []) × (fault ≡ (seen_at at old).end)
-nothing-left at old fault none is = (
+nothing_left at old fault none is = (
   ap (λ (r : Reading). r.frames) none,
   is ∙ sym (ap (end_of old.taken) none ∙ ap (λ (n : ℕ). fault_behind n old.rest) (add-zero old.taken)),
 )
@@ -73,16 +74,16 @@ nothing-left at old fault none is = (
 pub end_found : (old new : Reader) (at : Option Frame) (fault : Option Refusal) → IsDone old × (new ≡ old)
     → fault ≡ fault_behind new.taken new.rest → ((seen_at at old).frames ≡ []) × (fault ≡ (seen_at at old).end)
 end_found old new at fault h is =
-    nothing-left at old fault (frames_of-none old.head (MAX_FRAMES - old.taken) (old.taken + 1) old.rest h.0.0)
+    nothing_left at old fault (frames_of_none old.head (MAX_FRAMES - old.taken) (old.taken + 1) old.rest h.0.0)
     (is ∙ ap (λ (r : Reader). fault_behind r.taken r.rest) h.1)
 
 pub limit_found : (old : Reader) (at : Option Frame) → IsAtLimit old
     → ((seen_at at old).frames ≡ []) × (Some (refusals.Capture FrameLimit) ≡ (seen_at at old).end)
 limit_found old at limit =
     let none : MAX_FRAMES - old.taken ≡ 0 = omega (arith, limit.0) in
-    nothing-left at old (Some (refusals.Capture FrameLimit))
-    (ap (λ (most : ℕ). frames_of old.head most (old.taken + 1) old.rest) none ∙ frames_of-zero old.head (old.taken + 1) old.rest)
-    (fault-limit old.taken old.rest limit.1 limit.0)
+    nothing_left at old (Some (refusals.Capture FrameLimit))
+    (ap (λ (most : ℕ). frames_of old.head most (old.taken + 1) old.rest) none ∙ frames_of_zero old.head (old.taken + 1) old.rest)
+    (fault_limit old.taken old.rest limit.1 limit.0)
 
 -- ---- a capture that is fed in pieces
 

@@ -1,6 +1,6 @@
 pub mod Certificates
 pub mod ChoiceLemmas
-pub mod Judging
+pub mod InputJudging
 pub mod PublicLaws
 pub mod Tracing
 pub mod FramesFound

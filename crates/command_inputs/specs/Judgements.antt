@@ -1,18 +1,18 @@
--- The judgements of files and words: what each gives, or its refusal (own rule).
+-- The judgements of files and words: what each gives, or its refusal.
 use Rattle.std.specs.Prelude.{ℕ, nat_lt, if◌then◌else◌, List, length, Option, Some, None, Result, Ok, Err, Bool, false, is_ok, [], ◌∷◌}
 use Rattle.text_faults.specs.declared.fault.TextFault.{TextFault}
 use Rattle.net_model.specs.Network.{Network}
 use Rattle.net_model.specs.Named.{node_numbered}
-use Rattle.net_reader.specs.Reading.{net_in}
+use Rattle.net_reader.specs.NetworkReading.{net_in}
 use Rattle.intent_reader.specs.declared.intent.Intent.{Intent}
 use Rattle.intent_reader.specs.declared.fault.IntentFault.{IntentFault}
-use Rattle.intent_reader.specs.Judging.{intent_of_text}
-use Rattle.list_pack.specs.Value.{LegsValue}
-use Rattle.list_certificate.specs.declared.types.Cert.{Cert}
-use Rattle.list_certificate.specs.Reading.{read_of}
-use Rattle.trace_replay.specs.Reading.{bad_line, lines_of}
+use Rattle.intent_reader.specs.IntentJudging.{intent_of_text}
+use Rattle.list_pack.specs.LegsValue.{LegsValue}
+use Rattle.list_certificate.specs.declared.certificate_types.Cert.{Cert}
+use Rattle.list_certificate.specs.CertificateReading.{read_of}
+use Rattle.trace_replay.specs.TraceReading.{bad_line, lines_of}
 use Rattle.net_model.specs.declared.limits.TheConstants.{MAX_TEXT_BYTES}
-use Rattle.command_inputs.specs.declared.judge.BothIntents.{BothIntents}
+use Rattle.command_inputs.specs.declared.file_judge.BothIntents.{BothIntents}
 use Rattle.command_output.specs.declared.refusal.Refusal.{Refusal}
 use Rattle.command_output.specs.declared.refusal.Refusal.TheVariants as refusals
 

@@ -1,5 +1,7 @@
-pub mod Choices
+pub mod ChoiceWords
+pub mod ChoiceWordsTerms
 pub mod Judgements
-pub mod Packets
-pub mod Frames
-pub mod Sources
+pub mod InputPackets
+pub mod InputPacketsTerms
+pub mod InputFrames
+pub mod FrameSources

@@ -2,7 +2,8 @@
 
 ghost use Rattle.std.specs.Prelude.{◌≡◌, ◌==◌, ◌<◌, IfOk, IfSome, length, map};
 ghost use Rattle.std.specs.List.{list_all, slice_split};
-ghost use Rattle.command_inputs.specs.Choices.{choices_after, choices_in, events_in, is_entry, items_of, numbers_up_to, picks_after, picks_seen, picks_with, schedule_in};
+ghost use Rattle.command_inputs.specs.ChoiceWords.{choices_after, choices_in, events_in, is_entry, numbers_up_to, picks_after, picks_with, schedule_in};
+ghost use Rattle.command_inputs.specs.ChoiceWordsTerms.{items_of, picks_seen};
 ghost use Rattle.command_output.specs.Verbs.{words_of};
 
 use crate::limits::{MAX_CHOICES, MAX_SCHEDULE};
@@ -17,7 +18,7 @@ fn parts_of(alloc: Global, text: &str) -> Result<Vec<&str>, AllocError>
     text.split(',').collect(alloc)
 }
 
-/// The numbers that a text gives, if it is 1 to so many of them joined by commas. (own rule)
+/// The numbers that a text gives, if it is 1 to so many of them joined by commas.
 fn numbers_of(alloc: Global, text: &str, most: usize) -> Result<Option<Vec<u32>>, AllocError>
     ensures { IfOk result (λ numbers. items_of numbers ≡ numbers_up_to most text.now) }
 {
@@ -35,7 +36,7 @@ fn numbers_of(alloc: Global, text: &str, most: usize) -> Result<Option<Vec<u32>>
     Ok(Some(numbers))
 }
 
-/// The choices that a text gives, if it is 1 to 4,096 numbers joined by commas. (own rule)
+/// The choices that a text gives, if it is 1 to 4,096 numbers joined by commas.
 pub fn choices_of(alloc: Global, text: &str) -> Result<Option<Vec<u32>>, AllocError>
     ensures { IfOk result (λ choices. items_of choices ≡ choices_in text.now) }
 {
@@ -49,8 +50,7 @@ fn are_entries(numbers: &[u32]) -> bool
     numbers.iter().all(|number| *number != 0)
 }
 
-/// The schedule that a text gives, if it is 1 to 65,536 numbers from 1 on joined by commas. (own
-/// rule)
+/// The schedule that a text gives, if it is 1 to 65,536 numbers from 1 on joined by commas.
 pub fn schedule_of(alloc: Global, text: &str) -> Result<Option<Vec<u32>>, AllocError>
     ensures { IfOk result (λ schedule. items_of schedule ≡ schedule_in text.now) }
 {
@@ -63,8 +63,7 @@ pub fn schedule_of(alloc: Global, text: &str) -> Result<Option<Vec<u32>>, AllocE
     Ok(Some(numbers))
 }
 
-/// The events of an update that a text gives, if it is 1 to 65,536 numbers joined by commas. (own
-/// rule)
+/// The events of an update that a text gives, if it is 1 to 65,536 numbers joined by commas.
 pub fn events_of(alloc: Global, text: &str) -> Result<Option<Vec<u32>>, AllocError>
     ensures { IfOk result (λ events. items_of events ≡ events_in text.now) }
 {
@@ -72,7 +71,7 @@ pub fn events_of(alloc: Global, text: &str) -> Result<Option<Vec<u32>>, AllocErr
 }
 
 /// The choices that may follow the words of a command, if these are the words that follow them:
-/// none, or one of choices. Where there is none, each decision takes its first member. (own rule)
+/// none, or one of choices. Where there is none, each decision takes its first member.
 pub fn choices_of_words(alloc: Global, words: &[String]) -> Result<Option<Vec<u32>>, AllocError>
     ensures spelled { IfOk result (λ choices. items_of choices
         ≡ choices_after (words_of words.now)) }
@@ -86,7 +85,6 @@ pub fn choices_of_words(alloc: Global, words: &[String]) -> Result<Option<Vec<u3
 }
 
 /// The choices that may follow the words of a command, and the schedule that may follow them.
-/// (own rule)
 #[derive(Debug, Drop)]
 pub struct Picks {
     /// The choices that each packet takes, at least one.
@@ -115,7 +113,7 @@ fn picks_of(
 }
 
 /// The choices and the schedule that may follow the words of a command, if these are the words
-/// that follow them: none, one of choices, or one of choices and one of a schedule. (own rule)
+/// that follow them: none, one of choices, or one of choices and one of a schedule.
 pub fn picks_of_words(alloc: Global, words: &[String]) -> Result<Option<Picks>, AllocError>
     ensures spelled { IfOk result (λ picks. picks_seen picks ≡ picks_after (words_of words.now)) }
     ensures some { IfOk result (λ picks. IfSome picks (λ p. 0 < length p.choices.items)) }

@@ -3,10 +3,10 @@
 ghost use Rattle.std.specs.Prelude.{◌≡◌, IfOk, IfSome, OnOk, List};
 ghost use Rattle.std.specs.List.{flat_map};
 ghost use Rattle.pcap_io.specs.declared.frame.Frame.{Frame as FrameValue};
-ghost use Rattle.command_output.specs.Answers.{ending_of_step};
-ghost use Rattle.command_output.specs.Gathered.{Goes, pooled};
-ghost use Rattle.command_output.specs.Pieces.{Piece};
-ghost use Rattle.command_inputs.specs.Frames.{FramesSeen, Finds};
+ghost use Rattle.command_output.specs.CommandAnswers.{ending_of_step};
+ghost use Rattle.command_output.specs.GatheredTerms.{Goes, pooled};
+ghost use Rattle.command_output.specs.OutputPieces.{Piece};
+ghost use Rattle.command_inputs.specs.InputFrames.{FramesSeen, Finds};
 
 use base::NoMemory;
 use command_output::{Failure, Pool, Refusal};
@@ -14,7 +14,7 @@ use pcap_io::LentFrame;
 use srx_edge::Sink;
 use std::alloc::Global;
 
-/// What `Frames::next` finds. (own rule)
+/// What `Frames::next` finds.
 #[derive(Debug, Drop)]
 pub enum Found {
     /// A frame, which is at hand until the next call.
@@ -24,7 +24,7 @@ pub enum Found {
 }
 
 /// The frames of an input, one by one. What an input begins with, as a capture's head, is judged
-/// before there are any: whoever has frames may write. (own rule)
+/// before there are any: whoever has frames may write.
 pub trait Frames {
     /// What is seen of them: the frame at hand, the frames that will come and how they end, and how
     /// many came.
@@ -40,7 +40,7 @@ pub trait Frames {
         ensures { result ≡ (seen self.now).at };
 }
 
-/// What is written of frames by the pool, frame by frame. (own rule)
+/// What is written of frames by the pool, frame by frame.
 pub trait Puts {
     /// What holds of those that may be asked.
     ghost ready: { Self → Type 0 };
@@ -90,7 +90,7 @@ fn put_at_hand<N: Frames, P: Puts, O: Sink, E: Sink>(
 }
 
 /// Writes what is to be written of all frames that will come, one after the other, by the pool, and
-/// gives the refusal of what is after the last, if anything is. (own rule)
+/// gives the refusal of what is after the last, if anything is.
 #[tactic(auto, using(crate::proofs::FrameLoops::put_to_the_end))]
 pub fn put_frames<N: Frames, P: Puts, O: Sink, E: Sink>(
     alloc: Global,

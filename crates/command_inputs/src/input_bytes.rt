@@ -5,7 +5,7 @@ ghost use Rattle.std.specs.Prelude.{◌≡◌};
 use std::alloc::Global;
 use std::marker::Model;
 
-/// All bytes of a capture, seen as the list of them. (own rule)
+/// All bytes of a capture, seen as the list of them.
 #[derive(Debug, Drop)]
 pub struct InputBytes {
     bytes: Vec<u8>,
@@ -20,21 +20,21 @@ impl Model for InputBytes {
 }
 
 impl InputBytes {
-    /// The input of these bytes. (own rule)
+    /// The input of these bytes.
     pub(crate) fn new(bytes: Vec<u8>) -> InputBytes
         ensures { result ≡ bytes.items }
     {
         InputBytes { bytes }
     }
 
-    /// The bytes, in order. (own rule)
+    /// The bytes, in order.
     pub(crate) fn as_slice(&self) -> &[u8]
         ensures { result.now ≡ self.now }
     {
         self.bytes.as_slice()
     }
 
-    /// Where memory comes from: as the bytes did. (own rule)
+    /// Where memory comes from: as the bytes did.
     pub(crate) fn alloc(&self) -> Global {
         *self.bytes.allocator()
     }

@@ -1,22 +1,23 @@
 //! Where the frames of an input come from: a bare packet, a capture, or a pcapng file.
 
 ghost use Rattle.std.specs.Prelude.{◌≡◌, ◌≤◌, false, length, drop, None};
-ghost use Rattle.pcap_io.specs.Lending.{body_lent};
+ghost use Rattle.pcap_io.specs.FrameLending.{body_lent};
 ghost use Rattle.pcapng_io.specs.declared.numbers.TheConstants.{MAX_INPUT};
-ghost use Rattle.pcapng_io.specs.Reading.{ng_capture_of};
-ghost use Rattle.pcapng_io.specs.Pieces.{all_of};
-ghost use Rattle.command_inputs.specs.Frames.{all_frames, bare_by, ng_seen_at, seen_at};
-ghost use Rattle.command_inputs.specs.Packets.{HasHead, reading_of};
-ghost use Rattle.command_inputs.specs.Sources.{bare_seen, capture_seen, ng_seen, packets_seen};
+ghost use Rattle.pcapng_io.specs.NgReading.{ng_capture_of};
+ghost use Rattle.pcapng_io.specs.NgPieces.{all_of};
+ghost use Rattle.command_inputs.specs.InputFrames.{all_frames, bare_by, ng_seen_at, seen_at};
+ghost use Rattle.command_inputs.specs.InputPackets.{reading_of};
+ghost use Rattle.command_inputs.specs.InputPacketsTerms.{HasHead};
+ghost use Rattle.command_inputs.specs.FrameSources.{bare_seen, capture_seen, ng_seen, packets_seen};
 
 use crate::frames::{Found, Frames};
 use crate::input_bytes::InputBytes;
-use crate::packets::{Packets, refusal_of_capture_end, refusal_of_ng_end};
+use crate::input_packets::{Packets, refusal_of_capture_end, refusal_of_ng_end};
 use base::NoMemory;
 use pcap_io::{Body, CaptureHead, CapturePieces, Frame, FrameNext, HEAD_LEN, LentBody, LentFrame};
 use pcapng_io::{NgNext, NgPieces};
 
-/// The only frame of a bare packet, which is packet 1. (own rule)
+/// The only frame of a bare packet, which is packet 1.
 #[derive(Debug, Drop)]
 pub struct BareFrames<'a> {
     packet: &'a [u8],
@@ -24,7 +25,7 @@ pub struct BareFrames<'a> {
 }
 
 impl<'a> BareFrames<'a> {
-    /// The frame of a packet and what stands after its end. (own rule)
+    /// The frame of a packet and what stands after its end.
     pub fn new(packet: &'a [u8]) -> BareFrames<'a>
         ensures { bare_seen result ≡ bare_by false packet.now }
     {
@@ -55,14 +56,14 @@ impl Frames for BareFrames<'_> {
     }
 }
 
-/// The frames of a classic capture, fed in pieces and lent. (own rule)
+/// The frames of a classic capture, fed in pieces and lent.
 #[derive(Drop)]
 pub struct CaptureFrames<'a> {
     pieces: CapturePieces<'a>,
 }
 
 impl<'a> CaptureFrames<'a> {
-    /// The frames after a capture's head, of all its bytes. (own rule)
+    /// The frames after a capture's head, of all its bytes.
     pub fn new(head: CaptureHead, capture: &'a InputBytes) -> CaptureFrames<'a>
         requires { HEAD_LEN ≤ length capture.now }
         ensures { capture_seen result
@@ -90,7 +91,7 @@ impl Frames for CaptureFrames<'_> {
     }
 }
 
-/// The frames of a pcapng file; the one at hand is lent. (own rule)
+/// The frames of a pcapng file; the one at hand is lent.
 #[derive(Drop)]
 pub struct NgFrames<'a> {
     pieces: NgPieces<'a>,
@@ -98,7 +99,7 @@ pub struct NgFrames<'a> {
 }
 
 impl<'a> NgFrames<'a> {
-    /// The frames of a file. (own rule)
+    /// The frames of a file.
     pub fn new(file: &'a InputBytes) -> NgFrames<'a>
         requires { length file.now ≤ MAX_INPUT }
         ensures { ng_seen result ≡ ng_seen_at None (all_of (ng_capture_of file.now)) }
@@ -143,7 +144,7 @@ impl Frames for NgFrames<'_> {
     }
 }
 
-/// The frames of an input, whatever it is. (own rule)
+/// The frames of an input, whatever it is.
 #[derive(Drop)]
 pub enum PacketFrames<'a> {
     /// That of a bare packet.
@@ -175,7 +176,7 @@ impl Frames for PacketFrames<'_> {
 }
 
 impl Packets {
-    /// The frames of the input from the first on, lent; each call gives them anew. (own rule)
+    /// The frames of the input from the first on, lent; each call gives them anew.
     pub fn frames(&self) -> PacketFrames<'_>
         requires { HasHead self.now }
         ensures { packets_seen result ≡ all_frames (reading_of self.now) }

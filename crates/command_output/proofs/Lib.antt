@@ -3,11 +3,11 @@ pub mod Commanding
 pub mod Endings
 pub mod Gathering
 pub mod NodeNames
-pub mod PieceLemmas
+pub mod OutputPieceLemmas
 pub mod PieceSteps
 pub mod Pooling
-pub mod Standing
+pub mod OutputStanding
 pub mod PublicLaws
 pub mod Wanting
-pub mod Writing
+pub mod OutputWriting
 pub mod PieceBytes

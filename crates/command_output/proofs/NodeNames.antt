@@ -5,7 +5,7 @@ use Rattle.std.proofs.lemmas.Bool.{and_parts, leb-true}
 use Rattle.net_model.specs.declared.limits.TheConstants.{MAX_NAME_BYTES}
 use Rattle.net_model.specs.declared.parts.Node.{Node}
 use Rattle.net_model.specs.Network.{Network}
-use Rattle.net_model.specs.Keeps.{Keeps}
+use Rattle.net_model.specs.NetworkKeeps.{Keeps}
 
 pub name_fits : (net : Network) (n : ℕ) (node : Node) → Keeps net → slice_get net.nodes n ≡ Some node → length node.name ≤ MAX_NAME_BYTES
 name_fits net n node keeps at =

@@ -1,10 +1,11 @@
 -- Pieces with the same bytes in order go out alike.
 use Rattle.std.proofs.Common.{◌≡◌, ℕ, List, [], ◌∷◌, ◌++◌, Option, None, Some, refl, sym, ap, ◌∙◌}
 use Rattle.srx_edge.specs.Sinks.{SinkSeen, sent}
-use Rattle.srx_edge.specs.Steps.{How}
-use Rattle.srx_edge.proofs.PublicLaws.{sent-sent}
-use Rattle.command_output.specs.Pieces.{Piece, ForOut, ForErr, Which, ToOut, ToErr, Sinks, gone, bytes_in_order, Went, stop_at}
-use Rattle.command_output.proofs.PieceLemmas.{marked}
+use Rattle.srx_edge.specs.CallSteps.{How}
+use Rattle.srx_edge.proofs.PublicLaws.{sent_sent}
+use Rattle.command_output.specs.OutputPieces.{Piece, ForOut, ForErr, Which, ToOut, ToErr, Sinks, gone, bytes_in_order, Went}
+use Rattle.command_output.specs.OutputPiecesTerms.{stop_at}
+use Rattle.command_output.proofs.OutputPieceLemmas.{marked}
 
 -- the sinks once bytes have gone out to one of them
 
@@ -16,33 +17,33 @@ abbrev pub gone_bytes : List (Which × ℕ) → Sinks → Sinks
 gone_bytes [] sinks = sinks
 gone_bytes (b ∷ more) sinks = gone_bytes more (sent_to b.0 (b.1 ∷ []) sinks)
 
-sent-none : (sink : Which) (sinks : Sinks) → sent_to sink [] sinks ≡ sinks
-sent-none ToOut sinks = refl
-sent-none ToErr sinks = refl
+sent_none : (sink : Which) (sinks : Sinks) → sent_to sink [] sinks ≡ sinks
+sent_none ToOut sinks = refl
+sent_none ToErr sinks = refl
 
-sent-both : (sink : Which) (first more : List ℕ) (sinks : Sinks)
+sent_both : (sink : Which) (first more : List ℕ) (sinks : Sinks)
     → sent_to sink more (sent_to sink first sinks) ≡ sent_to sink (first ++ more) sinks
-sent-both ToOut first more sinks = ap (λ (s : SinkSeen). record sinks { out = s }) (sent-sent more first sinks.out)
-sent-both ToErr first more sinks = ap (λ (s : SinkSeen). record sinks { err = s }) (sent-sent more first sinks.err)
+sent_both ToOut first more sinks = ap (λ (s : SinkSeen). record sinks { out = s }) (sent_sent more first sinks.out)
+sent_both ToErr first more sinks = ap (λ (s : SinkSeen). record sinks { err = s }) (sent_sent more first sinks.err)
 
-gone-marked : (sink : Which) (bytes : List ℕ) (more : List (Which × ℕ)) (sinks : Sinks)
+gone_marked : (sink : Which) (bytes : List ℕ) (more : List (Which × ℕ)) (sinks : Sinks)
     → gone_bytes (marked sink bytes ++ more) sinks ≡ gone_bytes more (sent_to sink bytes sinks)
-gone-marked sink [] more sinks = ap (gone_bytes more) (sym (sent-none sink sinks))
-gone-marked sink (byte ∷ bytes) more sinks =
-    gone-marked sink bytes more (sent_to sink (byte ∷ []) sinks) ∙ ap (gone_bytes more) (sent-both sink (byte ∷ []) bytes sinks)
+gone_marked sink [] more sinks = ap (gone_bytes more) (sym (sent_none sink sinks))
+gone_marked sink (byte ∷ bytes) more sinks =
+    gone_marked sink bytes more (sent_to sink (byte ∷ []) sinks) ∙ ap (gone_bytes more) (sent_both sink (byte ∷ []) bytes sinks)
 
-pub gone-bytes : (pieces : List Piece) (sinks : Sinks) → gone pieces sinks ≡ gone_bytes (bytes_in_order pieces) sinks
-gone-bytes [] sinks = refl
-gone-bytes (ForOut bytes ∷ more) sinks =
-    gone-bytes more (record sinks { out = sent bytes sinks.out }) ∙ sym (gone-marked ToOut bytes (bytes_in_order more) sinks)
-gone-bytes (ForErr bytes ∷ more) sinks =
-    gone-bytes more (record sinks { err = sent bytes sinks.err }) ∙ sym (gone-marked ToErr bytes (bytes_in_order more) sinks)
+pub gone_bytes_law : (pieces : List Piece) (sinks : Sinks) → gone pieces sinks ≡ gone_bytes (bytes_in_order pieces) sinks
+gone_bytes_law [] sinks = refl
+gone_bytes_law (ForOut bytes ∷ more) sinks =
+    gone_bytes_law more (record sinks { out = sent bytes sinks.out }) ∙ sym (gone_marked ToOut bytes (bytes_in_order more) sinks)
+gone_bytes_law (ForErr bytes ∷ more) sinks =
+    gone_bytes_law more (record sinks { err = sent bytes sinks.err }) ∙ sym (gone_marked ToErr bytes (bytes_in_order more) sinks)
 
 module _ (one other : List Piece) (old new : Sinks) (same : bytes_in_order one ≡ bytes_in_order other) where
-  pub gone-same : gone one old ≡ gone other old
-  gone-same = gone-bytes one old ∙ (ap (λ (bytes : List (Which × ℕ)). gone_bytes bytes old) same ∙ sym (gone-bytes other old))
+  pub gone_same : gone one old ≡ gone other old
+  gone_same = gone_bytes_law one old ∙ (ap (λ (bytes : List (Which × ℕ)). gone_bytes bytes old) same ∙ sym (gone_bytes_law other old))
 
-  pub went-same : (sink : Which) (how : Option How) → Went (stop_at sink how) one old new → Went (stop_at sink how) other old new
-  went-same sink None w = record { first = w.first; rest = w.rest; whole = w.whole ∙ same; sinks = w.sinks }
-  went-same sink (Some how) w =
+  pub went_same : (sink : Which) (how : Option How) → Went (stop_at sink how) one old new → Went (stop_at sink how) other old new
+  went_same sink None w = record { first = w.first; rest = w.rest; whole = w.whole ∙ same; sinks = w.sinks }
+  went_same sink (Some how) w =
       record { first = w.first; rest = w.rest; whole = w.whole ∙ same; next = w.next; sinks = w.sinks }

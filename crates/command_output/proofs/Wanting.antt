@@ -5,18 +5,19 @@ use Rattle.srx_edge.specs.Edge.{next_count}
 use Rattle.srx_edge.specs.Sinks.{SinkSeen, sent}
 use Rattle.command_output.specs.declared.halt.Failure.{Failure}
 use Rattle.command_output.specs.declared.halt.Failure.TheVariants as failures
-use Rattle.command_output.specs.Answers.{ending_of_failure, ending_of_step}
-use Rattle.command_output.specs.Gathered.{HasWant, Waiting, WantsInSink, WantsInSinks, waiting_pieces}
-use Rattle.command_output.specs.Pieces.{Sinks, sinks_of, gone}
+use Rattle.command_output.specs.CommandAnswers.{ending_of_failure, ending_of_step}
+use Rattle.command_output.specs.GatheredTerms.{HasWant, Waiting, WantsInSink, WantsInSinks, waiting_pieces}
+use Rattle.command_output.specs.OutputPieces.{Sinks, gone}
+use Rattle.command_output.specs.OutputPiecesTerms.{sinks_of}
 
 -- bytes that go out are no want
-wants-sent : (bytes : List ℕ) (sink : SinkSeen) → (sent bytes sink).wants ≡ sink.wants
-wants-sent [] sink = refl
-wants-sent (byte ∷ bytes) sink = refl
+wants_sent : (bytes : List ℕ) (sink : SinkSeen) → (sent bytes sink).wants ≡ sink.wants
+wants_sent [] sink = refl
+wants_sent (byte ∷ bytes) sink = refl
 
-want-after : (bytes : List ℕ) (old mid new : SinkSeen) → mid ≡ sent bytes old → HasWant mid new → HasWant old new
-want-after bytes old mid new went h =
-    (h.0 ∙ ap next_count (ap (λ (sink : SinkSeen). sink.wants) went ∙ wants-sent bytes old), h.1)
+want_after : (bytes : List ℕ) (old mid new : SinkSeen) → mid ≡ sent bytes old → HasWant mid new → HasWant old new
+want_after bytes old mid new went h =
+    (h.0 ∙ ap next_count (ap (λ (sink : SinkSeen). sink.wants) went ∙ wants_sent bytes old), h.1)
 
 -- one of the two sinks is written to
 
@@ -38,7 +39,7 @@ pub wants_out_behind : (result : Result (Unit {0}) Failure) (waiting : Waiting) 
 wants_out_behind (Ok unit) waiting old mid new went h = tt
 wants_out_behind (Err failures.Fault) waiting old mid new went h = tt
 wants_out_behind (Err failures.NoMemory) waiting old mid new went h =
-    inl (want-after waiting.out old.out mid.out new (ap (λ (sinks : Sinks). sinks.out) went) h)
+    inl (want_after waiting.out old.out mid.out new (ap (λ (sinks : Sinks). sinks.out) went) h)
 
 pub wants_err_behind : (result : Result (Unit {0}) Failure) (waiting : Waiting) (old mid : Sinks) (new : SinkSeen)
     → mid ≡ gone (waiting_pieces waiting) old → WantsInSink (ending_of_step result) mid.err new
@@ -46,4 +47,4 @@ pub wants_err_behind : (result : Result (Unit {0}) Failure) (waiting : Waiting) 
 wants_err_behind (Ok unit) waiting old mid new went h = tt
 wants_err_behind (Err failures.Fault) waiting old mid new went h = tt
 wants_err_behind (Err failures.NoMemory) waiting old mid new went h =
-    inr (want-after waiting.err old.err mid.err new (ap (λ (sinks : Sinks). sinks.err) went) h)
+    inr (want_after waiting.err old.err mid.err new (ap (λ (sinks : Sinks). sinks.err) went) h)

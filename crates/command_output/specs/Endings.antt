@@ -1,13 +1,13 @@
--- How a call ended, and what it took of the files and of the input (own rule).
+-- How a call ended, and what it took of the files and of the input.
 use Rattle.std.specs.Prelude.{◌≡◌, ◌⊎◌, ◌==◌, true, false, not, [], length, Option, IfSome, ⊤}
 use Rattle.srx_edge.specs.FilesRead.{FilesSeen}
 use Rattle.srx_edge.specs.Sources.{SourceSeen}
-use Rattle.srx_edge.specs.Steps.{Ending, Whole, Fault, Memory}
+use Rattle.srx_edge.specs.CallSteps.{Ending, Whole, Fault, Memory}
 use Rattle.command_output.specs.declared.status.Status.{Status}
 use Rattle.command_output.specs.declared.status.Status.TheVariants as statuses
 use Rattle.command_output.specs.Outside.{Asks, Reads, ReadsAs}
-use Rattle.command_output.specs.Pieces.{Output, Sinks, ToOut, ToErr, Stop, Never, AtFiles, AtInput, At, Elsewhere}
-use Rattle.command_output.specs.Shape.{Held, Shape, IfTold}
+use Rattle.command_output.specs.OutputPieces.{Output, Sinks, ToOut, ToErr, Stop, Never, AtFiles, AtInput, At, Elsewhere}
+use Rattle.command_output.specs.CommandSpec.{Held, CommandSpec, IfTold}
 
 -- how a call ended, by its status
 abbrev pub ending_of_status : Status → Ending
@@ -43,16 +43,16 @@ LinesLast (At ToErr how) old new = ⊤
 LinesLast Elsewhere old new = ⊤
 
 -- an input that the command reads, and doesn't end before, is read whole, unless the call stopped before or within that
-abbrev pub ReadsIts : Shape → Option Held → Stop → SourceSeen → SourceSeen → Type 0
-ReadsIts shape told stop old new = IfTold (not (length shape.files == 0)) [] told
-    (λ held. (¬ shape.leaves_input held) → shape.reads ≡ true → ReadsAs stop old new)
+abbrev pub ReadsIts : CommandSpec → Option Held → Stop → SourceSeen → SourceSeen → Type 0
+ReadsIts spec told stop old new = IfTold (not (length spec.files == 0)) [] told
+    (λ held. (¬ spec.leaves_input held) → spec.reads ≡ true → ReadsAs stop old new)
 
 -- what a call takes of the files and of the input
-pub record Takes (shape : Shape) (stop : Stop) (files_old files_new : FilesSeen) (input_old input_new : SourceSeen) : Type 0 where
-  pub asks : Asks shape stop files_old files_new
+pub record Takes (spec : CommandSpec) (stop : Stop) (files_old files_new : FilesSeen) (input_old input_new : SourceSeen) : Type 0 where
+  pub asks : Asks spec stop files_old files_new
   pub reads : Reads stop input_old input_new
   -- The input stays as it was where the command ends before it is read, or reads none.
-  pub unread : IfSome files_old.told (λ held. shape.leaves_input held → input_new ≡ input_old)
-  pub reads_none : shape.reads ≡ false → input_new ≡ input_old
+  pub unread : IfSome files_old.told (λ held. spec.leaves_input held → input_new ≡ input_old)
+  pub reads_none : spec.reads ≡ false → input_new ≡ input_old
   -- An input that it comes to is read to its end, or one byte past the limit, also where it is refused then.
-  pub reads_its : ReadsIts shape files_old.told stop input_old input_new
+  pub reads_its : ReadsIts spec files_old.told stop input_old input_new

@@ -1,11 +1,10 @@
--- Outputs of a refusal, of a report, and of a judgement (own rule).
+-- Outputs of a refusal, of a report, and of a judgement.
 use Rattle.std.specs.Prelude.{ℕ, List, [], ◌∷◌, ◌++◌, Option, Some, None, Result, Ok, Err}
 use Rattle.command_output.specs.declared.refusal.Refusal.{Refusal}
 use Rattle.command_output.specs.declared.status.Status.{Status}
 use Rattle.command_output.specs.declared.status.Status.TheVariants as statuses
-use Rattle.command_output.specs.declared.told.Judgement.{Judgement}
-use Rattle.command_output.specs.Lines.{bytes_of_text, refusal_line}
-use Rattle.command_output.specs.Pieces.{Piece, ForOut, ForErr, Output}
+use Rattle.command_output.specs.OutputLines.{refusal_line}
+use Rattle.command_output.specs.OutputPieces.{Piece, ForOut, ForErr, Output}
 
 -- the output of a refusal: its line
 abbrev pub refused : Refusal → Output
@@ -24,6 +23,3 @@ ended_by pieces (Some refusal) = record { pieces = pieces ++ ForErr (refusal_lin
 -- a report, and then a line
 abbrev pub reported : List ℕ → List ℕ → Status → Output
 reported report told status = record { pieces = ForOut report ∷ ForErr told ∷ []; status = status }
-
-abbrev pub output_of_judgement : Judgement → Output
-output_of_judgement judgement = reported (bytes_of_text judgement.line) [] judgement.status

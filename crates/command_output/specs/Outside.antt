@@ -1,11 +1,11 @@
--- Files, the input and the sinks round a call, by where it stopped (own rule).
+-- Files, the input and the sinks round a call, by where it stopped.
 use Rattle.std.specs.Prelude.{◌≡◌, ◌⊎◌, ℕ, ◌+◌, ◌<◌, ◌≤◌, List, [], ◌∷◌, ◌++◌, length, IfSome, ⊤}
 use Rattle.srx_edge.specs.FilesRead.{FilesSeen, FailsAt, asked_for, failed}
 use Rattle.srx_edge.specs.Sources.{SourceSeen, DrawnUpTo, drained, taken, failed as input_failed}
 use Rattle.srx_edge.specs.Sinks.{SinkSeen}
 use Rattle.command_output.specs.declared.limits.TheConstants.{MAX_INPUT_BYTES}
-use Rattle.command_output.specs.Pieces.{Sinks, Stop, Never, AtFiles, AtInput, At, Elsewhere}
-use Rattle.command_output.specs.Shape.{Shape, names_of}
+use Rattle.command_output.specs.OutputPieces.{Sinks, Stop, Never, AtFiles, AtInput, At, Elsewhere}
+use Rattle.command_output.specs.CommandSpec.{CommandSpec, names_of}
 
 -- what is seen of all that is outside
 pub record Outside : Type 0 where
@@ -49,12 +49,6 @@ pub record IsFrontOf (wanted names : List (List ℕ)) : Type 0 where
   pub rest : List (List ℕ)
   pub whole : names ++ rest ≡ wanted
 
--- a front of these names was asked for, and no other
-pub record AsksForFront (wanted : List (List ℕ)) (old new : FilesSeen) : Type 0 where
-  pub names : List (List ℕ)
-  pub front : IsFrontOf wanted names
-  pub seen : new ≡ asked_for_all names old
-
 abbrev pub AsksAs : Stop → List (List ℕ) → List (List ℕ) → Type 0
 AsksAs Never wanted names = names ≡ wanted
 AsksAs AtFiles wanted names = IsFrontOf wanted names
@@ -64,10 +58,10 @@ AsksAs Elsewhere wanted names = IsFrontOf wanted names
 
 -- the command's files are asked for in order, each once, and no other name; where the files are told, those that it
 -- comes to; where a read failed, it is that of the last name, and none was asked for after it
-pub record Asks (shape : Shape) (stop : Stop) (old new : FilesSeen) : Type 0 where
+pub record Asks (spec : CommandSpec) (stop : Stop) (old new : FilesSeen) : Type 0 where
   pub names : List (List ℕ)
-  pub in_order : IsFrontOf shape.files names
-  pub those : IfSome old.told (λ held. AsksAs stop (names_of shape held) names)
+  pub in_order : IsFrontOf spec.files names
+  pub those : IfSome old.told (λ held. AsksAs stop (names_of spec held) names)
   pub fails : FailsBy stop names old
   pub seen : new ≡ files_left_by stop (asked_for_all names old)
 

@@ -1,4 +1,5 @@
--- What a walk's end names is there (own rule).
+-- Need not be believed: helps proofs and other laws.
+-- What a walk's end names is there.
 use Rattle.std.specs.Prelude.{◌<◌, length, ⊤}
 use Rattle.net_model.specs.Network.{Network}
 use Rattle.walk_rules.specs.declared.place.Ended.{Ended}

@@ -1,8 +1,7 @@
--- The words of a verb (own rules).
+-- The words of a verb.
 use Rattle.std.specs.Prelude.{ℕ, Bool, ◌&&◌, ◌==◌, not, if◌then◌else◌, List, [], ◌∷◌, length, map, Option, Some, None, String, string_bytes}
 use Rattle.std.specs.Str.{bytes_eq}
 use Rattle.std.specs.declared.alloc.Global.{Global}
-use Rattle.command_output.specs.declared.verbs.TwoWords as code
 
 -- the bytes of words
 abbrev pub words_of : List (String Global) → List (List ℕ)
@@ -28,9 +27,3 @@ two_words name (verb ∷ []) = None
 two_words name (verb ∷ first ∷ []) = None
 two_words name (verb ∷ first ∷ second ∷ more) =
     if has_two_words name verb first second then Some (record { first = first; second = second; more = more }) else None
-
--- as the code has them
-abbrev pub two_words_seen : Option code.TwoWords → Option TwoWords
-two_words_seen None = None
-two_words_seen (Some words) =
-    Some (record { first = words.first.now; second = words.second.now; more = words_of words.more.now })

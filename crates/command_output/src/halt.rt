@@ -11,7 +11,7 @@ use std::alloc::AllocError;
 use text_faults::{OrNoMemory, TextFault};
 use trace_replay::TraceFault;
 
-/// Why a step was not done, whatever it is given. (own rule)
+/// Why a step was not done, whatever it is given.
 #[derive(Clone, Copy, Debug)]
 pub enum Failure {
     /// A fault of the files, the input or a sink.
@@ -20,7 +20,7 @@ pub enum Failure {
     NoMemory,
 }
 
-/// Why a command ends before its end. (own rule)
+/// Why a command ends before its end.
 #[derive(Debug, Drop)]
 pub enum Halt {
     /// What was judged is refused.
@@ -30,7 +30,7 @@ pub enum Halt {
 }
 
 impl From<AllocError> for Failure {
-    ghost use Rattle.command_output.specs.Halts.{memory_fails};
+    ghost use Rattle.command_output.specs.HaltsTerms.{memory_fails};
 
     ghost from_gives = { λ _ failure. failure ≡ memory_fails };
 
@@ -40,7 +40,7 @@ impl From<AllocError> for Failure {
 }
 
 impl From<NoMemory> for Failure {
-    ghost use Rattle.command_output.specs.Halts.{memory_fails};
+    ghost use Rattle.command_output.specs.HaltsTerms.{memory_fails};
 
     ghost from_gives = { λ _ failure. failure ≡ memory_fails };
 
@@ -50,7 +50,7 @@ impl From<NoMemory> for Failure {
 }
 
 impl From<PourFault> for Failure {
-    ghost use Rattle.command_output.specs.Halts.{failure_of_pour};
+    ghost use Rattle.command_output.specs.HaltsTerms.{failure_of_pour};
 
     ghost from_gives = { λ fault failure. failure ≡ failure_of_pour fault };
 
@@ -63,7 +63,7 @@ impl From<PourFault> for Failure {
 }
 
 impl From<Failure> for Halt {
-    ghost use Rattle.command_output.specs.Halts.{halt_of_failure};
+    ghost use Rattle.command_output.specs.HaltsTerms.{halt_of_failure};
 
     ghost from_gives = { λ failure halt. halt ≡ halt_of_failure failure };
 
@@ -73,7 +73,7 @@ impl From<Failure> for Halt {
 }
 
 impl From<AllocError> for Halt {
-    ghost use Rattle.command_output.specs.Halts.{halt_of_failure, memory_fails};
+    ghost use Rattle.command_output.specs.HaltsTerms.{halt_of_failure, memory_fails};
 
     ghost from_gives = { λ _ halt. halt ≡ halt_of_failure memory_fails };
 
@@ -83,7 +83,7 @@ impl From<AllocError> for Halt {
 }
 
 impl From<NoMemory> for Halt {
-    ghost use Rattle.command_output.specs.Halts.{halt_of_failure, memory_fails};
+    ghost use Rattle.command_output.specs.HaltsTerms.{halt_of_failure, memory_fails};
 
     ghost from_gives = { λ _ halt. halt ≡ halt_of_failure memory_fails };
 
@@ -93,7 +93,7 @@ impl From<NoMemory> for Halt {
 }
 
 impl From<Refusal> for Halt {
-    ghost use Rattle.command_output.specs.Halts.{halt_of_refusal};
+    ghost use Rattle.command_output.specs.HaltsTerms.{halt_of_refusal};
 
     ghost from_gives = { λ refusal halt. halt ≡ halt_of_refusal refusal };
 
@@ -103,7 +103,7 @@ impl From<Refusal> for Halt {
 }
 
 impl From<FileFault> for Halt {
-    ghost use Rattle.command_output.specs.Halts.{halt_of_file};
+    ghost use Rattle.command_output.specs.HaltsTerms.{halt_of_file};
 
     ghost from_gives = { λ fault halt. halt ≡ halt_of_file fault };
 
@@ -117,7 +117,7 @@ impl From<FileFault> for Halt {
 }
 
 impl From<DrawFault> for Halt {
-    ghost use Rattle.command_output.specs.Halts.{halt_of_draw};
+    ghost use Rattle.command_output.specs.HaltsTerms.{halt_of_draw};
 
     ghost from_gives = { λ fault halt. halt ≡ halt_of_draw fault };
 
@@ -131,7 +131,7 @@ impl From<DrawFault> for Halt {
 }
 
 impl From<OrNoMemory<TextFault>> for Halt {
-    ghost use Rattle.command_output.specs.Halts.{halt_of_net};
+    ghost use Rattle.command_output.specs.HaltsTerms.{halt_of_net};
 
     ghost from_gives = { λ why halt. halt ≡ halt_of_net why };
 
@@ -144,7 +144,7 @@ impl From<OrNoMemory<TextFault>> for Halt {
 }
 
 impl From<OrNoMemory<IntentFault>> for Halt {
-    ghost use Rattle.command_output.specs.Halts.{halt_of_intent};
+    ghost use Rattle.command_output.specs.HaltsTerms.{halt_of_intent};
 
     ghost from_gives = { λ why halt. halt ≡ halt_of_intent why };
 
@@ -157,7 +157,7 @@ impl From<OrNoMemory<IntentFault>> for Halt {
 }
 
 impl From<CertFault> for Halt {
-    ghost use Rattle.command_output.specs.Halts.{halt_of_cert};
+    ghost use Rattle.command_output.specs.HaltsTerms.{halt_of_cert};
 
     ghost from_gives = { λ fault halt. halt ≡ halt_of_cert fault };
 
@@ -170,7 +170,7 @@ impl From<CertFault> for Halt {
 }
 
 impl From<TraceFault> for Halt {
-    ghost use Rattle.command_output.specs.Halts.{halt_of_trace};
+    ghost use Rattle.command_output.specs.HaltsTerms.{halt_of_trace};
 
     ghost from_gives = { λ fault halt. halt ≡ halt_of_trace fault };
 

@@ -1,13 +1,14 @@
 //! What commands have to say, and what they leave.
 //!
 //! What is written is a list of pieces, each for `out` or for `err`, in order, and a status
-//! (`specs/Pieces.antt`). A command's shape (`specs/Shape.antt`) says which files it asks for,
+//! (`specs/OutputPieces.antt`). A command's spec (`specs/CommandSpec.antt`) says which files it asks for,
 //! whether it reads the input, and which outputs are wanted of them; `Commands` of
-//! `specs/Answers.antt` says what a command of a shape leaves before its last line is written.
+//! `specs/CommandAnswers.antt` says what a command of a spec leaves before its last line is written.
 //! Here are also the refusals with their lines, the lines of packets, the statuses, and the step
 //! that writes bytes to a sink.
 #![tactic(auto)]
 
+mod conclusion;
 mod entry_name;
 pub mod figures;
 mod halt;
@@ -19,10 +20,10 @@ mod pool;
 mod refusal;
 mod sinks;
 mod status;
-mod told;
 mod unread;
 mod verbs;
 
+pub use conclusion::{Conclusion, Judgement, Text};
 pub use entry_name::EntryName;
 pub use halt::{Failure, Halt};
 pub use limits::{MAX_INPUT_BYTES, MOST_WAITING};
@@ -32,6 +33,5 @@ pub use pool::Pool;
 pub use refusal::{Refusal, refusal_of_not_flat};
 pub use sinks::write_all;
 pub use status::Status;
-pub use told::{Judgement, Text, Told};
 pub use unread::Unread;
 pub use verbs::{TwoWords, two_words_after};

@@ -2,7 +2,7 @@
 
 ghost use Rattle.std.specs.Prelude.{◌≡◌, ◌++◌, IfOk, OnOk, string_bytes};
 ghost use Rattle.command_output.specs.Sent.{IsEnd};
-ghost use Rattle.command_output.specs.Lines.{refusal_line, left_line, delivered_line, dropped_line, stages_line, packet_line, unread_line};
+ghost use Rattle.command_output.specs.OutputLines.{refusal_line, left_line, delivered_line, dropped_line, stages_line, packet_line, unread_line};
 
 use crate::refusal::Refusal;
 use crate::unread::Unread;
@@ -11,7 +11,7 @@ use srv6_rules::Reason;
 use std::alloc::{AllocError, Global};
 use walk_rules::{Ended, MAX_STAGES};
 
-/// A refusal's line. (own rule)
+/// A refusal's line.
 pub fn line_of_refusal(alloc: Global, refusal: &Refusal) -> Result<String, AllocError>
     ensures { IfOk result (λ line. string_bytes line ≡ refusal_line refusal.now) }
 {
@@ -19,7 +19,7 @@ pub fn line_of_refusal(alloc: Global, refusal: &Refusal) -> Result<String, Alloc
 }
 
 /// Adds the line of a packet that left over a link.
-#[tactic(auto, unfolding(crate::specs::Lines::left_line))]
+#[tactic(auto, unfolding(crate::specs::OutputLines::left_line))]
 fn add_left(line: &mut String, number: u32, link: &Name) -> Result<(), AllocError>
     ensures { OnOk result (string_bytes line.new
         ≡ string_bytes line.old ++ left_line number link.now) }
@@ -28,7 +28,7 @@ fn add_left(line: &mut String, number: u32, link: &Name) -> Result<(), AllocErro
 }
 
 /// Adds the line of a packet that a node took.
-#[tactic(auto, unfolding(crate::specs::Lines::delivered_line))]
+#[tactic(auto, unfolding(crate::specs::OutputLines::delivered_line))]
 fn add_delivered(line: &mut String, number: u32, node: &Name) -> Result<(), AllocError>
     ensures { OnOk result (string_bytes line.new
         ≡ string_bytes line.old ++ delivered_line number node.now) }
@@ -37,7 +37,7 @@ fn add_delivered(line: &mut String, number: u32, node: &Name) -> Result<(), Allo
 }
 
 /// Adds the line of a packet that a node dropped.
-#[tactic(auto, unfolding(crate::specs::Lines::dropped_line))]
+#[tactic(auto, unfolding(crate::specs::OutputLines::dropped_line))]
 fn add_dropped(
     line: &mut String,
     number: u32,
@@ -51,15 +51,15 @@ fn add_dropped(
 }
 
 /// Adds the line of a packet that used all its stages.
-#[tactic(auto, unfolding(crate::specs::Lines::stages_line))]
+#[tactic(auto, unfolding(crate::specs::OutputLines::stages_line))]
 fn add_stages(line: &mut String, number: u32) -> Result<(), AllocError>
     ensures { OnOk result (string_bytes line.new ≡ string_bytes line.old ++ stages_line number) }
 {
     write!(line, "packet {number}: stopped after {MAX_STAGES} stages\n")
 }
 
-/// Writes the line of a packet that is not read, in place of what the text held. (own rule)
-#[tactic(auto, unfolding(crate::specs::Lines::unread_line))]
+/// Writes the line of a packet that is not read, in place of what the text held.
+#[tactic(auto, unfolding(crate::specs::OutputLines::unread_line))]
 pub fn write_unread_line(line: &mut String, number: u32, cause: Unread) -> Result<(), AllocError>
     ensures { OnOk result (string_bytes line.new ≡ unread_line number cause) }
 {
@@ -68,7 +68,7 @@ pub fn write_unread_line(line: &mut String, number: u32, cause: Unread) -> Resul
 }
 
 /// Writes the line of a packet of a number when it ends, in place of what the text held; a text
-/// that is handed on from packet to packet asks for memory for its longest line alone. (own rule)
+/// that is handed on from packet to packet asks for memory for its longest line alone.
 pub fn write_packet_line(
     line: &mut String,
     net: &Net,

@@ -1,14 +1,14 @@
 //! The names of nodes in refusals.
 
 ghost use Rattle.std.specs.Prelude.{◌≡◌, slice_get};
-ghost use Rattle.trace_replay.specs.Lines.{name_of_node};
+ghost use Rattle.trace_replay.specs.TraceLines.{name_of_node};
 
 use arrayvec::ArrayString;
 use net_model::{MAX_NAME_BYTES, Net};
 use std::fmt;
 use std::marker::Model;
 
-/// A node's name, held in place. Contracts see its bytes. (own rule)
+/// A node's name, held in place. Contracts see its bytes.
 #[derive(Debug, Drop)]
 pub struct NodeName {
     text: ArrayString<MAX_NAME_BYTES>,
@@ -24,7 +24,6 @@ impl Model for NodeName {
 
 impl NodeName {
     /// The name of the node with a number, counted from 0; no bytes where there is no such node.
-    /// (own rule)
     #[tactic(auto, using(crate::proofs::NodeNames::name_fits))]
     pub fn of_node(net: &Net, node: u32) -> NodeName
         ensures { result ≡ name_of_node (slice_get net.now.nodes node) }

@@ -3,9 +3,10 @@
 ghost use Rattle.std.specs.Prelude.{◌≡◌, ◌+◌, ◌≤◌, ◌∷◌, [], IfOk, OnOk, length};
 ghost use Rattle.std.specs.Bool.{OnTrue};
 ghost use Rattle.pcap_io.specs.Capture.{written_frame_bytes};
-ghost use Rattle.command_output.specs.Answers.{ending_of_step};
-ghost use Rattle.command_output.specs.Gathered.{Goes, WantsInSinks, none_waits, pooled, waiting_pieces};
-ghost use Rattle.command_output.specs.Pieces.{ForErr, ForOut, WroteAll, sinks_of};
+ghost use Rattle.command_output.specs.CommandAnswers.{ending_of_step};
+ghost use Rattle.command_output.specs.GatheredTerms.{Goes, WantsInSinks, none_waits, pooled, waiting_pieces};
+ghost use Rattle.command_output.specs.OutputPieces.{ForErr, ForOut};
+ghost use Rattle.command_output.specs.OutputPiecesTerms.{WroteAll, sinks_of};
 
 use crate::halt::Failure;
 use crate::limits::MOST_WAITING;
@@ -22,7 +23,7 @@ const FRAME_HEAD_LEN: usize = 16;
 
 /// What waits to be written: bytes for `out` and bytes for `err`. Those for `out` go out before
 /// those for `err`, so that no line stands on `err` before what comes in front of it stands on
-/// `out`. Contracts see the bytes that wait for each. (own rule)
+/// `out`. Contracts see the bytes that wait for each.
 #[derive(Debug, Drop)]
 pub struct Pool {
     out: Vec<u8>,
@@ -32,7 +33,7 @@ pub struct Pool {
 impl Model for Pool {
     ghost use Rattle.std.specs.Prelude.{◌≤◌};
     ghost use Rattle.std.specs.Vec.{vec_capacity};
-    ghost use Rattle.command_output.specs.Gathered.{Waiting};
+    ghost use Rattle.command_output.specs.GatheredTerms.{Waiting};
     ghost use Rattle.command_output.specs.declared.limits.TheConstants.{MOST_WAITING};
 
     ghost Value = { Waiting };
@@ -53,7 +54,7 @@ fn has_room(waiting: usize, more: usize) -> bool
 }
 
 impl Pool {
-    /// One in which nothing waits, with room for all that may wait. (own rule)
+    /// One in which nothing waits, with room for all that may wait.
     pub fn new(alloc: Global) -> Result<Pool, NoMemory>
         ensures { IfOk result (λ pool. pool ≡ none_waits) }
     {
@@ -63,8 +64,7 @@ impl Pool {
         })
     }
 
-    /// Pours what waits: what is for `out`, and then what is for `err`; none waits after it. (own
-    /// rule)
+    /// Pours what waits: what is for `out`, and then what is for `err`; none waits after it.
     pub fn pour<O: Sink, E: Sink>(&mut self, out: &mut O, err: &mut E) -> Result<(), Failure>
         ensures wrote { WroteAll (ending_of_step result) (waiting_pieces self.old)
             (sinks_of (O.seen out.old) (E.seen err.old))
@@ -107,7 +107,7 @@ impl Pool {
     }
 
     /// Writes bytes for `out`: they wait beside those before them, which are poured where there is
-    /// no room for both. (own rule)
+    /// no room for both.
     pub fn put_out<O: Sink, E: Sink>(
         &mut self,
         bytes: &[u8],
@@ -130,7 +130,7 @@ impl Pool {
         Ok(())
     }
 
-    /// Writes bytes for `err` in the same way. (own rule)
+    /// Writes bytes for `err` in the same way.
     pub fn put_err<O: Sink, E: Sink>(
         &mut self,
         bytes: &[u8],
@@ -154,7 +154,7 @@ impl Pool {
     }
 
     /// Writes the frame of a packet for `out` in the same way: its number as seconds, and
-    /// microseconds. (own rule)
+    /// microseconds.
     pub fn put_frame<O: Sink, E: Sink>(
         &mut self,
         number: u32,

@@ -5,15 +5,15 @@ ghost use Rattle.command_output.specs.Halts.{flat_refusal};
 
 use crate::entry_name::EntryName;
 use crate::node_name::NodeName;
-use flat_networks::NotFlat;
 use intent_reader::IntentFault;
+use net_flatness::NotFlat;
 use net_model::Net;
 use pcap_io::CaptureFault;
 use std::fmt;
 use text_faults::{TableKind, TextFault};
 use v6_addr::Prefix;
 
-/// Why a command was refused; each has a number of its own in the line on `err`. (own rule)
+/// Why a command was refused; each has a number of its own in the line on `err`.
 #[derive(Debug, Drop, PartialEq, Eq)]
 pub enum Refusal {
     /// 2: a file or the input has more than `limit` bytes.
@@ -122,7 +122,7 @@ pub enum Refusal {
     },
 }
 
-/// The refusal of a network that is not flat. (own rule)
+/// The refusal of a network that is not flat.
 pub fn refusal_of_not_flat(net: &Net, why: &NotFlat) -> Refusal
     ensures { result ≡ flat_refusal net.now why.now }
 {
@@ -142,14 +142,14 @@ pub fn refusal_of_not_flat(net: &Net, why: &NotFlat) -> Refusal
     }
 }
 
-/// The refusal's number, its name, and its fields. (own rule)
+/// The refusal's number, its name, and its fields.
 impl fmt::Display for Refusal {
     ghost use Rattle.std.specs.Prelude.{Some};
-    ghost use Rattle.command_output.specs.Lines.{refusal_text};
+    ghost use Rattle.command_output.specs.OutputLines.{refusal_text};
 
     ghost output = { λ refusal. Some (refusal_text refusal) };
 
-    #[tactic(auto, unfolding(crate::specs::Lines::refusal_text, crate::specs::Lines::capture_text))]
+    #[tactic(auto, unfolding(crate::specs::OutputLines::refusal_text, crate::specs::OutputLines::capture_text))]
     fn fmt<W: fmt::Write>(&self, f: &mut fmt::Formatter<W>) -> fmt::Result {
         match self {
             Refusal::TooBig { limit } => write!(f, "refused 2 TooBig {limit}"),

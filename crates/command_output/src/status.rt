@@ -1,6 +1,6 @@
 //! How a call of `serve` ended.
 
-/// How a call of `serve` ended; its number is the program's exit status. (own rule)
+/// How a call of `serve` ended; its number is the program's exit status.
 #[derive(Clone, Copy, Debug, PartialEq, Eq)]
 pub enum Status {
     /// The command's output was written whole, and what it reads from the input was read to its

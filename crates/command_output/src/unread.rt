@@ -2,7 +2,7 @@
 
 use std::fmt;
 
-/// Why the packet of a frame is not read. (own rule)
+/// Why the packet of a frame is not read.
 #[derive(Clone, Copy, Debug)]
 pub enum Unread {
     /// Bytes of the frame were left out of the capture.
@@ -13,14 +13,14 @@ pub enum Unread {
     WrongVersion,
 }
 
-/// The cause's name. (own rule)
+/// The cause's name.
 impl fmt::Display for Unread {
     ghost use Rattle.std.specs.Prelude.{Some};
-    ghost use Rattle.command_output.specs.Lines.{unread_name};
+    ghost use Rattle.command_output.specs.OutputLines.{unread_name};
 
     ghost output = { λ unread. Some (unread_name unread) };
 
-    #[tactic(auto, unfolding(crate::specs::Lines::unread_name))]
+    #[tactic(auto, unfolding(crate::specs::OutputLines::unread_name))]
     fn fmt<W: fmt::Write>(&self, f: &mut fmt::Formatter<W>) -> fmt::Result {
         f.write_str(match self {
             Unread::ShortFrame => "ShortFrame",

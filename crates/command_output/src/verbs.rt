@@ -1,9 +1,10 @@
 //! The words of a verb.
 
 ghost use Rattle.std.specs.Prelude.{◌≡◌};
-ghost use Rattle.command_output.specs.Verbs.{two_words, two_words_seen, words_of};
+ghost use Rattle.command_output.specs.Verbs.{two_words, words_of};
+ghost use Rattle.command_output.specs.VerbsTerms.{two_words_seen};
 
-/// The two words after a verb, neither of them empty, and those that follow them. (own rule)
+/// The two words after a verb, neither of them empty, and those that follow them.
 #[derive(Debug, Drop)]
 pub struct TwoWords<'a> {
     /// The first.
@@ -15,7 +16,7 @@ pub struct TwoWords<'a> {
 }
 
 /// The two words after a verb, and those that follow them; none where the first of these words is
-/// another, or one of the two is empty or missing. (own rule)
+/// another, or one of the two is empty or missing.
 pub fn two_words_after<'a>(name: &str, words: &'a [String]) -> Option<TwoWords<'a>>
     ensures { two_words_seen result ≡ two_words name.now (words_of words.now) }
 {

@@ -1,8 +1,8 @@
 pub mod CheckEnds
-pub mod Checking
+pub mod CommandChecking
 pub mod Compiling
-pub mod Strict
+pub mod CommandStrict
 pub mod PublicLaws
 pub mod Reporting
-pub mod Printing
-pub mod OneOutput
+pub mod CommandPrinting
+pub mod CommandOneOutput

@@ -1,5 +1,4 @@
 -- The lemmas that crates above may cite.
 pub use Rattle.compile_commands.proofs.Compiling.{valued}
-pub use Rattle.compile_commands.proofs.OneOutput.{WantsOne, compiled-one, files-one, compile-one}
-pub use Rattle.intent_legs.proofs.PublicLaws.{one-answer-for, realizes-loose, realizes-own, realizes-strict}
-pub use Rattle.intent_legs.proofs.PublicLaws.{met-keeps, keeps-crosses, loose-keeps}
+pub use Rattle.compile_commands.proofs.CommandOneOutput.{WantsOne, compiled_one, files_one, compile_one}
+pub use Rattle.intent_compiler.proofs.PublicLaws.{one_answer_for, realizes_loose, realizes_own, realizes_strict, met_keeps, keeps_crosses, loose_keeps_law}

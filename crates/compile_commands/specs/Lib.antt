@@ -1,5 +1,7 @@
-pub mod Check
-pub mod Compile
+pub mod CheckCommand
+pub mod CheckCommandTerms
+pub mod CompileCommand
+pub mod CompileCommandTerms
 pub mod Printed
 pub mod Strict
-pub mod Lists
+pub mod CompiledLists

@@ -1,4 +1,5 @@
--- What `check` says of what `compile` printed (own rule).
+-- Need not be believed: helps proofs and other laws.
+-- What `check` says of what `compile` printed.
 use Rattle.std.specs.Prelude.{◌≡◌, ◌↔◌, ℕ, ◌≤◌, List, [], length, Some, Result, Ok, Err, IsSomeAnd}
 use Rattle.net_model.specs.Network.{Network}
 use Rattle.intent_reader.specs.declared.intent.Intent.{Intent}
@@ -8,13 +9,13 @@ use Rattle.path_compiler.specs.declared.compiled.CompileFault.TheVariants as fau
 use Rattle.srx_edge.specs.Edge.{file_named}
 use Rattle.net_model.specs.declared.limits.TheConstants.{MAX_TEXT_BYTES}
 use Rattle.command_output.specs.declared.status.Status.TheVariants as statuses
-use Rattle.compile_commands.specs.Check.{check_shape, least_line, no_list_line}
-use Rattle.compile_commands.specs.Compile.{AnswerWants, NetworkWants, compile_shape}
+use Rattle.compile_commands.specs.CheckCommand.{check_spec, least_line, no_list_line}
+use Rattle.compile_commands.specs.CompileCommand.{AnswerWants, NetworkWants, compile_spec}
 use Rattle.command_output.specs.Halts.{flat_refusal}
 use Rattle.command_output.specs.Outputs.{reported, refused}
 use Rattle.command_inputs.specs.Judgements.{network_in}
-use Rattle.command_output.specs.Pieces.{Output, bytes_for_out}
-use Rattle.command_output.specs.Shape.{Held}
+use Rattle.command_output.specs.OutputPieces.{Output, bytes_for_out}
+use Rattle.command_output.specs.CommandSpec.{Held}
 
 -- a command finds in its files the texts of the description and the intent as another did, and for the certificate what that one printed,
 -- which has no more bytes than a file may have
@@ -43,7 +44,7 @@ ConfirmsPrinted printed net intent answer output = AnswerWants net intent answer
 abbrev pub CheckConfirmsCompile : Type 0
 CheckConfirmsCompile =
     (old new : Held) (file intent cert input other : List ℕ) (printed output : Output) → HoldsPrinted old new file intent cert printed
-    → (compile_shape file intent).wants old input printed
-    → (check_shape file intent cert).wants new other output
+    → (compile_spec file intent).wants old input printed
+    → (check_spec file intent cert).wants new other output
     ↔ IsSomeAnd (file_named old file)
     (λ text. NetworkWants (ConfirmsPrinted printed) (network_in text) (file_named old intent) output)

@@ -1,25 +1,28 @@
--- What is wanted of `compile` and of `check` where no step is to reach a node and no SID of the network binds a policy: what answers and
--- verdicts over the strict steps of the intent want (own rule).
+-- Need not be believed: helps proofs and other laws.
+-- What is wanted of `compile` and of `check` where no step is loose and the network has no binding SID: what answers and
+-- verdicts over the strict steps of the intent want.
 use Rattle.std.specs.Prelude.{◌≡◌, List, Option, Result, Ok, Err, IsSomeAnd, ℕ}
 use Rattle.net_model.specs.Network.{Network}
-use Rattle.flat_networks.specs.declared.not_flat.NotFlat.{NotFlat}
+use Rattle.net_flatness.specs.declared.not_flat.NotFlat.{NotFlat}
 use Rattle.intent_reader.specs.declared.intent.Intent.{Intent}
-use Rattle.list_certificate.specs.declared.types.Cert.{Cert}
-use Rattle.list_certificate.specs.declared.types.Verdict.{Verdict}
+use Rattle.list_certificate.specs.declared.certificate_types.Cert.{Cert}
+use Rattle.list_certificate.specs.declared.certificate_types.Verdict.{Verdict}
 use Rattle.list_certificate.specs.Verdicts.{IsVerdict}
-use Rattle.leg_table.specs.Realizes.{ListRealizes, ListExecutes}
-use Rattle.leg_table.specs.Value.{legs_value}
+use Rattle.leg_table.specs.Realizes.{ListRealizes}
+use Rattle.leg_table.specs.RealizesTerms.{ListExecutes}
+use Rattle.leg_table.specs.StrictLegsValue.{legs_value}
 use Rattle.path_compiler.specs.declared.compiled.Compiled.{Compiled}
 use Rattle.path_compiler.specs.declared.compiled.CompileFault.{CompileFault}
-use Rattle.path_compiler.specs.Checked.{Says, SaysOfHanding}
-use Rattle.path_compiler.specs.Compiled.{CompileAnswers, NoLessHandsOver}
+use Rattle.path_compiler.specs.Checked.{Says}
+use Rattle.path_compiler.specs.CheckedTerms.{SaysOfHanding}
+use Rattle.path_compiler.specs.CompiledTerms.{CompileAnswers, NoLessHandsOver}
 use Rattle.command_output.specs.declared.refusal.Refusal.{Refusal}
 use Rattle.command_output.specs.Halts.{flat_refusal}
 use Rattle.command_output.specs.Outputs.{refused}
-use Rattle.command_output.specs.Pieces.{Output}
+use Rattle.command_output.specs.OutputPieces.{Output}
 use Rattle.command_inputs.specs.Judgements.{cert_in}
-use Rattle.compile_commands.specs.Check.{told_of}
-use Rattle.compile_commands.specs.Compile.{AnswerWants}
+use Rattle.compile_commands.specs.CheckCommand.{told_of}
+use Rattle.compile_commands.specs.CompileCommand.{AnswerWants}
 
 abbrev pub StrictlyCompiled : Network → Intent → Output → Type 0
 StrictlyCompiled net intent output =

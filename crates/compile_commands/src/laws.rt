@@ -2,13 +2,14 @@
 
 ghost use Rattle.std.specs.Prelude.{◌≡◌, ◌↔◌, ℕ, List, Option};
 ghost use Rattle.net_model.specs.Network.{Network};
-ghost use Rattle.flat_networks.specs.Flat.{flatness_of};
+ghost use Rattle.net_flatness.specs.Flat.{flatness_of};
 ghost use Rattle.intent_reader.specs.declared.intent.Intent.{Intent};
-ghost use Rattle.intent_legs.specs.Kinds.{BindsNothing, ReachesNothing};
-ghost use Rattle.command_output.specs.Pieces.{Output};
-ghost use Rattle.command_output.specs.Shape.{Held};
-ghost use Rattle.compile_commands.specs.Check.{FlatWants};
-ghost use Rattle.compile_commands.specs.Compile.{AnswerWants, CompiledWants, compile_shape};
+ghost use Rattle.intent_compiler.specs.LegKinds.{BindsNothing};
+ghost use Rattle.intent_compiler.specs.LegKindsTerms.{ReachesNothing};
+ghost use Rattle.command_output.specs.OutputPieces.{Output};
+ghost use Rattle.command_output.specs.CommandSpec.{Held};
+ghost use Rattle.compile_commands.specs.CheckCommand.{FlatWants};
+ghost use Rattle.compile_commands.specs.CompileCommand.{AnswerWants, CompiledWants, compile_spec};
 ghost use Rattle.compile_commands.specs.Printed.{CheckConfirmsCompile};
 ghost use Rattle.compile_commands.specs.Strict.{StrictlyCompiled, StrictlyJudged};
 
@@ -19,7 +20,7 @@ use net_reader::networks_keep_the_rules;
 /// exactly the report's containers and need, also of a list that is too long or needs too high a
 /// hop limit, or `none` where there is no list. What `compile` refuses `check` refuses with the
 /// same line, where the certificate's file is there and holds what `compile` wrote, which is
-/// nothing. (own rule)
+/// nothing.
 pub fn check_confirms_what_compile_prints()
     ensures { CheckConfirmsCompile }
 {
@@ -28,16 +29,16 @@ pub fn check_confirms_what_compile_prints()
 
 /// With one description and one intent `compile` has one output, whatever the input is: one list,
 /// the least among all legal lists that realize the intent, its numbers and one certificate, or one
-/// refusal. (own rule)
+/// refusal.
 pub fn compile_has_one_output()
     ensures { (file intent : List ℕ) (held : Held) (input other : List ℕ) (a b : Output)
-        → (compile_shape file intent).wants held input a
-        → (compile_shape file intent).wants held other b → a ≡ b }
+        → (compile_spec file intent).wants held input a
+        → (compile_spec file intent).wants held other b → a ≡ b }
 {}
 
-/// Where no step of an intent is to reach a node and no SID of a network binds a policy, `compile`
+/// Where no step of an intent is to reach a node and a network has no binding SID, `compile`
 /// and `check` have the outputs that answers and verdicts over the strict steps of the intent give,
-/// and no others. (own rule)
+/// and no others.
 pub fn without_binding_sids_outputs_are_strict()
     ensures compile { (net : Network) (intent : Intent) (output : Output)
         → ReachesNothing intent → BindsNothing net

@@ -4,8 +4,8 @@
 //! Nothing here takes memory. Places are in bytes from the packet's first.
 #![tactic(auto)]
 
-mod headers;
-mod judge;
-mod step;
+mod decap_headers;
+mod decap_judge;
+mod decap_stepping;
 
-pub use step::decap_step;
+pub use decap_stepping::decap_step;

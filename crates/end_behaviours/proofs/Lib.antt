@@ -1,7 +1,7 @@
 pub mod AloneLemmas
-pub mod RemovalLemmas
-pub mod StepLemmas
+pub mod EndRemovalLemmas
+pub mod EndStepLemmas
 pub mod FoundLemmas
 pub mod FromLemmas
 pub mod TreatmentLemmas
-pub mod LengthLemmas
+pub mod EndLengthLemmas

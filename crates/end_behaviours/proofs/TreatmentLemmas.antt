@@ -3,22 +3,24 @@ use Rattle.std.proofs.Common.{◌≡◌, ℕ, ◌+◌, ◌-◌, ◌<◌, ◌≤�
 use Rattle.srv6_rules.specs.declared.family.Family.{Family}
 use Rattle.srv6_rules.specs.declared.sid.SidEntry.{SidEntry}
 use Rattle.srv6_rules.specs.Packet.{Packet, header_len, packet_at}
-use Rattle.srv6_rules.specs.Chain.{ChainPlace, chain_at, from_place, start_of}
-use Rattle.srv6_rules.specs.Endpoint.{Endpoint, Exposed, at_end, at_header, at_sid, over_chain}
-use Rattle.srv6_rules.proofs.PublicLaws.{chain_of-start}
+use Rattle.srv6_rules.specs.Chain.{ChainPlace, from_place, start_of}
+use Rattle.srv6_rules.specs.ChainTerms.{chain_at}
+use Rattle.srv6_rules.specs.Endpoint.{Endpoint, Exposed, at_end, at_header, at_sid}
+use Rattle.srv6_rules.specs.EndpointTerms.{over_chain}
+use Rattle.srv6_rules.proofs.PublicLaws.{chain_of_start}
 use Rattle.endpoint_chain.specs.Outcomes.{HoldsAlone}
 use Rattle.endpoint_chain.specs.declared.outcome.EndOutcome.{EndOutcome}
-use Rattle.endpoint_chain.proofs.PublicLaws.{alone-length}
-use Rattle.end_behaviours.specs.declared.headers.Found.{Found}
-use Rattle.end_behaviours.specs.Finding.{IsFound, IsLast, at_sid_from}
-use Rattle.end_behaviours.specs.Stepping.{Remains}
-use Rattle.end_behaviours.proofs.AloneLemmas.{alone-from}
+use Rattle.endpoint_chain.proofs.PublicLaws.{alone_length}
+use Rattle.end_behaviours.specs.declared.end_headers.Found.{Found}
+use Rattle.end_behaviours.specs.HeaderFinding.{IsFound, IsLast, at_sid_from}
+use Rattle.end_behaviours.specs.SrhStepping.{Remains}
+use Rattle.end_behaviours.proofs.AloneLemmas.{alone_from}
 
 -- what is found in bytes that are these is found in these
-pub found-in : (s : SidEntry) (allow seen old : List ℕ) (first : ℕ) (place : ChainPlace) (found : Found) → seen ≡ old
+pub found_in : (s : SidEntry) (allow seen old : List ℕ) (first : ℕ) (place : ChainPlace) (found : Found) → seen ≡ old
     → IsFound s (packet_at seen) first (at_sid_from s allow (packet_at seen)) (at_sid_from s allow (packet_at seen) place) found
     → IsFound s (packet_at old) first (at_sid_from s allow (packet_at old)) (at_sid_from s allow (packet_at old) place) found
-found-in s allow seen old first place found same is =
+found_in s allow seen old first place found same is =
     let P : List ℕ → Type 0 =
     λ xs. IsFound s (packet_at xs) first (at_sid_from s allow (packet_at xs)) (at_sid_from s allow (packet_at xs) place) found in
     subst P same is
@@ -30,25 +32,25 @@ pub record Ends (bytes : List ℕ) (place next : ChainPlace) : Type 0 where
   pub before : place.at < next.at
   pub within : place.at < length bytes
 
-pub last-ends : (bytes : List ℕ) (first : ℕ) (rest : ChainPlace → Endpoint) (e : Endpoint) (place next : ChainPlace) → HoldsAlone bytes
+pub last_ends : (bytes : List ℕ) (first : ℕ) (rest : ChainPlace → Endpoint) (e : Endpoint) (place next : ChainPlace) → HoldsAlone bytes
     → IsLast (packet_at bytes) first rest e place next → Ends bytes place next
-last-ends bytes first rest e place next alone last =
+last_ends bytes first rest e place next alone last =
     let least = last.header.lies.least in
     let long = last.header.long in
     let within = last.header.lies.within in
-    let all = alone-length bytes alone in
+    let all = alone_length bytes alone in
     record { some = omega arith; sum = omega arith; before = omega arith; within = omega arith }
 
-pub remains-at : (n m : ℕ) (bytes : List ℕ) (outcome : EndOutcome) → n ≡ m → Remains n bytes outcome → Remains m bytes outcome
-remains-at n m bytes outcome same left = let P : ℕ → Type 0 = λ k. Remains k bytes outcome in subst P same left
+pub remains_at : (n m : ℕ) (bytes : List ℕ) (outcome : EndOutcome) → n ≡ m → Remains n bytes outcome → Remains m bytes outcome
+remains_at n m bytes outcome same left = let P : ℕ → Type 0 = λ k. Remains k bytes outcome in subst P same left
 
 -- what is exposed
-pub exposed-bytes : (e : Endpoint) (family : Family) (bytes : List ℕ) (at : ℕ) → HoldsAlone bytes → header_len ≤ at
+pub exposed_bytes : (e : Endpoint) (family : Family) (bytes : List ℕ) (at : ℕ) → HoldsAlone bytes → header_len ≤ at
     → e ≡ Exposed family (from_place (packet_at bytes) at) → e ≡ Exposed family (drop at bytes)
-exposed-bytes e family bytes at alone behind is = is ∙ ap (Exposed family) (alone-from bytes at alone behind)
+exposed_bytes e family bytes at alone behind is = is ∙ ap (Exposed family) (alone_from bytes at alone behind)
 
 -- the whole chain
-pub sid-from : (s : SidEntry) (allow : List ℕ) (p : Packet) (place : ChainPlace) → place ≡ start_of p
+pub sid_from : (s : SidEntry) (allow : List ℕ) (p : Packet) (place : ChainPlace) → place ≡ start_of p
     → at_sid s allow p ≡ at_sid_from s allow p place
-sid-from s allow p place is =
-    ap (over_chain (at_header s p) (at_end s allow p)) (chain_of-start p ∙ ap (chain_at p) (sym is))
+sid_from s allow p place is =
+    ap (over_chain (at_header s p) (at_end s allow p)) (chain_of_start p ∙ ap (chain_at p) (sym is))

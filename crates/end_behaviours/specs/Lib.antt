@@ -1,3 +1,3 @@
-pub mod Finding
-pub mod Stepping
+pub mod HeaderFinding
+pub mod SrhStepping
 pub mod Onward

@@ -1,4 +1,5 @@
--- How long a packet would be after the step of a SID that goes on (own rule).
+-- Need not be believed: helps proofs and other laws.
+-- How long a packet would be after the step of a SID that goes on.
 use Rattle.std.specs.Prelude.{◌≡◌, ◌≢◌, ℕ, ◌+◌, ◌-◌, ◌≤◌, Bool, ◌&&◌, if◌then◌else◌, length, Option, Some, None}
 use Rattle.srv6_rules.specs.declared.sid.SidEntry.{SidEntry}
 use Rattle.srv6_rules.specs.Packet.{Packet, header_len}

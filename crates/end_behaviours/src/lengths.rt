@@ -3,18 +3,19 @@
 ghost use Rattle.std.specs.Prelude.{◌≡◌, ◌-◌, ◌≤◌, ◌+◌, ◌&&◌, ℕ, true, false, not, nat_le, length, if◌then◌else◌, Some, None, IfSome};
 ghost use Rattle.srv6_rules.specs.declared.sid.SidEntry.{SidEntry as SidEntryValue};
 ghost use Rattle.srv6_rules.specs.Behaviours.{goes_on};
-ghost use Rattle.srv6_rules.specs.Chain.{StandsIn};
-ghost use Rattle.srv6_rules.specs.CompressedSteps.{SuitsCompression, compression_of, is_replace, replace_step};
+ghost use Rattle.srv6_rules.specs.ChainTerms.{StandsIn};
+ghost use Rattle.srv6_rules.specs.CompressedSteps.{compression_of, is_replace, replace_step};
+ghost use Rattle.srv6_rules.specs.CompressedStepsTerms.{SuitsCompression};
 ghost use Rattle.srv6_rules.specs.Endpoint.{Endpoint, after_step, at_segment_routing, at_sid, by_replace_step, next_csid, next_segment};
 ghost use Rattle.srv6_rules.specs.Packet.{packet_at};
 ghost use Rattle.srv6_rules.specs.Srh.{srh_of};
 ghost use Rattle.endpoint_chain.specs.Outcomes.{HoldsAlone};
-ghost use Rattle.ip6_headers.specs.Stepping.{place_view};
-ghost use Rattle.end_behaviours.specs.Finding.{LiesAt, at_sid_from, header_of, is_last};
+ghost use Rattle.ip6_headers.specs.ChainStepping.{place_view};
+ghost use Rattle.end_behaviours.specs.HeaderFinding.{LiesAt, at_sid_from, header_of, is_last};
 ghost use Rattle.end_behaviours.specs.Onward.{IsEnd, IsLengthFrom, IsOnwardLength, less_by};
 
-use crate::finding::find;
-use crate::headers::Found;
+use crate::end_headers::Found;
+use crate::header_finding::find;
 use crate::stepping::{SegmentStep, judge_bytes};
 use ip6_headers::{ChainPlace, Ip6View};
 use replace_csid::would_end;
@@ -172,7 +173,7 @@ fn len_from(sid: &SidEntry, allow: &[u8], bytes: &[u8], start: ChainPlace) -> Op
 
 /// How many bytes the packet would have after `end_step` where that would answer `On`, and none
 /// where it would not. No byte is changed, and no memory is taken: a node can know so before the
-/// step whether a header in front of the packet would make it too long (own rule).
+/// step whether a header in front of the packet would make it too long.
 pub fn onward_len(sid: &SidEntry, allow: &[u8], bytes: &[u8]) -> Option<usize>
     requires goes_on { goes_on sid.now ≡ true }
     requires suits { SuitsCompression sid.now }

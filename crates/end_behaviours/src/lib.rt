@@ -6,8 +6,8 @@
 //! Places are in bytes from the packet's first. Nothing here takes memory.
 #![tactic(auto)]
 
-mod finding;
-mod headers;
+mod end_headers;
+mod header_finding;
 mod lengths;
 mod stepping;
 mod treatment;

@@ -1,14 +1,15 @@
 //! The step over a whole segment, judged.
 
 ghost use Rattle.std.specs.Prelude.{◌≡◌, ◌<◌};
-ghost use Rattle.srv6_rules.specs.Chain.{LiesIn, segments_left};
+ghost use Rattle.srv6_rules.specs.Chain.{segments_left};
+ghost use Rattle.srv6_rules.specs.ChainTerms.{LiesIn};
 ghost use Rattle.srv6_rules.specs.Endpoint.{has_bad_segments};
 ghost use Rattle.srv6_rules.specs.Packet.{packet_at};
 ghost use Rattle.srv6_rules.specs.Srh.{srh_of};
-ghost use Rattle.ip6_headers.specs.Reading.{HoldsPacket};
-ghost use Rattle.ip6_headers.specs.Stepping.{header_at, place_view};
-ghost use Rattle.end_behaviours.specs.Finding.{LiesAt, header_of};
-ghost use Rattle.end_behaviours.specs.Stepping.{IsSegmentStep};
+ghost use Rattle.ip6_headers.specs.Ip6Reading.{HoldsPacket};
+ghost use Rattle.ip6_headers.specs.ChainStepping.{header_at, place_view};
+ghost use Rattle.end_behaviours.specs.HeaderFinding.{LiesAt, header_of};
+ghost use Rattle.end_behaviours.specs.SrhStepping.{IsSegmentStep};
 
 use endpoint_chain::bad_segments;
 use ip6_headers::{ChainPlace, Fault, Ip6View};

@@ -2,18 +2,18 @@
 
 ghost use Rattle.std.specs.Prelude.{◌≡◌, true};
 ghost use Rattle.srv6_rules.specs.Behaviours.{goes_on};
-ghost use Rattle.srv6_rules.specs.Chain.{StandsIn};
-ghost use Rattle.srv6_rules.specs.CompressedSteps.{SuitsCompression};
+ghost use Rattle.srv6_rules.specs.ChainTerms.{StandsIn};
+ghost use Rattle.srv6_rules.specs.CompressedStepsTerms.{SuitsCompression};
 ghost use Rattle.srv6_rules.specs.Endpoint.{at_sid};
 ghost use Rattle.srv6_rules.specs.Packet.{packet_at};
-ghost use Rattle.endpoint_chain.specs.Fronts.{FrontAfter};
+ghost use Rattle.endpoint_chain.specs.ChainFronts.{FrontAfter};
 ghost use Rattle.endpoint_chain.specs.Outcomes.{ComesOf, HoldsAlone};
-ghost use Rattle.ip6_headers.specs.Stepping.{place_view};
-ghost use Rattle.end_behaviours.specs.Finding.{at_sid_from};
-ghost use Rattle.end_behaviours.specs.Stepping.{Reaches};
+ghost use Rattle.ip6_headers.specs.ChainStepping.{place_view};
+ghost use Rattle.end_behaviours.specs.HeaderFinding.{at_sid_from};
+ghost use Rattle.end_behaviours.specs.SrhStepping.{Reaches};
 
-use crate::finding::find;
-use crate::headers::Found;
+use crate::end_headers::Found;
+use crate::header_finding::find;
 use crate::writing::{shift_on, step_over, take_out_of};
 use endpoint_chain::EndOutcome;
 use ip6_headers::{ChainPlace, Ip6View};

@@ -2,19 +2,21 @@
 
 ghost use Rattle.std.specs.Prelude.{◌≡◌, ◌⊎◌, ◌+◌, ◌<◌, ◌≤◌, ◌&&◌, ℕ, List, true, false, length, if◌then◌else◌};
 ghost use Rattle.srv6_rules.specs.Chain.{Header, without};
-ghost use Rattle.srv6_rules.specs.CompressedSteps.{SuitsCompression, compression_of, is_replace, replace_step};
+ghost use Rattle.srv6_rules.specs.CompressedSteps.{compression_of, is_replace, replace_step};
+ghost use Rattle.srv6_rules.specs.CompressedStepsTerms.{SuitsCompression};
 ghost use Rattle.srv6_rules.specs.Behaviours.{goes_on};
 ghost use Rattle.srv6_rules.specs.Endpoint.{Endpoint, after_step, at_segment_routing, by_replace_step, next_csid, next_segment, outcome_without, shifts_at};
-ghost use Rattle.srv6_rules.specs.Packet.{Spells, header_len, packet_at};
+ghost use Rattle.srv6_rules.specs.Packet.{header_len, packet_at};
+ghost use Rattle.srv6_rules.specs.PacketTerms.{Spells};
 ghost use Rattle.srv6_rules.specs.Srh.{srh_of};
-ghost use Rattle.endpoint_chain.specs.Fronts.{FrontAfter};
+ghost use Rattle.endpoint_chain.specs.ChainFronts.{FrontAfter};
 ghost use Rattle.endpoint_chain.specs.Outcomes.{ComesOf, HoldsAlone};
-ghost use Rattle.ip6_headers.specs.Reading.{HoldsPacket};
+ghost use Rattle.ip6_headers.specs.Ip6Reading.{HoldsPacket};
 ghost use Rattle.replace_csid.specs.Replacing.{with_move};
-ghost use Rattle.ip6_headers.specs.Stepping.{place_view};
+ghost use Rattle.ip6_headers.specs.ChainStepping.{place_view};
 ghost use Rattle.pkt_buf.specs.BufferView.{Buffer};
-ghost use Rattle.end_behaviours.specs.Finding.{LiesAt, header_of, is_last};
-ghost use Rattle.end_behaviours.specs.Stepping.{Reaches, Remains, move_to};
+ghost use Rattle.end_behaviours.specs.HeaderFinding.{LiesAt, header_of, is_last};
+ghost use Rattle.end_behaviours.specs.SrhStepping.{Reaches, Remains, move_to};
 
 use crate::stepping::{SegmentStep, judge_bytes};
 use endpoint_chain::{EndOutcome, take_out};

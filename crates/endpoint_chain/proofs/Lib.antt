@@ -1,3 +1,3 @@
 pub mod ChainLemmas
-pub mod RemovalLemmas
+pub mod ChainRemovalLemmas
 pub mod PublicLaws

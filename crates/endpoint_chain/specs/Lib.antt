@@ -1,4 +1,4 @@
 pub mod Outcomes
-pub mod Judging
+pub mod ChainJudging
 pub mod Removal
-pub mod Fronts
+pub mod ChainFronts

@@ -1,9 +1,11 @@
+-- Need not be believed: helps proofs and other laws.
 -- What comes of a packet at a SID, in its bytes (RFC 8986 section 4).
 use Rattle.std.specs.Prelude.{◌≡◌, ℕ, ◌+◌, List, length}
-use Rattle.srv6_rules.specs.Packet.{Packet, Spells, header_len, stated_len}
+use Rattle.srv6_rules.specs.Packet.{Packet, header_len, stated_len}
+use Rattle.srv6_rules.specs.PacketTerms.{Spells}
 use Rattle.srv6_rules.specs.Areas.{Fault}
 use Rattle.srv6_rules.specs.Endpoint.{Endpoint, Onward, Exposed, Delivered, Refused}
-use Rattle.ip6_headers.specs.Reading.{HoldsPacket}
+use Rattle.ip6_headers.specs.Ip6Reading.{HoldsPacket}
 use Rattle.endpoint_chain.specs.declared.outcome.EndOutcome.{EndOutcome}
 use Rattle.endpoint_chain.specs.declared.outcome.EndOutcome.TheVariants.{On, Hand, Local, Drop}
 

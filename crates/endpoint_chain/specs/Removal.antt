@@ -1,3 +1,4 @@
+-- Need not be believed: helps proofs and other laws.
 -- A packet's bytes with another payload length in their header, as where a header is taken out (RFC 8986 section 4.16.1).
 use Rattle.std.specs.Prelude.{ℕ, List, ◌++◌, take, drop}
 use Rattle.srv6_rules.specs.declared.numbers.TheConstants.{PAYLOAD_LEN_AT, NEXT_HEADER_AT}

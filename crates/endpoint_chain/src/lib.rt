@@ -5,14 +5,14 @@
 //! Places are in bytes from the packet's first. Nothing here takes memory.
 #![tactic(auto)]
 
-mod address;
-mod headers;
 mod outcome;
+mod own_address;
+mod passed_headers;
 mod removal;
 mod upper;
 
-pub use address::fault_at_address;
-pub use headers::{bad_segments, cut_fault, header_fault, unknown_routing_fault};
 pub use outcome::EndOutcome;
+pub use own_address::fault_at_address;
+pub use passed_headers::{bad_segments, cut_fault, header_fault, unknown_routing_fault};
 pub use removal::take_out;
 pub use upper::{family_inside, is_allowed};

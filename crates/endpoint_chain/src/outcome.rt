@@ -30,7 +30,7 @@ pub enum EndOutcome {
 }
 
 impl EndOutcome {
-    /// The packet is dropped for a fault at a place of it (own rule).
+    /// The packet is dropped for a fault at a place of it.
     pub fn dropped(fault: Fault) -> EndOutcome
         requires { fault.at < 2 ^ 32 }
         ensures { result ≡ dropped_for (fault_of fault) }

@@ -1,11 +1,12 @@
 //! A header taken out of a packet's bytes.
 
 ghost use Rattle.std.specs.Prelude.{◌≡◌, ◌⊎◌, ◌+◌, ◌<◌, ◌≤◌, length, take, drop};
-ghost use Rattle.srv6_rules.specs.Packet.{Spells, header_len, packet_at};
+ghost use Rattle.srv6_rules.specs.Packet.{header_len, packet_at};
+ghost use Rattle.srv6_rules.specs.PacketTerms.{Spells};
 ghost use Rattle.srv6_rules.specs.Chain.{without};
 ghost use Rattle.endpoint_chain.specs.Outcomes.{HoldsAlone};
 ghost use Rattle.endpoint_chain.specs.Removal.{with_payload_len};
-ghost use Rattle.ip6_headers.specs.Stepping.{header_at};
+ghost use Rattle.ip6_headers.specs.ChainStepping.{header_at};
 
 use ip6_headers::ChainPlace;
 use pkt_buf::PktBuf;

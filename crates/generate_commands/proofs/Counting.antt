@@ -12,19 +12,20 @@ use Rattle.walk_rules.specs.declared.place.Ended.TheVariants as ends
 use Rattle.walk_rules.specs.Relation.{IsPlace}
 use Rattle.walk_rules.specs.Treatment.{Gave, step_of}
 use Rattle.walk_rules.specs.Walk.{Stage, walk_of, next_place, decisions, end_by, end_of}
-use Rattle.run_commands.specs.declared.enters.Comes.{Comes}
-use Rattle.run_commands.specs.Entry.{Entry, Staying, Entering, EntersIn, comes_of}
+use Rattle.run_commands.specs.declared.enters.Entrant.{Entrant}
+use Rattle.run_commands.specs.Admission.{Admission, EndsEarly, Admitted, entrant_of}
+use Rattle.run_commands.specs.AdmissionTerms.{EntersIn}
 use Rattle.generate_commands.specs.Summary.{is_send, sends, has_left, leaves, frames_in, left_in}
-use Rattle.packet_walk.proofs.PublicLaws.{end_of-cons, goes_on}
+use Rattle.packet_walk.proofs.PublicLaws.{end_of_cons, goes_on}
 use Rattle.run_commands.proofs.PublicLaws.{step_by, walk_goes_on, walk_ends}
 
 -- a packet that enters within the network stands at a place of it
-pub comes-placed : (net : Network) (entry : Entry) (comes : Comes) → EntersIn net entry → Some comes ≡ comes_of entry
+pub comes_placed : (net : Network) (entry : Admission) (comes : Entrant) → EntersIn net entry → Some comes ≡ entrant_of entry
     → IsPlace net comes.place
-comes-placed net (Staying stays) comes within is = absurd (cc)
-comes-placed net (Entering other) comes within is =
+comes_placed net (EndsEarly stays) comes within is = absurd (cc)
+comes_placed net (Admitted other) comes within is =
     let same : other ≡ comes = cc in
-    subst (λ (c : Comes). IsPlace net c.place) same within
+    subst (λ (c : Entrant). IsPlace net c.place) same within
 
 -- how many stages of a walk send
 abbrev pub sent_in : List Stage → ℕ
@@ -34,8 +35,8 @@ sent_in steps = count_by sends steps
 abbrev pub frames_by : Outcome → ℕ
 frames_by outcome = cond (is_send outcome) 1 0
 
-sent-cons : (s : Stage) (rest : List Stage) → sent_in (s ∷ rest) ≡ frames_by s.gave.outcome + sent_in rest
-sent-cons s rest = let both = sum_by-append (λ (t : Stage). cond (sends t) 1 0) (s ∷ []) rest in omega (arith, both)
+sent_cons : (s : Stage) (rest : List Stage) → sent_in (s ∷ rest) ≡ frames_by s.gave.outcome + sent_in rest
+sent_cons s rest = let both = sum_by-append (λ (t : Stage). cond (sends t) 1 0) (s ∷ []) rest in omega (arith, both)
 
 -- of a whole walk some stages are left: so many sends were counted before, and the end is theirs
 pub record Counted (net : Network) (left whole : List Stage) (sent : ℕ) : Type 0 where
@@ -69,11 +70,11 @@ module _ (net : Network) (all more : ℕ) (place : Place) (content : Content) (p
   abbrev stage : Stage
   stage = step_by net all more place content pick taken gave is gives
 
-  sum-on : (rest : List Stage) → walk_of all net (Some place) content pick taken ≡ stage ∷ rest
+  sum_on : (rest : List Stage) → walk_of all net (Some place) content pick taken ≡ stage ∷ rest
       → sent + frames_by gave.outcome + sent_in rest ≡ sent_in whole
-  sum-on rest begins =
+  sum_on rest begins =
       let sum = p.sum in
-      let first = ap sent_in begins ∙ sent-cons stage rest in
+      let first = ap sent_in begins ∙ sent_cons stage rest in
       omega (arith, sum, first)
 
   pub counted_on : (next : Place) → next_place net place gave.outcome ≡ Some next
@@ -83,32 +84,32 @@ module _ (net : Network) (all more : ℕ) (place : Place) (content : Content) (p
       let rest = walk_of more net (Some next) gave.after pick (taken + decisions gave.outcome) in
       let begins = walk_goes_on net all more place content pick taken gave is gives next goes in
       record {
-        sum = sum-on rest begins;
-        ends = sym (end_of-cons net stage rest (goes_on net place next gave.outcome goes)) ∙ (ap (end_of net) (sym begins) ∙ p.ends);
+        sum = sum_on rest begins;
+        ends = sym (end_of_cons net stage rest (goes_on net place next gave.outcome goes)) ∙ (ap (end_of net) (sym begins) ∙ p.ends);
       }
 
   pub counted_end : next_place net place gave.outcome ≡ None
       → (sent + frames_by gave.outcome ≡ sent_in whole) × (end_by net place gave.outcome ≡ end_of net whole)
   counted_end stops =
       let begins = walk_ends net all more place content pick taken gave is gives stops in
-      let sum = sum-on [] begins in
+      let sum = sum_on [] begins in
       (omega (arith, sum), ap (end_of net) (sym begins) ∙ p.ends)
 
 -- packets that are counted: those from a number on are left
 
 module _ (walks : ℕ → List (List Stage)) where
   -- the walks of so many packets after so many
-  abbrev walks-from : ℕ → ℕ → List (List Stage)
-  walks-from before count = flat_map walks (range_with_len (before + 1) count)
+  abbrev walks_from : ℕ → ℕ → List (List Stage)
+  walks_from before count = flat_map walks (range_with_len (before + 1) count)
 
   -- packets of which some are left, by a count of walks
   module _ (count : List (List Stage) → ℕ) (adds : (xs ys : List (List Stage)) → count (xs ++ ys) ≡ count xs + count ys) where
     pub summed_on : (before left more n m whole : ℕ) → left ≡ suc more → m ≡ count (walks (before + 1))
-        → n + count (walks-from before left) ≡ whole → n + m + count (walks-from (before + 1) more) ≡ whole
+        → n + count (walks_from before left) ≡ whole → n + m + count (walks_from (before + 1) more) ≡ whole
     summed_on before left more n m whole is next so_far =
-        let first = adds (walks (before + 1)) (walks-from (before + 1) more) in
-        let all : count (walks-from before left) ≡ count (walks (before + 1) ++ walks-from (before + 1) more)
-        = ap (λ (k : ℕ). count (walks-from before k)) is in
+        let first = adds (walks (before + 1)) (walks_from (before + 1) more) in
+        let all : count (walks_from before left) ≡ count (walks (before + 1) ++ walks_from (before + 1) more)
+        = ap (λ (k : ℕ). count (walks_from before k)) is in
         omega (arith, so_far, next, first, all)
 
 -- the counts of walks add up

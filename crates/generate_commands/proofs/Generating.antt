@@ -3,20 +3,21 @@ use Rattle.std.proofs.Common.{◌≡◌, inl, inr, ℕ, false, List, [], Option,
 use Rattle.srx_edge.specs.FilesRead.{FilesSeen}
 use Rattle.srx_edge.specs.Sources.{SourceSeen}
 use Rattle.srx_edge.specs.Sinks.{SinkSeen, sent}
-use Rattle.srx_edge.specs.Steps.{How, Wrote}
+use Rattle.srx_edge.specs.CallSteps.{How}
+use Rattle.srx_edge.specs.CallStepsTerms.{Wrote}
 use Rattle.net_model.specs.Network.{Network}
-use Rattle.flat_networks.specs.declared.not_flat.NotFlat.{NotFlat}
-use Rattle.net_maker.specs.Networks.{net_text}
-use Rattle.net_maker.specs.Intents.{intent_text}
+use Rattle.net_flatness.specs.declared.not_flat.NotFlat.{NotFlat}
+use Rattle.net_generator.specs.Networks.{net_text}
+use Rattle.net_generator.specs.Intents.{intent_text}
 use Rattle.intent_reader.specs.declared.intent.Intent.{Intent}
 use Rattle.list_pack.specs.declared.types.Solution.{Solution}
 use Rattle.path_compiler.specs.declared.compiled.Compiled.{Compiled}
 use Rattle.path_compiler.specs.declared.compiled.CompileFault.TheVariants as faults
-use Rattle.generate_commands.specs.declared.gen_.Generated.{Generated}
-use Rattle.generate_commands.specs.declared.gen_.Generated.TheVariants as generates
-use Rattle.generate_commands.specs.declared.gen_.Made.{Made}
-use Rattle.generate_commands.specs.declared.gen_.Made.TheVariants as mades
-use Rattle.generate_commands.specs.declared.gen_.TheConstants.{PACKETS}
+use Rattle.generate_commands.specs.declared.gen_command.Generated.{Generated}
+use Rattle.generate_commands.specs.declared.gen_command.Generated.TheVariants as generates
+use Rattle.generate_commands.specs.declared.gen_command.Made.{Made}
+use Rattle.generate_commands.specs.declared.gen_command.Made.TheVariants as mades
+use Rattle.generate_commands.specs.declared.gen_command.TheConstants.{PACKETS}
 use Rattle.command_output.specs.declared.halt.Failure.{Failure}
 use Rattle.command_output.specs.declared.halt.Failure.TheVariants as failures
 use Rattle.command_output.specs.declared.halt.Halt.{Halt}
@@ -24,23 +25,24 @@ use Rattle.command_output.specs.declared.halt.Halt.TheVariants as halts
 use Rattle.command_output.specs.declared.refusal.Refusal.{Refusal}
 use Rattle.command_output.specs.declared.status.Status.TheVariants as statuses
 use Rattle.generate_commands.specs.declared.summed.Summary.{Summary}
-use Rattle.command_output.specs.declared.told.Text.{Text}
-use Rattle.command_output.specs.declared.told.Told.{Told}
-use Rattle.command_output.specs.Answers.{CommandsOut, JudgesText, ending_of_failure}
-use Rattle.walk_commands.specs.Lists.{CompiledWants, IntentWants, NetworkWants, hop_limit_line, none_line, too_long_line}
+use Rattle.command_output.specs.declared.conclusion.Text.{Text}
+use Rattle.command_output.specs.declared.conclusion.Conclusion.{Conclusion}
+use Rattle.command_output.specs.CommandAnswers.{CommandsOut, JudgesText, ending_of_failure}
+use Rattle.walk_commands.specs.WalkLists.{CompiledWants, IntentWants, NetworkWants, hop_limit_line, none_line, too_long_line}
 use Rattle.command_output.specs.Halts.{flat_refusal}
-use Rattle.generate_commands.specs.Gen.{GenWants, Generates, SumWants, gen_shape, summary_lines}
-use Rattle.walk_commands.specs.Walk.{no_list}
+use Rattle.generate_commands.specs.GenCommand.{GenWants, SumWants, gen_spec, summary_lines}
+use Rattle.generate_commands.specs.GenCommandTerms.{Generates}
+use Rattle.walk_commands.specs.WalkCommand.{no_list}
 use Rattle.command_inputs.specs.Judgements.{network_in, intent_in}
 use Rattle.command_output.specs.Outputs.{refused}
-use Rattle.command_output.specs.Lines.{bytes_of_text}
+use Rattle.command_output.specs.OutputLinesTerms.{bytes_of_text}
 use Rattle.command_output.specs.Outside.{AsksAs, FailsBy, files_left_by, outside}
-use Rattle.command_output.specs.Pieces.{Stop, Never, At, Elsewhere, ToOut, stop_at}
+use Rattle.command_output.specs.OutputPieces.{Stop, Never, At, Elsewhere, ToOut}
+use Rattle.command_output.specs.OutputPiecesTerms.{stop_at}
 use Rattle.command_output.specs.Endings.{Takes}
-use Rattle.command_output.specs.Shape.{names_of}
-use Rattle.generate_commands.specs.Summary.{SummaryAnswers}
-use Rattle.command_output.proofs.PublicLaws.{each, is_at_input, reads_its_none, reads_nothing}
-use Rattle.command_output.proofs.PublicLaws.{memory_first, pieces_whole, refused_commands, written_cut, written_whole}
+use Rattle.command_output.specs.CommandSpec.{names_of}
+use Rattle.generate_commands.specs.SummaryTerms.{SummaryAnswers}
+use Rattle.command_output.proofs.PublicLaws.{each, is_at_input, reads_its_none, reads_nothing, memory_first, pieces_whole, refused_commands, written_cut, written_whole}
 
 -- what is to be written of a summary, or of the compiler's answer where there is none
 
@@ -97,47 +99,47 @@ pub ruleset summaries =
 module _ (n : ℕ) (made : Made) (f : FilesSeen) (s : SourceSeen) where
   -- no file is asked for
   takes : (stop : Stop) → AsksAs stop [] [] → f ≡ files_left_by stop f → FailsBy stop [] f → is_at_input stop ≡ false
-      → Takes (gen_shape n made) stop f f s s
+      → Takes (gen_spec n made) stop f f s s
   takes stop those seen fails other = record {
     asks = record {
       names = [];
       in_order = record { rest = []; whole = refl };
-      those = each f.told (λ held. AsksAs stop (names_of (gen_shape n made) held) []) (λ held. those);
+      those = each f.told (λ held. AsksAs stop (names_of (gen_spec n made) held) []) (λ held. those);
       fails = fails;
       seen = seen;
     };
     reads = reads_nothing stop s other;
     unread = each f.told (λ held. Unit {0} → s ≡ s) (λ held _. refl);
     reads_none = λ _. refl;
-    reads_its = reads_its_none (gen_shape n made) f.told stop s s refl;
+    reads_its = reads_its_none (gen_spec n made) f.told stop s s refl;
   }
 
-  takes-how : (how : Option How) → Takes (gen_shape n made) (stop_at ToOut how) f f s s
-  takes-how None = takes Elsewhere (record { rest = []; whole = refl }) refl tt refl
-  takes-how (Some how) = takes (At ToOut how) refl refl tt refl
+  takes_how : (how : Option How) → Takes (gen_spec n made) (stop_at ToOut how) f f s s
+  takes_how None = takes Elsewhere (record { rest = []; whole = refl }) refl tt refl
+  takes_how (Some how) = takes (At ToOut how) refl refl tt refl
 
   -- nothing was made
   pub gen_halted : (halt : Halt) (o : SinkSeen) → Generates (GenWants n made) (Err halt)
-      → CommandsOut (gen_shape n made) (Err halt) f f s s o o
+      → CommandsOut (gen_spec n made) (Err halt) f f s s o o
   gen_halted (halts.Refused refusal) o h =
-      refused_commands (gen_shape n made) refusal f f s s o h (inr (inl refl)) (takes Never refl refl tt refl)
+      refused_commands (gen_spec n made) refusal f f s s o h (inr (inl refl)) (takes Never refl refl tt refl)
   gen_halted (halts.Failed failures.Fault) o none = absurd none
-  gen_halted (halts.Failed failures.NoMemory) o h = memory_first (gen_shape n made) f s o
+  gen_halted (halts.Failed failures.NoMemory) o h = memory_first (gen_spec n made) f s o
 
   module _ (text : Text) (h : Generates (GenWants n made) (Ok (generates.Report text))) (o p : SinkSeen) where
     -- the text didn't go out whole
     pub gen_cut : (failure : Failure) → Wrote (ending_of_failure failure) (bytes_of_text text) o p
-        → CommandsOut (gen_shape n made) (Err (halts.Failed failure)) f f s s o p
-    gen_cut failure wrote = written_cut (gen_shape n made) failure (bytes_of_text text) [] statuses.Done f f s s o p wrote h takes-how
+        → CommandsOut (gen_spec n made) (Err (halts.Failed failure)) f f s s o p
+    gen_cut failure wrote = written_cut (gen_spec n made) failure (bytes_of_text text) [] statuses.Done f f s s o p wrote h takes_how
 
     -- it did
-    pub gen_done : (told : Told) → bytes_of_text told.line ≡ [] → told.status ≡ statuses.Done → p ≡ sent (bytes_of_text text) o
-        → CommandsOut (gen_shape n made) (Ok told) f f s s o p
-    gen_done told line status went = written_whole (gen_shape n made) told (bytes_of_text text) f f s s o p went
+    pub gen_done : (told : Conclusion) → bytes_of_text told.line ≡ [] → told.status ≡ statuses.Done → p ≡ sent (bytes_of_text text) o
+        → CommandsOut (gen_spec n made) (Ok told) f f s s o p
+    gen_done told line status went = written_whole (gen_spec n made) told (bytes_of_text text) f f s s o p went
         (rw (line, status) h) (rw status refl) (inl status) (takes Never refl refl tt refl) (λ _ no. cc)
 
   -- there is no list, and nothing is written but its line
-  pub gen_without_list : (line : Text) (told : Told) (o : SinkSeen) → Generates (GenWants n made) (Ok (generates.NoList line))
-      → told.line ≡ line → told.status ≡ statuses.NoAnswer → CommandsOut (gen_shape n made) (Ok told) f f s s o o
-  gen_without_list line told o h is status = λ err. pieces_whole (gen_shape n made) [] (outside f s o err) (outside f s o err) told refl
+  pub gen_without_list : (line : Text) (told : Conclusion) (o : SinkSeen) → Generates (GenWants n made) (Ok (generates.NoList line))
+      → told.line ≡ line → told.status ≡ statuses.NoAnswer → CommandsOut (gen_spec n made) (Ok told) f f s s o o
+  gen_without_list line told o h is status = λ err. pieces_whole (gen_spec n made) [] (outside f s o err) (outside f s o err) told refl
       (rw (is, status) h) (rw status refl) (inr (inr (inl status))) (takes Never refl refl tt refl) (λ done. cc (sym status ∙ done))

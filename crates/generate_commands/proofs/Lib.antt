@@ -1,4 +1,4 @@
 pub mod Counting
 pub mod Generating
-pub mod OneOutput
+pub mod GenerateOneOutput
 pub mod PublicLaws

@@ -1,2 +1,2 @@
 -- The lemmas that crates above may cite.
-pub use Rattle.generate_commands.proofs.OneOutput.{gen-one}
+pub use Rattle.generate_commands.proofs.GenerateOneOutput.{gen_one}

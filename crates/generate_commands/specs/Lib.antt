@@ -1,2 +1,4 @@
-pub mod Gen
+pub mod GenCommand
+pub mod GenCommandTerms
 pub mod Summary
+pub mod SummaryTerms

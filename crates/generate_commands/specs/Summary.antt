@@ -1,9 +1,9 @@
--- What a network, an intent, its list and the walks of generated packets come to, in numbers (own rule).
-use Rattle.std.specs.Prelude.{◌≡◌, ℕ, Bool, true, false, List, [], ◌∷◌, length, sum_by, count_by, Option, Some, None, Result, Ok, Err}
+-- What a network, an intent, its list and the walks of generated packets come to, in numbers.
+use Rattle.std.specs.Prelude.{ℕ, Bool, true, false, List, [], ◌∷◌, length, sum_by, count_by, Option, Some, None}
 use Rattle.std.specs.List.{flat_map, range_with_len}
 use Rattle.pcap_io.specs.declared.frame.Body.TheVariants as bodies
 use Rattle.srv6_rules.specs.Packet.{spelling}
-use Rattle.net_maker.specs.Packets.{generated_packet}
+use Rattle.net_generator.specs.GeneratedPackets.{generated_packet}
 use Rattle.net_model.specs.Network.{Network}
 use Rattle.walk_rules.specs.declared.place.Outcome.{Outcome}
 use Rattle.walk_rules.specs.declared.place.Outcome.TheVariants as outcomes
@@ -12,30 +12,28 @@ use Rattle.walk_rules.specs.declared.place.Ended.TheVariants as ends
 use Rattle.walk_rules.specs.Walk.{Stage, end_of}
 use Rattle.intent_reader.specs.declared.intent.Intent.{Intent}
 use Rattle.path_compiler.specs.declared.compiled.Compiled.{Compiled}
-use Rattle.path_compiler.specs.declared.compiled.CompileFault.{CompileFault}
-use Rattle.walk_commands.specs.Lists.{IntentAnswers, IsCompiledFor, IsLeastFor, NoneLessFor}
-use Rattle.run_commands.specs.declared.enters.Comes.{Comes}
-use Rattle.run_commands.specs.Entry.{Entry, comes_of, walk_of_comes}
+use Rattle.run_commands.specs.declared.enters.Entrant.{Entrant}
+use Rattle.run_commands.specs.Admission.{Admission, entrant_of, walk_of_entrant}
 use Rattle.walk_commands.specs.declared.headend.Headend.{Headend}
 use Rattle.generate_commands.specs.declared.summed.Summary.{Summary}
-use Rattle.walk_commands.specs.Walk.{entry_at_headend, headend_of}
+use Rattle.walk_commands.specs.WalkCommand.{admission_at_headend, headend_of}
 
 -- the choices that each walk takes
 abbrev pub summary_choices : List ℕ
 summary_choices = 0 ∷ 1 ∷ []
 
 -- generated packet k at a headend, as the command `walk` has it there
-abbrev pub generated_at_headend : Headend → ℕ → Entry
-generated_at_headend headend k = entry_at_headend headend (bodies.V6 (spelling (generated_packet k)))
+abbrev pub generated_at_headend : Headend → ℕ → Admission
+generated_at_headend headend k = admission_at_headend headend (bodies.V6 (spelling (generated_packet k)))
 
 -- the walk of what enters; what stays at the headend has none
-abbrev pub walks_by : Network → Option Comes → List (List Stage)
+abbrev pub walks_by : Network → Option Entrant → List (List Stage)
 walks_by net None = []
-walks_by net (Some comes) = walk_of_comes net summary_choices comes ∷ []
+walks_by net (Some comes) = walk_of_entrant net summary_choices comes ∷ []
 
 -- the walk of generated packet k, if it has one
 abbrev pub walks_of_packet : Network → Headend → ℕ → List (List Stage)
-walks_of_packet net headend k = walks_by net (comes_of (generated_at_headend headend k))
+walks_of_packet net headend k = walks_by net (entrant_of (generated_at_headend headend k))
 
 -- the walks of so many generated packets, numbered from 1
 abbrev pub walks_of : Network → Headend → ℕ → List (List Stage)
@@ -86,9 +84,3 @@ summary_of net intent c packets =
       frames = frames_in walks;
       left = left_in net walks;
     }
-
--- the summary of a list that the intent is compiled to, or the compiler's answer where there is none
-abbrev pub SummaryAnswers : Network → Intent → ℕ → Result Summary CompileFault → Type 0
-SummaryAnswers net intent packets (Ok s) =
-    (c : Compiled) × IsCompiledFor net intent c × IsLeastFor net intent c × (s ≡ summary_of net intent c packets)
-SummaryAnswers net intent packets (Err fault) = IntentAnswers net intent (Err fault) × NoneLessFor net intent (Err fault)

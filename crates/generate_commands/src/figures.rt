@@ -2,9 +2,9 @@
 //! does nothing.
 
 ghost use Rattle.std.specs.Prelude.{◌≡◌};
-ghost use Rattle.generate_commands.specs.declared.gen_.TheConstants.{PACKETS};
+ghost use Rattle.generate_commands.specs.declared.gen_command.TheConstants.{PACKETS};
 
-/// The summary that is generated is of 1,000 packets. (own rule)
+/// The summary that is generated is of 1,000 packets.
 pub fn numbers_have_their_figures()
     ensures { PACKETS ≡ 1000 }
 {}

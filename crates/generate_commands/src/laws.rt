@@ -1,13 +1,13 @@
 //! A law of the definitions: the contract of a function that does nothing.
 
 ghost use Rattle.std.specs.Prelude.{◌≡◌, ℕ, List};
-ghost use Rattle.command_output.specs.Pieces.{Output};
-ghost use Rattle.command_output.specs.Shape.{Held};
-ghost use Rattle.generate_commands.specs.declared.gen_.Made.{Made};
-ghost use Rattle.generate_commands.specs.Gen.{gen_shape};
+ghost use Rattle.command_output.specs.OutputPieces.{Output};
+ghost use Rattle.command_output.specs.CommandSpec.{Held};
+ghost use Rattle.generate_commands.specs.declared.gen_command.Made.{Made};
+ghost use Rattle.generate_commands.specs.GenCommand.{gen_spec};
 
-/// Of one size `gen` has one output for each thing that it generates. (own rule)
+/// Of one size `gen` has one output for each thing that it generates.
 pub fn gen_has_one_output()
     ensures { (n : ℕ) (made : Made) (held : Held) (input : List ℕ) (a b : Output)
-        → (gen_shape n made).wants held input a → (gen_shape n made).wants held input b → a ≡ b }
+        → (gen_spec n made).wants held input a → (gen_spec n made).wants held input b → a ≡ b }
 {}

@@ -1,6 +1,6 @@
 //! The numbers of a summary.
 
-/// What a network, an intent, its list and the walks of generated packets come to. (own rule)
+/// What a network, an intent, its list and the walks of generated packets come to.
 #[derive(Clone, Copy, Debug, PartialEq, Eq)]
 pub struct Summary {
     /// The network's nodes.

@@ -1,37 +1,39 @@
 //! What a network, an intent, its list and the walks of generated packets come to, in numbers.
 
 ghost use Rattle.std.specs.Prelude.{◌≡◌, ◌≤◌, ◌<◌, ◌∷◌, [], cond, IfOk, length};
-ghost use Rattle.srv6_rules.specs.Policies.{IsPolicy};
+ghost use Rattle.srv6_rules.specs.PoliciesTerms.{IsPolicy};
 ghost use Rattle.walk_rules.specs.Relation.{IsPlace};
-ghost use Rattle.intent_reader.specs.Rules.{IsIntent};
-ghost use Rattle.walk_commands.specs.Lists.{IsCompiledFor};
-ghost use Rattle.run_commands.specs.Entry.{AllEnterIn, walk_of_comes};
-ghost use Rattle.walk_commands.specs.Walk.{entry_at_headend};
-ghost use Rattle.generate_commands.specs.Summary.{SummaryAnswers, frames_in, has_left, is_send, left_in, summary_of, walks_of, walks_of_packet};
+ghost use Rattle.intent_reader.specs.IntentRulesTerms.{IsIntent};
+ghost use Rattle.walk_commands.specs.WalkLists.{IsCompiledFor};
+ghost use Rattle.run_commands.specs.Admission.{walk_of_entrant};
+ghost use Rattle.run_commands.specs.AdmissionTerms.{AllEnterIn};
+ghost use Rattle.walk_commands.specs.WalkCommand.{admission_at_headend};
+ghost use Rattle.generate_commands.specs.Summary.{frames_in, has_left, is_send, left_in, summary_of, walks_of, walks_of_packet};
+ghost use Rattle.generate_commands.specs.SummaryTerms.{SummaryAnswers};
 
 use crate::summed::Summary;
 use base::NoMemory;
 use icmp6_errors::IcmpSlot;
 use intent_reader::Intent;
-use net_maker::write_packet;
+use net_generator::write_packet;
 use net_model::Net;
 use packet_walk::decisions_of;
 use path_compiler::{CompileFault, Compiled};
 use pcap_io::{LentBody, LentFrame};
 use pkt_buf::PktBuf;
-use run_commands::{Comes, Enters, take_stage};
+use run_commands::{Enters, Entrant, take_stage};
 use std::alloc::Global;
-use walk_commands::lists::least_list;
+use walk_commands::walk_lists::least_list;
 use walk_commands::{Headend, headend_of};
 use walk_rules::{Ended, MAX_STAGES, Outcome, ended_by, next_place};
 
-/// The most packets of a summary. (own rule)
+/// The most packets of a summary.
 pub const MAX_PACKETS: u32 = 65_535;
 
-/// The choices that each walk takes. (own rule)
+/// The choices that each walk takes.
 const CHOICES: [u32; 2] = [0, 1];
 
-/// What walks come to. (own rule)
+/// What walks come to.
 #[derive(Clone, Copy, Debug)]
 pub struct Counts {
     /// How many of their stages send.
@@ -76,17 +78,17 @@ fn counts_by(sent: usize, ended: &Ended) -> Counts
 }
 
 /// Walks a packet from where it enters as `drive` does, and counts what it would write.
-fn count_walk(alloc: Global, net: &Net, comes: Comes, choices: &[u32]) -> Result<Counts, NoMemory>
+fn count_walk(alloc: Global, net: &Net, comes: Entrant, choices: &[u32]) -> Result<Counts, NoMemory>
     requires place { IsPlace net.now comes.place }
     requires choices { 0 < length choices.now }
     ensures frames { IfOk result (λ counts. counts.frames
-        ≡ frames_in (walk_of_comes net.now choices.now comes ∷ [])) }
+        ≡ frames_in (walk_of_entrant net.now choices.now comes ∷ [])) }
     ensures left { IfOk result (λ counts. counts.left
-        ≡ left_in net.now (walk_of_comes net.now choices.now comes ∷ [])) }
+        ≡ left_in net.now (walk_of_entrant net.now choices.now comes ∷ [])) }
     ensures few { IfOk result (λ counts. counts.frames ≤ MAX_STAGES) }
     ensures one { IfOk result (λ counts. counts.left ≤ 1) }
 {
-    let Comes {
+    let Entrant {
         mut place,
         mut content,
     } = comes;
@@ -109,7 +111,7 @@ fn count_walk(alloc: Global, net: &Net, comes: Comes, choices: &[u32]) -> Result
 /// What the walk of generated packet k comes to, if the headend encapsulates it.
 fn count_packet(alloc: Global, net: &Net, headend: &Headend, k: u32) -> Result<Counts, NoMemory>
     requires ready { IsPolicy headend.now.policy }
-    requires within { AllEnterIn net.now (entry_at_headend headend.now) }
+    requires within { AllEnterIn net.now (admission_at_headend headend.now) }
     requires number { k ≤ MAX_PACKETS }
     ensures frames { IfOk result (λ counts. counts.frames
         ≡ frames_in (walks_of_packet net.now headend.now k)) }
@@ -136,7 +138,7 @@ fn count_packets(
     packets: u32,
 ) -> Result<Counts, NoMemory>
     requires ready { IsPolicy headend.now.policy }
-    requires within { AllEnterIn net.now (entry_at_headend headend.now) }
+    requires within { AllEnterIn net.now (admission_at_headend headend.now) }
     requires number { packets ≤ MAX_PACKETS }
     ensures frames { IfOk result (λ counts. counts.frames
         ≡ frames_in (walks_of net.now headend.now packets)) }
@@ -186,11 +188,11 @@ fn summary_of_list(
 }
 
 /// Compiles an intent that keeps the rules in a network, as `compile` does, to a list that may
-/// execute SIDs that bind policies, and walks so many generated packets, numbered from 1, from its
+/// execute binding SIDs, and walks so many generated packets, numbered from 1, from its
 /// headend with the list, one after the other, as the command `walk` does with choices 0 and 1:
 /// what all that comes to in numbers. A packet that the headend drops,
 /// or that is not of the intent's family, is counted in `packets` alone. The refusals are those of
-/// `compile`, and come where it gives them. (own rule)
+/// `compile`, and come where it gives them.
 pub fn summary(
     alloc: Global,
     net: &Net,

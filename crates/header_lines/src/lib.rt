@@ -2,12 +2,12 @@
 //!
 //! `lines_of_packet` reads bytes as a packet of a family. Of an IPv6 packet it goes along the chain
 //! of extension headers and writes a line or more of each, of an IPv4 packet it writes one line.
-//! `specs/Lines.antt` says what is written.
+//! `specs/HeaderLines.antt` says what is written.
 #![tactic(auto)]
 
-mod chain;
-mod header;
-mod packet;
-mod routing;
+mod chain_lines;
+mod header_fields;
+mod packet_lines;
+mod routing_lines;
 
-pub use packet::lines_of_packet;
+pub use packet_lines::lines_of_packet;

@@ -1,4 +1,4 @@
 -- The lengths that packets state.
-use Rattle.ip6_headers.proofs.PublicLaws.{holds-payload_len}
+use Rattle.ip6_headers.proofs.PublicLaws.{holds_payload_len}
 
-pub ruleset lengths = (holds-payload_len)
+pub ruleset lengths = (holds_payload_len)

@@ -1,7 +1,8 @@
 //! What a packet at a SID takes: bytes that hold a packet and nothing else, and a SID.
 
 ghost use Rattle.std.specs.Prelude.{◌≡◌, false};
-ghost use Rattle.srv6_rules.specs.CompressedSteps.{SuitsCompression, is_next};
+ghost use Rattle.srv6_rules.specs.CompressedSteps.{is_next};
+ghost use Rattle.srv6_rules.specs.CompressedStepsTerms.{SuitsCompression};
 ghost use Rattle.endpoint_chain.specs.Outcomes.{HoldsAlone};
 
 use ip6_headers::Ip6View;

@@ -2,7 +2,8 @@
 
 ghost use Rattle.std.specs.Prelude.{◌≡◌, ◌-◌, ◌*◌, ◌≤◌, length};
 ghost use Rattle.srv6_rules.specs.Packet.{address_bytes};
-ghost use Rattle.srv6_rules.specs.Checksum.{all_ones, carried, pseudo_header, word_sum};
+ghost use Rattle.srv6_rules.specs.Checksum.{all_ones, pseudo_header};
+ghost use Rattle.srv6_rules.specs.ChecksumTerms.{carried, word_sum};
 
 use srv6_rules::numbers::{ICMPV6, MIN_MTU};
 use v6_addr::Addr;

@@ -1,7 +1,8 @@
 //! The bytes of an error message in front of what it quotes (RFC 4443 section 3).
 
 ghost use Rattle.std.specs.Prelude.{◌≡◌};
-ghost use Rattle.srv6_rules.specs.Errors.{IsKind, code_of, message_head, last_word_of, type_of};
+ghost use Rattle.srv6_rules.specs.Errors.{code_of, message_head, last_word_of, type_of};
+ghost use Rattle.srv6_rules.specs.ErrorsTerms.{IsKind};
 
 use srv6_rules::IcmpKind;
 use srv6_rules::numbers::{

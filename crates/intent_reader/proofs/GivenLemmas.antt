@@ -2,7 +2,7 @@
 use Rattle.std.proofs.Common.{◌≡◌, Bool, true, false, cond, Option, Some, None, refl, ap, subst}
 use Rattle.std.specs.Prelude.{Result, Ok, Err}
 use Rattle.std.proofs.lemmas.Option.{same_Some}
-use Rattle.toml_words.specs.Reading.{◌>>=◌, or_fault}
+use Rattle.toml_reader.specs.TomlReading.{◌>>=◌, or_fault}
 
 -- a value that is given has the fact
 pub record Holds {F X : Type 0} (fact : X → Type 0) (r : Result X F) : Type 0 where

@@ -1,11 +1,11 @@
-pub mod Searches
-mod StepLemmas
+pub mod IntentSearches
+mod IntentStepLemmas
 pub mod FunctionLemmas
-pub mod ListReading
+pub mod IntentListReading
 pub mod WalkLemmas
-pub mod KeepsLemmas
+pub mod IntentKeepsLemmas
 pub mod GivenLemmas
-pub mod RangeLemmas
-pub mod JudgingLemmas
+pub mod IntentRangeLemmas
+pub mod IntentJudgingLemmas
 pub mod NoFaultLemmas
 pub mod PublicLaws

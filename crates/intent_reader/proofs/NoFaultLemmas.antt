@@ -6,25 +6,26 @@ use Rattle.std.proofs.lemmas.Bool.{and_parts}
 use Rattle.std.proofs.lemmas.Option.{same_Some, cond_some}
 use Rattle.net_model.specs.Network.{Network}
 use Rattle.net_model.specs.Named.{node_numbered, link_numbered}
-use Rattle.net_model.specs.Rules.{are_distinct, same_number}
-use Rattle.toml_words.specs.Reading.{or_fault}
-use Rattle.net_words.specs.declared.limits.TheConstants.{MAX_STEPS, MAX_CONTAINERS}
-use Rattle.net_words.specs.declared.step.DescribedStep.{DescribedStep}
-use Rattle.net_words.specs.declared.step.DescribedStep.TheVariants as described
-use Rattle.net_words.specs.declared.intent.DescribedIntent.{DescribedIntent}
+use Rattle.net_model.specs.NetworkRules.{are_distinct, same_number}
+use Rattle.toml_reader.specs.TomlReading.{or_fault}
+use Rattle.net_syntax.specs.declared.limits.TheConstants.{MAX_STEPS, MAX_CONTAINERS}
+use Rattle.net_syntax.specs.declared.step_table.DescribedStep.{DescribedStep}
+use Rattle.net_syntax.specs.declared.step_table.DescribedStep.TheVariants as described
+use Rattle.net_syntax.specs.declared.intent_table.DescribedIntent.{DescribedIntent}
 use Rattle.intent_reader.specs.declared.intent.Step.{Step}
 use Rattle.intent_reader.specs.declared.intent.Step.TheVariants.{Links, Function, Reach}
 use Rattle.intent_reader.specs.declared.intent.Intent.{Intent}
 use Rattle.intent_reader.specs.declared.fault.IntentFault.TheVariants as faults
 use Rattle.intent_reader.specs.declared.fault.StepFault.TheVariants as kinds
 use Rattle.intent_reader.specs.Functions.{function_numbered}
-use Rattle.intent_reader.specs.Reading.{each_of}
-use Rattle.intent_reader.specs.Rules.{far_node, first_end, node_after, stand_after, ends_in_function, is_within_loose_limit, is_intent, IsIntent}
+use Rattle.intent_reader.specs.IntentReading.{each_of}
+use Rattle.intent_reader.specs.IntentRules.{far_node, first_end, node_after, stand_after, ends_in_function, is_within_loose_limit}
+use Rattle.intent_reader.specs.IntentRulesTerms.{is_intent, IsIntent}
 use Rattle.intent_reader.specs.Described.{InRange, all_some, step_by_names, intent_by_names}
-use Rattle.intent_reader.specs.Judging.{link_at, step_named, astray, steps_from, intent_with, judged}
+use Rattle.intent_reader.specs.IntentJudging.{link_at, step_named, astray, steps_from, intent_with, judged}
 use Rattle.intent_reader.proofs.WalkLemmas.{then_some}
 use Rattle.intent_reader.proofs.GivenLemmas.{Holds, of_value, after, tested, tested_on, found}
-use Rattle.intent_reader.proofs.JudgingLemmas.{judged_keeps}
+use Rattle.intent_reader.proofs.IntentJudgingLemmas.{judged_keeps}
 
 -- ---- what is given is over the names' numbers
 

@@ -9,12 +9,12 @@ use Rattle.std.proofs.lemmas.List.Elements.{All-contains}
 use Rattle.srv6_rules.specs.declared.sid.SidEntry.{SidEntry}
 use Rattle.net_model.specs.declared.parts.Link.{Link}
 use Rattle.net_model.specs.Network.{Network}
-use Rattle.net_model.specs.Keeps.{IsLinkSet}
+use Rattle.net_model.specs.NetworkKeeps.{IsLinkSet}
 use Rattle.net_model.proofs.PublicLaws.{link_set_from}
 use Rattle.intent_reader.specs.declared.intent.Step.{Step}
 use Rattle.intent_reader.specs.declared.intent.Step.TheVariants.{Links, Function, Reach}
-use Rattle.intent_reader.specs.Rules.{end_of_link, is_at, ends_at, far_node, first_end, function_node, reached_node, node_after, stand_after, is_function, ends_in_function}
-use Rattle.intent_reader.specs.Keeps.{Leads, Steps, Stands, IsTaken}
+use Rattle.intent_reader.specs.IntentRules.{end_of_link, is_at, ends_at, far_node, first_end, function_node, reached_node, node_after, stand_after, is_function, ends_in_function}
+use Rattle.intent_reader.specs.IntentKeeps.{Leads, Steps, Stands, IsTaken}
 
 -- the last step
 

@@ -1,18 +1,19 @@
--- What holds of what an intent's text says, and the intent over its names whether or not it keeps the rules (own rule).
+-- Need not be believed: helps proofs and other laws.
+-- What holds of what an intent's text says, and the intent over its names whether or not it keeps the rules.
 use Rattle.std.specs.Prelude.{◌≤◌, List, [], ◌∷◌, length, Option, Some, option_map}
 use Rattle.std.specs.Option.{option_and_then}
 use Rattle.net_model.specs.declared.limits.TheConstants.{LAST_FLOW_LABEL}
 use Rattle.net_model.specs.Network.{Network}
 use Rattle.net_model.specs.Named.{node_numbered, link_numbered}
-use Rattle.net_words.specs.declared.limits.TheConstants.{MAX_STEPS, MAX_CONTAINERS}
-use Rattle.net_words.specs.declared.step.DescribedStep.{DescribedStep}
-use Rattle.net_words.specs.declared.step.DescribedStep.TheVariants as described
-use Rattle.net_words.specs.declared.intent.DescribedIntent.{DescribedIntent}
+use Rattle.net_syntax.specs.declared.limits.TheConstants.{MAX_STEPS, MAX_CONTAINERS}
+use Rattle.net_syntax.specs.declared.step_table.DescribedStep.{DescribedStep}
+use Rattle.net_syntax.specs.declared.step_table.DescribedStep.TheVariants as described
+use Rattle.net_syntax.specs.declared.intent_table.DescribedIntent.{DescribedIntent}
 use Rattle.intent_reader.specs.declared.intent.Step.{Step}
 use Rattle.intent_reader.specs.declared.intent.Step.TheVariants.{Links, Function, Reach}
 use Rattle.intent_reader.specs.declared.intent.Intent.{Intent}
 use Rattle.intent_reader.specs.Functions.{function_numbered}
-use Rattle.intent_reader.specs.Judging.{intent_with}
+use Rattle.intent_reader.specs.IntentJudging.{intent_with}
 
 -- its numbers are in their ranges, and it has some steps, but not too many
 pub record InRange (d : DescribedIntent) : Type 0 where

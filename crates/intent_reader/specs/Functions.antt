@@ -1,5 +1,5 @@
--- Functions, the SIDs with a title, by their titles' texts (own rule).
-use Rattle.std.specs.Prelude.{◌≡◌, ◌≢◌, ℕ, Bool, false, List, slice_get, Option, Some, None, bytes_eq, position}
+-- Functions, the SIDs with a title, by their titles' texts.
+use Rattle.std.specs.Prelude.{ℕ, Bool, false, List, slice_get, Option, Some, None, bytes_eq, position}
 use Rattle.srv6_rules.specs.declared.sid.SidEntry.{SidEntry}
 use Rattle.net_model.specs.Network.{Network}
 
@@ -19,8 +19,3 @@ has_title titles text s = is_text text (title_text titles s.title)
 -- the number of the first SID with the title
 abbrev pub function_numbered : List ℕ → Network → Option ℕ
 function_numbered text net = position (has_title net.titles text) net.sids
-
--- the number is that of a SID with the title; with none no SID has it
-abbrev pub IsFunctionNumbered : List ℕ → Network → Option ℕ → Type 0
-IsFunctionNumbered text net None = (i : ℕ) (s : SidEntry) → slice_get net.sids i ≡ Some s → title_text net.titles s.title ≢ Some text
-IsFunctionNumbered text net (Some i) = (s : SidEntry) × (slice_get net.sids i ≡ Some s) × (title_text net.titles s.title ≡ Some text)

@@ -1,7 +1,9 @@
-pub mod Faults
-pub mod Rules
+pub mod IntentFaults
+pub mod IntentRules
+pub mod IntentRulesTerms
 pub mod Functions
-pub mod Reading
-pub mod Judging
+pub mod FunctionsTerms
+pub mod IntentReading
+pub mod IntentJudging
 pub mod Described
-pub mod Keeps
+pub mod IntentKeeps

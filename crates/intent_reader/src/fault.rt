@@ -1,14 +1,14 @@
 //! Why a text gives no intent in a network.
 
 ghost use Rattle.std.specs.Prelude.{◌≡◌, Some};
-ghost use Rattle.intent_reader.specs.Faults.{step_fault_number, step_fault_name, intent_fault_number, intent_fault_text};
+ghost use Rattle.intent_reader.specs.IntentFaults.{step_fault_number, step_fault_name, intent_fault_number, intent_fault_text};
 
-use net_words::MAX_LOOSE_SIDS;
+use net_syntax::MAX_LOOSE_SIDS;
 use std::fmt;
 use std::fmt::{Display, Formatter};
 use text_faults::{OrNoMemory, TextFault};
 
-/// What is wrong with a step (own rules).
+/// What is wrong with a step.
 #[derive(Clone, Copy, Debug, PartialEq, Eq)]
 pub enum StepFault {
     /// No node has the name of the headend or of the node to be reached, or no link has a name of
@@ -23,7 +23,7 @@ pub enum StepFault {
     DoubleLink,
 }
 
-/// The first fault of a text that gives no intent in a network (own rules).
+/// The first fault of a text that gives no intent in a network.
 #[derive(Clone, Copy, Debug, PartialEq, Eq)]
 pub enum IntentFault {
     /// The text is not TOML, or does not say an intent.
@@ -42,14 +42,14 @@ pub enum IntentFault {
 }
 
 impl StepFault {
-    /// The fault of the step with a number (own rule).
+    /// The fault of the step with a number.
     pub fn at(self, step: u32) -> IntentFault
         ensures { result ≡ IntentFault.AtStep step self }
     {
         IntentFault::AtStep { step, kind: self }
     }
 
-    /// The number of the fault's refusal (own rule).
+    /// The number of the fault's refusal.
     pub fn number(self) -> u8
         ensures { result ≡ step_fault_number self }
     {
@@ -61,8 +61,8 @@ impl StepFault {
         }
     }
 
-    /// The fault's name (own rule).
-    #[tactic(auto, unfolding(crate::specs::Faults::step_fault_name))]
+    /// The fault's name.
+    #[tactic(auto, unfolding(crate::specs::IntentFaults::step_fault_name))]
     pub fn name(self) -> &'static str
         ensures { result.now ≡ step_fault_name self }
     {
@@ -76,7 +76,7 @@ impl StepFault {
 }
 
 impl IntentFault {
-    /// The number of the fault's refusal (own rule).
+    /// The number of the fault's refusal.
     pub fn number(self) -> u8
         ensures { result ≡ intent_fault_number self }
     {
@@ -93,7 +93,7 @@ impl IntentFault {
 impl Display for IntentFault {
     ghost output = { λ fault. Some (intent_fault_text fault) };
 
-    #[tactic(auto, unfolding(crate::specs::Faults::intent_fault_text))]
+    #[tactic(auto, unfolding(crate::specs::IntentFaults::intent_fault_text))]
     fn fmt<W: fmt::Write>(&self, f: &mut Formatter<W>) -> fmt::Result {
         match self {
             IntentFault::Text(fault) => write!(f, "Text {fault}"),

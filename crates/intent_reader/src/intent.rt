@@ -4,7 +4,7 @@ use base::Seq;
 use srv6_rules::{Family, LinkSet};
 use v6_addr::Addr;
 
-/// A step of an intent (own rule).
+/// A step of an intent.
 #[derive(Debug, Drop)]
 pub enum Step {
     /// One of these links is crossed; they start at one node and end at one node.
@@ -16,10 +16,10 @@ pub enum Step {
     Reach(u32),
 }
 
-/// The steps of an intent, in order (own rule).
+/// The steps of an intent, in order.
 pub type Steps = Seq<Step>;
 
-/// A path intent: where packets enter, how they are encapsulated, and what they cross (own rules).
+/// A path intent: where packets enter, how they are encapsulated, and what they cross.
 #[derive(Debug, Drop)]
 pub struct Intent {
     /// The number of the node where packets enter and are encapsulated.

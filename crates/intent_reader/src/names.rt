@@ -2,16 +2,17 @@
 
 ghost use Rattle.std.specs.Prelude.{◌≡◌, length};
 ghost use Rattle.std.specs.List.{list_any};
-ghost use Rattle.net_model.specs.Keeps.{IsTitleOf};
+ghost use Rattle.net_model.specs.NetworkKeeps.{IsTitleOf};
 ghost use Rattle.net_model.specs.Named.{node_numbered};
-ghost use Rattle.net_model.specs.Rules.{are_distinct, same_number};
-ghost use Rattle.toml_words.specs.Reading.{or_fault};
+ghost use Rattle.net_model.specs.NetworkRules.{are_distinct, same_number};
+ghost use Rattle.toml_reader.specs.TomlReading.{or_fault};
 ghost use Rattle.intent_reader.specs.declared.fault.IntentFault.TheVariants as faults;
 ghost use Rattle.intent_reader.specs.declared.fault.StepFault.TheVariants as kinds;
-ghost use Rattle.intent_reader.specs.Functions.{has_title, function_numbered, IsFunctionNumbered};
-ghost use Rattle.text_faults.specs.Reading.{Gives};
-ghost use Rattle.intent_reader.specs.Reading.{each_of};
-ghost use Rattle.intent_reader.specs.Judging.{link_at};
+ghost use Rattle.intent_reader.specs.Functions.{has_title, function_numbered};
+ghost use Rattle.intent_reader.specs.FunctionsTerms.{IsFunctionNumbered};
+ghost use Rattle.text_faults.specs.TextReading.{Gives};
+ghost use Rattle.intent_reader.specs.IntentReading.{each_of};
+ghost use Rattle.intent_reader.specs.IntentJudging.{link_at};
 
 use crate::fault::{IntentFault, StepFault};
 use net_model::{Name, Net};
@@ -41,7 +42,7 @@ fn link_at(net: &Net, step: u32, name: &Name) -> Result<u32, IntentFault>
 }
 
 /// The numbers of the links of a step.
-#[tactic(auto, using(crate::proofs::ListReading::reading))]
+#[tactic(auto, using(crate::proofs::IntentListReading::reading))]
 pub(crate) fn links_at(
     alloc: Global,
     net: &Net,
@@ -91,7 +92,7 @@ fn has_title(net: &Net, sid: &SidEntry, title: &[u8]) -> bool
 }
 
 /// The number of the first SID with a title, as a search finds it.
-#[tactic(auto, using(crate::proofs::Searches::searching))]
+#[tactic(auto, using(crate::proofs::IntentSearches::searching))]
 fn first_function(net: &Net, title: &[u8]) -> Option<u32>
     ensures { result ≡ function_numbered title.now net.now }
 {

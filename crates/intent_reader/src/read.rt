@@ -1,20 +1,20 @@
 //! From the text of an intent to its value.
 
 ghost use Rattle.std.specs.Prelude.{◌≡◌, IfOk};
-ghost use Rattle.net_words.specs.Intent.{intent_in};
-ghost use Rattle.text_faults.specs.Reading.{Gives};
-ghost use Rattle.intent_reader.specs.Reading.{of_text};
-ghost use Rattle.intent_reader.specs.Judging.{is_reduced, judged, intent_of_text};
+ghost use Rattle.net_syntax.specs.IntentText.{intent_in};
+ghost use Rattle.text_faults.specs.TextReading.{Gives};
+ghost use Rattle.intent_reader.specs.IntentReading.{of_text};
+ghost use Rattle.intent_reader.specs.IntentJudging.{is_reduced, judged, intent_of_text};
 ghost use Rattle.intent_reader.specs.Described.{InRange};
-ghost use Rattle.intent_reader.specs.Rules.{IsIntent};
+ghost use Rattle.intent_reader.specs.IntentRulesTerms.{IsIntent};
 
 use crate::fault::IntentFault;
 use crate::intent::Intent;
+use crate::intent_rules::{ends_in_function, is_within_loose_limit};
 use crate::names::node_at;
-use crate::rules::{ends_in_function, is_within_loose_limit};
 use crate::steps::steps_from;
 use net_model::Net;
-use net_words::{DescribedIntent, Mode};
+use net_syntax::{DescribedIntent, Mode};
 use std::alloc::Global;
 use text_faults::OrNoMemory;
 
@@ -26,12 +26,12 @@ fn is_reduced(mode: Mode) -> bool
 }
 
 /// What a text says.
-#[tactic(auto, using(crate::proofs::RangeLemmas::ranges))]
+#[tactic(auto, using(crate::proofs::IntentRangeLemmas::ranges))]
 fn described(alloc: Global, text: &[u8]) -> Result<DescribedIntent, OrNoMemory<IntentFault>>
     ensures said { Gives (λ d. d) result (of_text (intent_in text.now)) }
     ensures range { IfOk result (λ d. InRange d) }
 {
-    match net_words::read_intent_words(alloc, text) {
+    match net_syntax::read_intent_words(alloc, text) {
         Ok(intent) => Ok(intent),
         Err(OrNoMemory::Fault(fault)) => Err(OrNoMemory::Fault(IntentFault::Text(fault))),
         Err(OrNoMemory::NoMemory) => Err(OrNoMemory::NoMemory),
@@ -68,10 +68,10 @@ fn judged(
     })
 }
 
-/// The intent that a text gives in a network, or its first fault (own rules).
+/// The intent that a text gives in a network, or its first fault.
 ///
 /// First comes `Text`, with the fault of the text itself: that it is not TOML, or the first fault
-/// of an intent's keys and values as `net_words::read_intent_words` gives it. Then `UnknownName` at
+/// of an intent's keys and values as `net_syntax::read_intent_words` gives it. Then `UnknownName` at
 /// step 0, where no node has the headend's name. Then the steps in their order: the first stands at
 /// the headend, and each later one where the one before it ended, a step of links at their common
 /// end, a function where it stands, and a reach at its node. Of a step comes `UnknownName` where no
@@ -79,9 +79,9 @@ fn judged(
 /// stands twice in it; `Broken` where its links do not start where it stands, end apart or leave
 /// the network, or where it stands at the node to be reached; `NoFunction` where no SID has its
 /// title, or the SID is not where the step stands. Then comes `NotFunctionLast`, and last
-/// `LooseLimit`, where a step is to reach a node and the network has more than 128 SIDs. `NoMemory`
+/// `LooseLimit`, where a step is loose and the network has more than 128 SIDs. `NoMemory`
 /// may come at any time, and says nothing about the text.
-#[tactic(auto, using(crate::proofs::JudgingLemmas::kept_intents))]
+#[tactic(auto, using(crate::proofs::IntentJudgingLemmas::kept_intents))]
 pub fn read_intent(alloc: Global, text: &[u8], net: &Net) -> Result<Intent, OrNoMemory<IntentFault>>
     ensures reads { Gives (λ i. i) result (intent_of_text net.now text.now) }
     ensures keeps { IfOk result (λ i. IsIntent net.now i) }

@@ -1,17 +1,17 @@
 //! The steps of an intent, each from the node where the one before it ended.
 
 ghost use Rattle.std.specs.Prelude.{◌≡◌, ◌-◌, ◌<◌, ◌^◌, length};
-ghost use Rattle.toml_words.specs.Reading.{or_fault};
-ghost use Rattle.text_faults.specs.Reading.{Gives};
-ghost use Rattle.intent_reader.specs.Rules.{node_after};
-ghost use Rattle.intent_reader.specs.Judging.{step_named, astray, steps_from};
+ghost use Rattle.toml_reader.specs.TomlReading.{or_fault};
+ghost use Rattle.text_faults.specs.TextReading.{Gives};
+ghost use Rattle.intent_reader.specs.IntentRules.{node_after};
+ghost use Rattle.intent_reader.specs.IntentJudging.{step_named, astray, steps_from};
 
 use crate::fault::{IntentFault, StepFault};
 use crate::intent::{Step, Steps};
+use crate::intent_rules::node_after;
 use crate::names::{are_distinct, function_named, links_at, node_at};
-use crate::rules::node_after;
 use net_model::Net;
-use net_words::DescribedStep;
+use net_syntax::DescribedStep;
 use std::alloc::Global;
 use text_faults::OrNoMemory;
 
@@ -62,7 +62,7 @@ fn step_from(net: &Net, number: u32, node: u32, step: &Step) -> Result<u32, Inte
 }
 
 /// The steps from the headend.
-#[tactic(auto, using(crate::proofs::ListReading::stepping))]
+#[tactic(auto, using(crate::proofs::IntentListReading::stepping))]
 pub(crate) fn steps_from(
     alloc: Global,
     net: &Net,

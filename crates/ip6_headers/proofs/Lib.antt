@@ -2,5 +2,5 @@ pub mod AreaLemmas
 pub mod ChainSteps
 pub mod PacketBytes
 pub mod PacketBytes4
-pub mod EditLemmas
+pub mod HeaderEditLemmas
 pub mod PublicLaws

@@ -1,7 +1,8 @@
+-- Need not be believed: helps proofs and other laws.
 -- What an edit of a packet's header holds (RFC 8200 section 3).
 use Rattle.std.specs.Prelude.{List, ℕ}
 use Rattle.std.specs.Borrow.{GName}
-use Rattle.ip6_headers.specs.declared.edit.Ip6Edit.{Ip6Edit}
+use Rattle.ip6_headers.specs.declared.header_edit.Ip6Edit.{Ip6Edit}
 
 -- the bytes as they are
 abbrev pub edited : Ip6Edit → List ℕ

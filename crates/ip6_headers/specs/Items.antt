@@ -1,3 +1,4 @@
+-- Need not be believed: helps proofs and other laws.
 -- The items of an area, and the fault that is found there (RFC 8200 section 4.2, RFC 8754 section 2.1).
 use Rattle.std.specs.Prelude.{◌≡◌, ℕ, ◌≤◌, true, false, List, length, Option, Some, None, Result, Ok, Err}
 use Rattle.srv6_rules.specs.Areas as areas

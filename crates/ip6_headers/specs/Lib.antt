@@ -1,5 +1,5 @@
 pub mod Items
-pub mod Stepping
-pub mod Reading
-pub mod Reading4
+pub mod ChainStepping
+pub mod Ip6Reading
+pub mod Ip4Reading
 pub mod Editing

@@ -10,7 +10,7 @@ use srv6_rules::Reason;
 use srv6_rules::numbers::{OPTIONS_AT, PAD1, PADN};
 
 /// Why a packet is dropped, and the place of the fault in bytes from the packet's first, 0 where
-/// the reason has no place (own rule).
+/// the reason has no place.
 #[derive(Clone, Copy, Debug, PartialEq, Eq)]
 pub struct Fault {
     /// Why.
@@ -20,7 +20,7 @@ pub struct Fault {
 }
 
 impl Fault {
-    /// A fault that has no place (own rule).
+    /// A fault that has no place.
     pub fn of(reason: Reason) -> Fault
         ensures { result ≡ record { reason = reason; at = 0 } }
     {

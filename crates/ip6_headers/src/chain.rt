@@ -2,8 +2,9 @@
 
 ghost use Rattle.std.specs.Prelude.{◌≡◌, ◌+◌, ◌≤◌, length, drop};
 ghost use Rattle.srv6_rules.specs.Packet.{Packet, header_len};
-ghost use Rattle.srv6_rules.specs.Chain.{is_extension, is_whole, extension_bytes, place_behind, start_of, chain_at};
-ghost use Rattle.ip6_headers.specs.Stepping.{IsStanding, IsStep, begun, first_place, place_view, header_at};
+ghost use Rattle.srv6_rules.specs.Chain.{is_extension, is_whole, extension_bytes, start_of};
+ghost use Rattle.srv6_rules.specs.ChainTerms.{place_behind, chain_at};
+ghost use Rattle.ip6_headers.specs.ChainStepping.{IsStanding, IsStep, begun, first_place, place_view, header_at};
 
 use crate::view::Ip6View;
 use srv6_rules::numbers::{

@@ -15,9 +15,9 @@ pub enum ReadFault {
 impl ReadFault {
     ghost use Rattle.std.specs.Prelude.{◌≡◌, ℕ, List};
     ghost use Rattle.srv6_rules.specs.Packet.{Unreadable};
-    ghost use Rattle.ip6_headers.specs.Reading.{unreadable};
+    ghost use Rattle.ip6_headers.specs.Ip6Reading.{unreadable};
 
-    /// The reason for which a node drops bytes that do not read (own rule).
+    /// The reason for which a node drops bytes that do not read.
     pub fn reason(self) -> Reason
         ensures { (bytes : List ℕ) → Unreadable bytes result ≡ unreadable bytes self }
     {

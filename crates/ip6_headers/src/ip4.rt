@@ -3,7 +3,7 @@
 
 ghost use Rattle.std.specs.Prelude.{◌≡◌, ℕ, ◌+◌, ◌<◌, ◌≤◌, ◌^◌, ◌++◌, List, length, drop, slice_index, IfOk, IsOk, Ok};
 ghost use Rattle.srv6_rules.specs.Packet4.{Packet4, IsSpellable4, read4, packet4_at, stated_header_len, total_len, address4_at, spelling4, ttl, protocol, source4, destination4, checksum_lowered, ttl_lowered, lowered4};
-ghost use Rattle.ip6_headers.specs.Reading4.{HoldsPacket4, IsFault4, read_packet4};
+ghost use Rattle.ip6_headers.specs.Ip4Reading.{HoldsPacket4, IsFault4, read_packet4};
 
 use crate::faults::ReadFault;
 use crate::numbers::{four_at, put_two, two_at};
@@ -23,7 +23,7 @@ pub struct Ip4View<'a> {
 
 impl<'a> Model for Ip4View<'a> {
     ghost use Rattle.srv6_rules.specs.Packet4.{Packet4, packet4_at};
-    ghost use Rattle.ip6_headers.specs.Reading4.{HoldsPacket4};
+    ghost use Rattle.ip6_headers.specs.Ip4Reading.{HoldsPacket4};
 
     ghost Value = { Packet4 };
 

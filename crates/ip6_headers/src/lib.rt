@@ -8,8 +8,8 @@
 
 mod areas;
 mod chain;
-mod edit;
 mod faults;
+mod header_edit;
 mod ip4;
 mod laws;
 mod numbers;
@@ -17,8 +17,8 @@ mod view;
 
 pub use areas::{Fault, item_len, options};
 pub use chain::{BadChain, ChainPlace, ChainStep, Stands, chain_start, chain_step, stands_at};
-pub use edit::Ip6Edit;
 pub use faults::ReadFault;
+pub use header_edit::Ip6Edit;
 pub use ip4::{Ip4View, lower_ttl, read_fault4};
 pub use laws::edit_changes_its_field;
 pub use numbers::{address_at, four_at, two_at};

@@ -36,7 +36,7 @@ pub fn address_at(bytes: &[u8], at: usize) -> Addr
 }
 
 /// Writes a number's 2 bytes at a place.
-#[tactic(auto, using(crate::proofs::EditLemmas::behinds), unfolding(srv6_rules::specs::Packet::two_bytes))]
+#[tactic(auto, using(crate::proofs::HeaderEditLemmas::behinds), unfolding(srv6_rules::specs::Packet::two_bytes))]
 pub(crate) fn put_two(bytes: &mut [u8], at: usize, n: u16)
     requires { at + 2 ≤ length bytes.old }
     ensures { bytes.new ≡ take at bytes.old ++ (two_bytes n ++ drop (at + 2) bytes.old) }

@@ -2,7 +2,7 @@
 
 ghost use Rattle.std.specs.Prelude.{◌≡◌, ℕ, ◌+◌, ◌≤◌, ◌++◌, List, length, drop, IfOk, IsOk};
 ghost use Rattle.srv6_rules.specs.Packet.{Packet, IsSpellable, content_of, packet_at, stated_len, spelling};
-ghost use Rattle.ip6_headers.specs.Reading.{HoldsPacket, IsFault, read_content};
+ghost use Rattle.ip6_headers.specs.Ip6Reading.{HoldsPacket, IsFault, read_content};
 
 use crate::faults::ReadFault;
 use crate::numbers::{address_at, four_at, two_at};
@@ -22,7 +22,7 @@ pub struct Ip6View<'a> {
 
 impl<'a> Model for Ip6View<'a> {
     ghost use Rattle.srv6_rules.specs.Packet.{Packet, packet_at};
-    ghost use Rattle.ip6_headers.specs.Reading.{HoldsPacket};
+    ghost use Rattle.ip6_headers.specs.Ip6Reading.{HoldsPacket};
 
     ghost Value = { Packet };
 

@@ -12,9 +12,9 @@ use Rattle.srv6_rules.specs.Srh.{Srh, srh_of, segments_left_at, routing_type_at}
 use Rattle.srv6_rules.specs.Areas.{Fault, options_fault, tlvs_fault}
 use Rattle.srv6_rules.specs.Chain.{Header, ChainPlace, ChainEnd, Upper, Cut, hop_by_hop, fragment, destination_options, is_first, segments_left, is_segment_routing, from_place, chain_of, without}
 use Rattle.srv6_rules.specs.Endpoint.{Endpoint, Onward, Exposed, Delivered, Refused, at_sid, at_header, at_sid_routing, at_whole_segments, at_packed_segments, by_replace_step, at_end, over_headers, upper_layer, unless_fault, next_segment, next_csid, has_bad_segments, advanced, as_in, outcome_without, leaves_none, is_allowed, shifts_at, is_options}
-use Rattle.srv6_rules.proofs.PublicLaws.{without-others}
-use Rattle.leg_table.specs.Ride.{with_hop_limit}
-use Rattle.leg_table.specs.Leg.{is_onward, is_exposed}
+use Rattle.srv6_rules.proofs.PublicLaws.{without_others}
+use Rattle.leg_table.specs.TransitsTerms.{with_hop_limit}
+use Rattle.leg_table.specs.StrictLegsTerms.{is_onward, is_exposed}
 
 -- what comes of packets by the upper layers that are taken and by the hop limit
 abbrev By : Type 0
@@ -44,74 +44,74 @@ pub data Alike (Moves : Type 0) (f : By) : Type 0 where
   Exposes : Shows f → Alike Moves f
   Neither : Ends f → Alike Moves f
 
-alike-if : {M : Type 0} (b : Bool) (f g : By) → (b ≡ true → Alike M f) → (b ≡ false → Alike M g)
+alike_if : {M : Type 0} (b : Bool) (f g : By) → (b ≡ true → Alike M f) → (b ≡ false → Alike M g)
     → Alike M (λ allow limit. if b then f allow limit else g allow limit)
-alike-if true f g one other = one refl
-alike-if false f g one other = other refl
+alike_if true f g one other = one refl
+alike_if false f g one other = other refl
 
-alike-same : {M : Type 0} (f g : By) → ((allow : List ℕ) (limit : ℕ) → f allow limit ≡ g allow limit) → Alike M g → Alike M f
-alike-same f g same (Goes r) =
+alike_same : {M : Type 0} (f g : By) → ((allow : List ℕ) (limit : ℕ) → f allow limit ≡ g allow limit) → Alike M g → Alike M f
+alike_same f g same (Goes r) =
     Goes (record {
       moves = r.moves;
       high = λ allow limit above. let got = r.high allow limit above in (got.0, same allow limit ∙ got.1, got.2);
       low = λ allow limit below. same allow limit ∙ r.low allow limit below;
     })
-alike-same f g same (Exposes x) =
+alike_same f g same (Exposes x) =
     Exposes (record { family = x.family; bytes = x.bytes; shown = λ allow limit. same allow limit ∙ x.shown allow limit })
-alike-same f g same (Neither n) =
+alike_same f g same (Neither n) =
     Neither (record {
       stays = λ allow limit. ap is_onward (same allow limit) ∙ n.stays allow limit;
       hides = λ allow limit. ap is_exposed (same allow limit) ∙ n.hides allow limit;
     })
 
-alike-refused : {M : Type 0} (reason : Reason) (at : ℕ) → Alike M (λ allow limit. Refused reason at)
-alike-refused reason at = Neither (record { stays = λ allow limit. refl; hides = λ allow limit. refl })
+alike_refused : {M : Type 0} (reason : Reason) (at : ℕ) → Alike M (λ allow limit. Refused reason at)
+alike_refused reason at = Neither (record { stays = λ allow limit. refl; hides = λ allow limit. refl })
 
-alike-unless : {M : Type 0} (o : Option Fault) (f : By) → Alike M f → Alike M (λ allow limit. unless_fault o (f allow limit))
-alike-unless None f same = same
-alike-unless (Some fault) f same = alike-refused fault.reason fault.at
+alike_unless : {M : Type 0} (o : Option Fault) (f : By) → Alike M f → Alike M (λ allow limit. unless_fault o (f allow limit))
+alike_unless None f same = same
+alike_unless (Some fault) f same = alike_refused fault.reason fault.at
 
 -- a header that is taken out of what came of those after it makes no difference
-onward-out : (h : Header) (x : Endpoint) → is_onward (outcome_without h x) ≡ is_onward x
-onward-out h (Onward q) = refl
-onward-out h (Exposed family bytes) = refl
-onward-out h (Delivered q) = refl
-onward-out h (Refused reason at) = refl
+onward_out : (h : Header) (x : Endpoint) → is_onward (outcome_without h x) ≡ is_onward x
+onward_out h (Onward q) = refl
+onward_out h (Exposed family bytes) = refl
+onward_out h (Delivered q) = refl
+onward_out h (Refused reason at) = refl
 
-exposed-out : (h : Header) (x : Endpoint) → is_exposed (outcome_without h x) ≡ is_exposed x
-exposed-out h (Onward q) = refl
-exposed-out h (Exposed family bytes) = refl
-exposed-out h (Delivered q) = refl
-exposed-out h (Refused reason at) = refl
+exposed_out : (h : Header) (x : Endpoint) → is_exposed (outcome_without h x) ≡ is_exposed x
+exposed_out h (Onward q) = refl
+exposed_out h (Exposed family bytes) = refl
+exposed_out h (Delivered q) = refl
+exposed_out h (Refused reason at) = refl
 
-alike-out : {M : Type 0} (h : Header) (f : By) → Alike M f → Alike M (λ allow limit. outcome_without h (f allow limit))
-alike-out h f (Goes g) =
+alike_out : {M : Type 0} (h : Header) (f : By) → Alike M f → Alike M (λ allow limit. outcome_without h (f allow limit))
+alike_out h f (Goes g) =
     Goes (record {
       moves = g.moves;
       high = λ allow limit above. let r = g.high allow limit above in (
         without r.0 (as_in r.0 h),
         ap (outcome_without h) r.1,
-        ap (λ (x : Packet). x.hop_limit) (without-others r.0 (as_in r.0 h)) ∙ r.2,
+        ap (λ (x : Packet). x.hop_limit) (without_others r.0 (as_in r.0 h)) ∙ r.2,
       );
       low = λ allow limit below. ap (outcome_without h) (g.low allow limit below);
     })
-alike-out h f (Exposes s) =
+alike_out h f (Exposes s) =
     Exposes (record { family = s.family; bytes = s.bytes; shown = λ allow limit. ap (outcome_without h) (s.shown allow limit) })
-alike-out h f (Neither n) =
+alike_out h f (Neither n) =
     Neither (record {
-      stays = λ allow limit. onward-out h (f allow limit) ∙ n.stays allow limit;
-      hides = λ allow limit. exposed-out h (f allow limit) ∙ n.hides allow limit;
+      stays = λ allow limit. onward_out h (f allow limit) ∙ n.stays allow limit;
+      hides = λ allow limit. exposed_out h (f allow limit) ∙ n.hides allow limit;
     })
 
-alike-out_if : {M : Type 0} (b : Bool) (h : Header) (f : By) → Alike M f
+alike_out_if : {M : Type 0} (b : Bool) (h : Header) (f : By) → Alike M f
     → Alike M (λ allow limit. if b then outcome_without h (f allow limit) else f allow limit)
-alike-out_if true h f same = alike-out h f same
-alike-out_if false h f same = same
+alike_out_if true h f same = alike_out h f same
+alike_out_if false h f same = same
 
 -- where a hop limit above 1 goes on, one lower
-alike-above : {M : Type 0} → M → (q : ℕ → Packet) → ((limit : ℕ) → (q limit).hop_limit ≡ limit - 1)
+alike_above : {M : Type 0} → M → (q : ℕ → Packet) → ((limit : ℕ) → (q limit).hop_limit ≡ limit - 1)
     → Alike M (λ allow limit. if nat_le limit 1 then Refused reasons.HopLimit 0 else Onward (q limit))
-alike-above moves q lower =
+alike_above moves q lower =
     Goes (record {
       moves = moves;
       high = λ allow limit above. (q limit, rw (lt-leb limit 1 above) refl, lower limit);
@@ -119,9 +119,9 @@ alike-above moves q lower =
     })
 
 -- where one is refused for another reason
-alike-low : {M : Type 0} (reason : Reason) (at : ℕ) → Alike M (λ allow limit. if nat_le limit 1 then Refused reasons.HopLimit 0 else
+alike_low : {M : Type 0} (reason : Reason) (at : ℕ) → Alike M (λ allow limit. if nat_le limit 1 then Refused reasons.HopLimit 0 else
     Refused reason at)
-alike-low reason at =
+alike_low reason at =
     Neither (record { stays = λ allow limit. on (nat_le limit 1); hides = λ allow limit. out (nat_le limit 1) })
   where
     on : (b : Bool) → is_onward (if b then Refused reasons.HopLimit 0 else Refused reason at) ≡ false
@@ -138,27 +138,27 @@ module _ (s : SidEntry) (p : Packet) where
   Moves = (goes_on s ≡ true) ⊎ (shifts_at s p ≡ true)
 
   -- the step over whole segments
-  alike-segment : Moves → (at : ℕ) (srh : Srh) → Alike Moves (λ allow limit. next_segment (with_hop_limit limit p) at srh)
-  alike-segment moves at srh = by_tests (has_bad_segments srh) (tlvs_fault at srh)
+  alike_segment : Moves → (at : ℕ) (srh : Srh) → Alike Moves (λ allow limit. next_segment (with_hop_limit limit p) at srh)
+  alike_segment moves at srh = by_tests (has_bad_segments srh) (tlvs_fault at srh)
     where
       by_tests : (bad : Bool) (fault : Option Fault)
           → Alike Moves (λ allow limit. if nat_le limit 1 then Refused reasons.HopLimit 0
           else if bad then Refused reasons.BadSegments (at + segments_left_at)
           else unless_fault fault (Onward (advanced (with_hop_limit limit p) at srh)))
-      by_tests true fault = alike-low reasons.BadSegments (at + segments_left_at)
-      by_tests false (Some x) = alike-low x.reason x.at
-      by_tests false None = alike-above moves (λ limit. advanced (with_hop_limit limit p) at srh) (λ limit. refl)
+      by_tests true fault = alike_low reasons.BadSegments (at + segments_left_at)
+      by_tests false (Some x) = alike_low x.reason x.at
+      by_tests false None = alike_above moves (λ limit. advanced (with_hop_limit limit p) at srh) (λ limit. refl)
 
-  alike-csid : shifts_at s p ≡ true → Alike Moves (λ allow limit. next_csid s (with_hop_limit limit p))
-  alike-csid shifts = alike-above (inr shifts) (λ limit. shifted (compression_of s) (with_hop_limit limit p)) (λ limit. refl)
+  alike_csid : shifts_at s p ≡ true → Alike Moves (λ allow limit. next_csid s (with_hop_limit limit p))
+  alike_csid shifts = alike_above (inr shifts) (λ limit. shifted (compression_of s) (with_hop_limit limit p)) (λ limit. refl)
 
-  alike-whole : (h : Header) (rest : By) → Alike Moves rest → Alike Moves (λ allow limit. at_whole_segments s (with_hop_limit limit p) h
+  alike_whole : (h : Header) (rest : By) → Alike Moves rest → Alike Moves (λ allow limit. at_whole_segments s (with_hop_limit limit p) h
       (rest allow limit))
-  alike-whole h rest same =
-      alike-if (segments_left h == 0) _ _ (λ none. alike-out_if s.usp h rest same)
-      (λ some. alike-if (goes_on s) _ _
-      (λ goes. alike-out_if (s.psp && leaves_none (srh_of h.bytes)) h _ (alike-segment (inl goes) h.place.at (srh_of h.bytes)))
-      (λ stays. alike-refused reasons.BadSegments (h.place.at + segments_left_at)))
+  alike_whole h rest same =
+      alike_if (segments_left h == 0) _ _ (λ none. alike_out_if s.usp h rest same)
+      (λ some. alike_if (goes_on s) _ _
+      (λ goes. alike_out_if (s.psp && leaves_none (srh_of h.bytes)) h _ (alike_segment (inl goes) h.place.at (srh_of h.bytes)))
+      (λ stays. alike_refused reasons.BadSegments (h.place.at + segments_left_at)))
 
   -- the step over packed segments
   abbrev step_by : Bool → Bool → Bool → Option Fault → Header → ℕ → ReplaceStep
@@ -170,10 +170,10 @@ module _ (s : SidEntry) (p : Packet) where
       else unless_dropped (hop_limit_fault q)
       (if bad then Dropped (segments_fault h.place.at) else unless_dropped fault (Moved (moved q h.place.at m) m.ended))
 
-  alike-step : goes_on s ≡ true → (h : Header) (rest : By) → Alike Moves rest
+  alike_step : goes_on s ≡ true → (h : Header) (rest : By) → Alike Moves rest
       → Alike Moves (λ allow limit. by_replace_step s h (rest allow limit)
       (replace_step (compression_of s) (with_hop_limit limit p) h.place.at (srh_of h.bytes)))
-  alike-step goes h rest same =
+  alike_step goes h rest same =
       by_tests (lacks_entry (compression_of s) (srh_of h.bytes) p.destination)
       (is_ended (compression_of s) (srh_of h.bytes) (srh_of h.bytes).segments_left p.destination)
       (has_bad_list (compression_of s) (srh_of h.bytes) p.destination) (tlvs_fault h.place.at (srh_of h.bytes))
@@ -181,69 +181,69 @@ module _ (s : SidEntry) (p : Packet) where
       m : Move
       m = move_of (compression_of s) (srh_of h.bytes) p.destination
 
-      low-dropped : (fault : Fault) (limit : ℕ) (b : Bool) (x : Endpoint)
+      low_dropped : (fault : Fault) (limit : ℕ) (b : Bool) (x : Endpoint)
           → by_replace_step s h x (unless_dropped (if b then Some (record { reason = reasons.HopLimit; at = 0 }) else None) (Dropped fault))
           ≡ (if b then Refused reasons.HopLimit 0 else Refused fault.reason fault.at)
-      low-dropped fault limit true x = refl
-      low-dropped fault limit false x = refl
+      low_dropped fault limit true x = refl
+      low_dropped fault limit false x = refl
 
-      low-moved : (limit : ℕ) (b pops : Bool) (x : Endpoint) (q : Packet) → (s.psp && m.ended) ≡ pops
+      low_moved : (limit : ℕ) (b pops : Bool) (x : Endpoint) (q : Packet) → (s.psp && m.ended) ≡ pops
           → by_replace_step s h x (unless_dropped (if b then Some (record { reason = reasons.HopLimit; at = 0 }) else None)
           (Moved q m.ended))
           ≡ (if pops then outcome_without h (if b then Refused reasons.HopLimit 0 else Onward q)
           else (if b then Refused reasons.HopLimit 0 else Onward q))
-      low-moved limit true true x q e = refl
-      low-moved limit true false x q e = refl
-      low-moved limit false true x q e = rw e refl
-      low-moved limit false false x q e = rw e refl
+      low_moved limit true true x q e = refl
+      low_moved limit true false x q e = refl
+      low_moved limit false true x q e = rw e refl
+      low_moved limit false false x q e = rw e refl
 
       by_tests : (lacks end bad : Bool) (fault : Option Fault)
           → Alike Moves (λ allow limit. by_replace_step s h (rest allow limit) (step_by lacks end bad fault h limit))
-      by_tests true end bad fault = alike-refused reasons.BadSegments (h.place.at + segments_left_at)
-      by_tests false true bad fault = alike-out_if s.usp h rest same
+      by_tests true end bad fault = alike_refused reasons.BadSegments (h.place.at + segments_left_at)
+      by_tests false true bad fault = alike_out_if s.usp h rest same
       by_tests false false true fault =
-          alike-same _ _ (λ allow limit. low-dropped (segments_fault h.place.at) limit (nat_le limit 1) (rest allow limit))
-          (alike-low reasons.BadSegments (h.place.at + segments_left_at))
+          alike_same _ _ (λ allow limit. low_dropped (segments_fault h.place.at) limit (nat_le limit 1) (rest allow limit))
+          (alike_low reasons.BadSegments (h.place.at + segments_left_at))
       by_tests false false false (Some x) =
-          alike-same _ _ (λ allow limit. low-dropped x limit (nat_le limit 1) (rest allow limit)) (alike-low x.reason x.at)
+          alike_same _ _ (λ allow limit. low_dropped x limit (nat_le limit 1) (rest allow limit)) (alike_low x.reason x.at)
       by_tests false false false None =
-          alike-same _ _ (λ allow limit. low-moved limit (nat_le limit 1) (s.psp && m.ended) (rest allow limit)
+          alike_same _ _ (λ allow limit. low_moved limit (nat_le limit 1) (s.psp && m.ended) (rest allow limit)
           (moved (with_hop_limit limit p) h.place.at m) refl)
-          (alike-out_if (s.psp && m.ended) h _ (alike-above (inl goes) (λ limit. moved (with_hop_limit limit p) h.place.at m)
+          (alike_out_if (s.psp && m.ended) h _ (alike_above (inl goes) (λ limit. moved (with_hop_limit limit p) h.place.at m)
           (λ limit. refl)))
 
-  alike-packed : (h : Header) (rest : By) → Alike Moves rest
+  alike_packed : (h : Header) (rest : By) → Alike Moves rest
       → Alike Moves (λ allow limit. at_packed_segments s (with_hop_limit limit p) h (rest allow limit))
-  alike-packed h rest same =
-      alike-if (goes_on s) _ _ (λ goes. alike-step goes h rest same)
-      (λ stays. alike-if (is_at_end (compression_of s) (srh_of h.bytes) p.destination) _ _ (λ end. alike-out_if s.usp h rest same)
-      (λ more. alike-refused reasons.BadSegments (h.place.at + segments_left_at)))
+  alike_packed h rest same =
+      alike_if (goes_on s) _ _ (λ goes. alike_step goes h rest same)
+      (λ stays. alike_if (is_at_end (compression_of s) (srh_of h.bytes) p.destination) _ _ (λ end. alike_out_if s.usp h rest same)
+      (λ more. alike_refused reasons.BadSegments (h.place.at + segments_left_at)))
 
-  alike-routing : (h : Header) (rest : By) → Alike Moves rest
+  alike_routing : (h : Header) (rest : By) → Alike Moves rest
       → Alike Moves (λ allow limit. at_sid_routing s (with_hop_limit limit p) h (rest allow limit))
-  alike-routing h rest same =
-      alike-if (is_segment_routing h) _ _
-      (λ known. alike-if (is_replace s.csid) _ _ (λ packed. alike-packed h rest same) (λ whole. alike-whole h rest same))
-      (λ other. alike-if (segments_left h == 0) _ _ (λ none. same)
-      (λ some. alike-refused reasons.UnknownRouting (h.place.at + routing_type_at)))
+  alike_routing h rest same =
+      alike_if (is_segment_routing h) _ _
+      (λ known. alike_if (is_replace s.csid) _ _ (λ packed. alike_packed h rest same) (λ whole. alike_whole h rest same))
+      (λ other. alike_if (segments_left h == 0) _ _ (λ none. same)
+      (λ some. alike_refused reasons.UnknownRouting (h.place.at + routing_type_at)))
 
-  alike-header : (h : Header) (rest : By) → Alike Moves rest
+  alike_header : (h : Header) (rest : By) → Alike Moves rest
       → Alike Moves (λ allow limit. at_header s (with_hop_limit limit p) h (rest allow limit))
-  alike-header h rest same =
-      alike-if (shifts_at s p && not (is_options h)) _ _ (λ both. alike-csid (and_parts (shifts_at s p) (not (is_options h)) both).0)
-      (λ stays. alike-if (h.place.kind == hop_by_hop) _ _
-      (λ hop. alike-if (is_first h.place) _ _ (λ first. same) (λ late. alike-refused reasons.LateHopByHop h.place.named_at))
-      (λ other. alike-if (h.place.kind == destination_options) _ _ (λ options. alike-unless (options_fault h) rest same)
-      (λ other. alike-if (h.place.kind == fragment) _ _ (λ part. alike-refused reasons.Fragment h.place.at)
-      (λ other. alike-routing h rest same))))
+  alike_header h rest same =
+      alike_if (shifts_at s p && not (is_options h)) _ _ (λ both. alike_csid (and_parts (shifts_at s p) (not (is_options h)) both).0)
+      (λ stays. alike_if (h.place.kind == hop_by_hop) _ _
+      (λ hop. alike_if (is_first h.place) _ _ (λ first. same) (λ late. alike_refused reasons.LateHopByHop h.place.named_at))
+      (λ other. alike_if (h.place.kind == destination_options) _ _ (λ options. alike_unless (options_fault h) rest same)
+      (λ other. alike_if (h.place.kind == fragment) _ _ (λ part. alike_refused reasons.Fragment h.place.at)
+      (λ other. alike_routing h rest same))))
 
-  alike-headers : (hs : List Header) (end : By) → Alike Moves end
+  alike_headers : (hs : List Header) (end : By) → Alike Moves end
       → Alike Moves (λ allow limit. over_headers (at_header s (with_hop_limit limit p)) hs (end allow limit))
-  alike-headers [] end same = same
-  alike-headers (h ∷ hs) end same = alike-header h _ (alike-headers hs end same)
+  alike_headers [] end same = same
+  alike_headers (h ∷ hs) end same = alike_header h _ (alike_headers hs end same)
 
-  alike-upper : (place : ChainPlace) → Alike Moves (λ allow limit. upper_layer allow (with_hop_limit limit p) place)
-  alike-upper place =
+  alike_upper : (place : ChainPlace) → Alike Moves (λ allow limit. upper_layer allow (with_hop_limit limit p) place)
+  alike_upper place =
       Neither (record {
         stays = λ allow limit. on allow limit (is_allowed allow place.kind);
         hides = λ allow limit. out allow limit (is_allowed allow place.kind);
@@ -259,25 +259,25 @@ module _ (s : SidEntry) (p : Packet) where
       out allow limit true = refl
       out allow limit false = refl
 
-  alike-end : (end : ChainEnd) → Alike Moves (λ allow limit. at_end s allow (with_hop_limit limit p) end)
-  alike-end (Cut place) = alike-refused reasons.BadChain place.at
-  alike-end (Upper place) =
-      alike-if (shifts_at s p) _ _ (λ shifts. alike-csid shifts)
-      (λ stays. alike-if (exposes s place.kind) _ _
+  alike_end : (end : ChainEnd) → Alike Moves (λ allow limit. at_end s allow (with_hop_limit limit p) end)
+  alike_end (Cut place) = alike_refused reasons.BadChain place.at
+  alike_end (Upper place) =
+      alike_if (shifts_at s p) _ _ (λ shifts. alike_csid shifts)
+      (λ stays. alike_if (exposes s place.kind) _ _
       (λ shows. Exposes (record {
         family = family_inside place.kind;
         bytes = from_place p place.at;
         shown = λ allow limit. refl;
       }))
-      (λ keeps. alike-upper place))
+      (λ keeps. alike_upper place))
 
   -- what comes of a packet at a SID is one of the three
-  alike-sid : Alike Moves (λ allow limit. at_sid s allow (with_hop_limit limit p))
-  alike-sid = alike-headers (chain_of p).headers _ (alike-end (chain_of p).end)
+  alike_sid : Alike Moves (λ allow limit. at_sid s allow (with_hop_limit limit p))
+  alike_sid = alike_headers (chain_of p).headers _ (alike_end (chain_of p).end)
 
   -- a packet that the SID takes on to a next segment goes on where its hop limit is above 1, else is refused
-  pub steps-on : is_onward (at_sid s [] (with_hop_limit 2 p)) ≡ true → GoesOn Moves (λ allow limit. at_sid s allow (with_hop_limit limit p))
-  steps-on on = by_alike alike-sid
+  pub steps_on : is_onward (at_sid s [] (with_hop_limit 2 p)) ≡ true → GoesOn Moves (λ allow limit. at_sid s allow (with_hop_limit limit p))
+  steps_on on = by_alike alike_sid
     where
       by_alike : Alike Moves (λ allow limit. at_sid s allow (with_hop_limit limit p))
           → GoesOn Moves (λ allow limit. at_sid s allow (with_hop_limit limit p))
@@ -286,8 +286,8 @@ module _ (s : SidEntry) (p : Packet) where
       by_alike (Neither n) = absurd (false≢true (sym (n.stays [] 2) ∙ on))
 
   -- a packet inside is exposed whatever the hop limit is
-  pub shows-inside : is_exposed (at_sid s [] p) ≡ true → Shows (λ allow limit. at_sid s allow (with_hop_limit limit p))
-  shows-inside on = by_alike alike-sid
+  pub shows_inside : is_exposed (at_sid s [] p) ≡ true → Shows (λ allow limit. at_sid s allow (with_hop_limit limit p))
+  shows_inside on = by_alike alike_sid
     where
       low : (b : Bool) (g : GoesOn Moves (λ allow limit. at_sid s allow (with_hop_limit limit p))) → nat_le p.hop_limit 1 ≡ b
           → is_exposed (at_sid s [] p) ≡ true → ⊥
@@ -301,8 +301,8 @@ module _ (s : SidEntry) (p : Packet) where
       by_alike (Neither n) = absurd (false≢true (sym (n.hides [] p.hop_limit) ∙ on))
 
   -- a packet goes on from a SID that goes on, or that shifts it
-  pub onward-moves : (allow : List ℕ) (q : Packet) → at_sid s allow (with_hop_limit p.hop_limit p) ≡ Onward q → Moves
-  onward-moves allow q is = by_alike alike-sid
+  pub onward_moves : (allow : List ℕ) (q : Packet) → at_sid s allow (with_hop_limit p.hop_limit p) ≡ Onward q → Moves
+  onward_moves allow q is = by_alike alike_sid
     where
       by_alike : Alike Moves (λ allow limit. at_sid s allow (with_hop_limit limit p)) → Moves
       by_alike (Goes g) = g.moves

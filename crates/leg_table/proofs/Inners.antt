@@ -12,9 +12,9 @@ use Rattle.leg_table.specs.Realizes.{IsInner}
 six : Packet
 six = record { traffic_class = 0; flow_label = 0; next_header = 59; hop_limit = 2; source = 0; destination = 0; payload = [] }
 
-six-is : IsSpellable six × (2 ≤ six.hop_limit)
+six_is : IsSpellable six × (2 ≤ six.hop_limit)
 unfolding six
-six-is = (
+six_is = (
   record {
     traffic_class = lit< tt;
     flow_label = lit< tt;
@@ -32,24 +32,24 @@ six-is = (
 four_bytes : List ℕ
 four_bytes = 69 ∷ 0 ∷ 0 ∷ 20 ∷ 0 ∷ 0 ∷ 0 ∷ 0 ∷ 2 ∷ 59 ∷ 0 ∷ 0 ∷ 0 ∷ 0 ∷ 0 ∷ 0 ∷ 0 ∷ 0 ∷ 0 ∷ 0 ∷ []
 
-bytes-below : (bytes : List ℕ) → list_all (λ b. nat_lt b 256) bytes ≡ true → All (λ b. b < 2 ^ 8) bytes
-bytes-below [] h = All-nil (λ b. b < 2 ^ 8)
-bytes-below (b ∷ bytes) h =
+bytes_below : (bytes : List ℕ) → list_all (λ b. nat_lt b 256) bytes ≡ true → All (λ b. b < 2 ^ 8) bytes
+bytes_below [] h = All-nil (λ b. b < 2 ^ 8)
+bytes_below (b ∷ bytes) h =
     let parts = and_parts (nat_lt b 256) (list_all (λ b. nat_lt b 256) bytes) h in
-    All-cons (λ b. b < 2 ^ 8) b bytes (ltb-true b 256 parts.0) (bytes-below bytes parts.1)
+    All-cons (λ b. b < 2 ^ 8) b bytes (ltb-true b 256 parts.0) (bytes_below bytes parts.1)
 
 four : Packet4
 four = record { header = four_bytes; payload = [] }
 
-four-is : IsSpellable4 four × (2 ≤ ttl four)
+four_is : IsSpellable4 four × (2 ≤ ttl four)
 unfolding four four_bytes stated_header_len total_len
-four-is = (
+four_is = (
   record {
     version = refl;
     least = omega arith;
     header_len = refl;
     total = refl;
-    header = bytes-below four_bytes refl;
+    header = bytes_below four_bytes refl;
     payload = All-nil (λ b. b < 2 ^ 8);
   },
   omega arith,
@@ -59,7 +59,7 @@ pub some_inner : Family → Content
 some_inner families.V6 = V6 six
 some_inner families.V4 = V4 four
 
-pub some_inner-is : (family : Family) → IsInner family (some_inner family)
+pub some_inner_is : (family : Family) → IsInner family (some_inner family)
 unfolding some_inner
-some_inner-is families.V6 = six-is
-some_inner-is families.V4 = four-is
+some_inner_is families.V6 = six_is
+some_inner_is families.V4 = four_is

@@ -9,48 +9,50 @@ use Rattle.srv6_rules.specs.declared.sid.SidEntry.{SidEntry}
 use Rattle.srv6_rules.specs.Packet.{Packet, V6, read_as}
 use Rattle.srv6_rules.specs.Endpoint.{Exposed, at_sid, Endpoint, Onward, Delivered, Refused}
 use Rattle.net_model.specs.Network.{Network}
-use Rattle.net_model.specs.Rules.{IsNetwork}
-use Rattle.flat_networks.specs.Flat.{IsFlat}
-use Rattle.net_model.specs.Keeps.{Keeps}
+use Rattle.net_model.specs.NetworkRulesTerms.{IsNetwork}
+use Rattle.net_flatness.specs.Flat.{IsFlat}
+use Rattle.net_model.specs.NetworkKeeps.{Keeps}
 use Rattle.net_model.proofs.PublicLaws.{keeps_from_network}
 use Rattle.walk_rules.specs.declared.place.Place.{Place}
 use Rattle.walk_rules.specs.Walk.{free_walk_of as walk_of}
 use Rattle.walk_rules.specs.Treatment.{onward_from, exposed_from, treated_at_sid, allow_of, Gave, goes, free_step_of as step_of}
-use Rattle.intent_reader.specs.Rules.{IsIntent}
+use Rattle.intent_reader.specs.IntentRulesTerms.{IsIntent}
 use Rattle.intent_reader.specs.declared.intent.Step.{Step}
 use Rattle.intent_reader.specs.declared.intent.Intent.{Intent}
-use Rattle.list_places.specs.Places as lists
-use Rattle.list_places.specs.Places.{Tunnel, Along, active, next_of}
-use Rattle.list_places.proofs.PublicLaws.{along-exposes, along-only}
+use Rattle.sid_list_theory.specs.ListPlaces as lists
+use Rattle.sid_list_theory.specs.ListPlaces.{Tunnel, Along, active, next_of}
+use Rattle.sid_list_theory.proofs.PublicLaws.{along_exposes, along_only}
 use Rattle.list_pack.specs.SidLists.{list_sid, IsSidPrefix}
-use Rattle.list_pack.specs.Value.{IsVia}
+use Rattle.list_pack.specs.LegsValueTerms.{IsVia}
 use Rattle.leg_table.proofs.FlatNets.{FlatFacts}
-use Rattle.leg_table.specs.Trace.{executed, Handed, handed_over}
-use Rattle.leg_table.specs.Tasks.{matches, left_after}
-use Rattle.leg_table.specs.Ride.{Ride, with_hop_limit}
-use Rattle.leg_table.specs.Sids.{is_sid_at, is_middle, sid_goes_on, sid_exposes, hands_over, sid_address, binds, takes_step, sid_binds, is_binding}
-use Rattle.leg_table.specs.Leg.{place_behind, place_from, is_start, leg_with}
-use Rattle.leg_table.specs.Nests.{PlaceKeeps}
-use Rattle.leg_table.specs.OneLeg.{LegKind, AlwaysHands, BecomesOf, Ended, Moved}
+use Rattle.leg_table.specs.WalkTrace.{executed, Handed, handed_over}
+use Rattle.leg_table.specs.StepMatching.{matches, left_after}
+use Rattle.leg_table.specs.Transits.{Transit}
+use Rattle.leg_table.specs.TransitsTerms.{with_hop_limit}
+use Rattle.leg_table.specs.PositionSids.{is_sid_at, is_middle, sid_goes_on, sid_exposes, hands_over, sid_address, binds, takes_step, sid_binds, is_binding}
+use Rattle.leg_table.specs.StrictLegs.{place_behind, place_from, leg_with}
+use Rattle.leg_table.specs.StrictLegsTerms.{is_origin}
+use Rattle.leg_table.specs.NestLegsTerms.{PlaceKeeps}
+use Rattle.leg_table.specs.OneLegLaws.{LegKind, AlwaysHands, BecomesOf, Ended, Moved}
 use Rattle.leg_table.specs.Realizes.{headend_place}
-use Rattle.leg_table.specs.Value.{legs_value, strict_kind, AnyWay}
-use Rattle.leg_table.proofs.Executions.{stage_into}
-use Rattle.leg_table.proofs.Options.{kept-from, kept-parts}
-use Rattle.leg_table.proofs.RideFacts.{ride-facts, start-facts}
-use Rattle.leg_table.proofs.NextRides.{NextRide, leg-from, finish-from, middle-sid}
-use Rattle.leg_table.proofs.StrictLaws.{shape-middle}
-use Rattle.leg_table.proofs.PathNames.{shape-prefix}
-use Rattle.leg_table.proofs.Positions.{are-sids}
-use Rattle.leg_table.proofs.LegsOver.{again-over, ride-over, hand-over, from-place, Hands-over, none-dropped}
-use Rattle.leg_table.proofs.Segments.{behind-again, meets-behind, behind-alone, LeftBehind}
-use Rattle.leg_table.proofs.LegsUp.{rest-is}
-use Rattle.leg_table.proofs.AllHands.{Unbound, no-steps, Hands, moved-goes}
-use Rattle.leg_table.proofs.Comings as comings
+use Rattle.leg_table.specs.StrictLegsValue.{legs_value, strict_kind, AnyWay}
+use Rattle.leg_table.proofs.StrictExecutions.{stage_into}
+use Rattle.leg_table.proofs.StrictOptions.{kept_from, kept_parts}
+use Rattle.leg_table.proofs.TransitFacts.{transit_facts_law, start_facts}
+use Rattle.leg_table.proofs.NextTransits.{NextTransit, leg_from, finish_from, middle_sid}
+use Rattle.leg_table.proofs.StrictLaws.{shape_middle}
+use Rattle.leg_table.proofs.PathNames.{shape_prefix}
+use Rattle.leg_table.proofs.StrictPositions.{are_sids}
+use Rattle.leg_table.proofs.LegsOver.{again_over, transit_over, hand_over, from_place, Hands_over, none_dropped}
+use Rattle.leg_table.proofs.Segments.{behind_again, meets_behind, behind_alone, LeftBehind}
+use Rattle.leg_table.proofs.LegsUp.{rest_is}
+use Rattle.leg_table.proofs.AllHands.{Unbound, no_steps, Hands, moved_goes}
+use Rattle.leg_table.proofs.StrictComings as comings
 use Rattle.std.proofs.lemmas.List.Elements.{All-head, All-tail}
 use Rattle.srv6_rules.specs.Behaviours.{goes_on, behaviour_policy}
 use Rattle.walk_rules.specs.declared.place.Outcome.TheVariants as outcomes
-use Rattle.walk_rules.proofs.PublicLaws.{onward-each}
-use Rattle.leg_table.proofs.HopLimits.{onward-moves}
+use Rattle.walk_rules.proofs.PublicLaws.{onward_each}
+use Rattle.leg_table.proofs.HopLimits.{onward_moves}
 
 module _ (net : Network) (network : IsNetwork net) (flat : IsFlat net) (facts : FlatFacts net) (intent : Intent)
     (is_intent : IsIntent net intent) (tunnel : Tunnel) (family : tunnel.inner ≡ intent.inner) where
@@ -67,21 +69,21 @@ module _ (net : Network) (network : IsNetwork net) (flat : IsFlat net) (facts : 
   -- ---- where the packet starts from
 
   starts : (position : ℕ) (via : Option ℕ) → position ≤ length intent.steps → IsVia (legs_value net intent) position via
-      → is_start net intent position via ≡ true
+      → is_origin net intent position via ≡ true
   starts position None within at =
       and_from (nat_le position (length intent.steps)) (position == 0) (le-leb position (length intent.steps) within) (eq-eqb position 0 at)
   starts position (Some n) within at =
       and_from (nat_le position (length intent.steps)) (is_sid_at net intent position n && is_middle net n)
       (le-leb position (length intent.steps) within)
-      (and_from (is_sid_at net intent position n) (is_middle net n) (((are-sids net keeps intent position).each n).0 at.0)
-      (sym (shape-middle net.blocks (slice_get net.sids n)) ∙ at.1))
+      (and_from (is_sid_at net intent position n) (is_middle net n) (((are_sids net keeps intent position).each n).0 at.0)
+      (sym (shape_middle net.blocks (slice_get net.sids n)) ∙ at.1))
 
-  from : (position : ℕ) (via : Option ℕ) → is_start net intent position via ≡ true
+  from : (position : ℕ) (via : Option ℕ) → is_origin net intent position via ≡ true
       → (place : Place) × (place_from net intent via ≡ Some place)
   from position None start = (headend_place intent, refl)
   from position (Some n) start =
       let via = and_parts (nat_le position (length intent.steps)) (is_sid_at net intent position n && is_middle net n) start in
-      let s = middle-sid net n (and_parts (is_sid_at net intent position n) (is_middle net n) via.1).1 in
+      let s = middle_sid net n (and_parts (is_sid_at net intent position n) (is_middle net n) via.1).1 in
       (place_behind n s.0, ap (option_map (place_behind n)) s.1)
 
   -- under every row of choices, from that place
@@ -90,78 +92,78 @@ module _ (net : Network) (network : IsNetwork net) (flat : IsFlat net) (facts : 
       (pick : ℕ → ℕ) → (h : Handed) × ((fuel : ℕ) × (handed_over net (walk_of fuel net o (V6 p) pick 0) ≡ Some h))
       × (matches ts h.trace ≡ true) × Unbound net h.sids
 
-  of-kept : (via : Option ℕ) (p : Packet) (position : ℕ) → AlwaysHands k via p position
+  of_kept : (via : Option ℕ) (p : Packet) (position : ℕ) → AlwaysHands k via p position
       → HandsFrom (place_from net intent via) p (drop position intent.steps)
-  of-kept via p position hands =
-      λ pick. let h = hands.1 pick in (h.0, h.1, (kept-parts (matches (drop position intent.steps) h.0.trace) hands.0 h.2).0, h.3)
+  of_kept via p position hands =
+      λ pick. let h = hands.1 pick in (h.0, h.1, (kept_parts (matches (drop position intent.steps) h.0.trace) hands.0 h.2).0, h.3)
 
-  to-kept : (via : Option ℕ) (p : Packet) (position : ℕ) → HandsFrom (place_from net intent via) p (drop position intent.steps)
+  to_kept : (via : Option ℕ) (p : Packet) (position : ℕ) → HandsFrom (place_from net intent via) p (drop position intent.steps)
       → AlwaysHands k via p position
-  to-kept via p position hands =
-      ([], λ pick. (let h = hands pick in (h.0, h.1, kept-from (matches (drop position intent.steps) h.0.trace) h.2, h.3)))
+  to_kept via p position hands =
+      ([], λ pick. (let h = hands pick in (h.0, h.1, kept_from (matches (drop position intent.steps) h.0.trace) h.2, h.3)))
 
   -- the packet where it comes to
-  abbrev there-packet : Packet → Ride → Packet
-  there-packet p r = with_hop_limit (p.hop_limit - r.lowered) p
+  abbrev there_packet : Packet → Transit → Packet
+  there_packet p r = with_hop_limit (p.hop_limit - r.lowered) p
 
   -- it goes on from there
-  record Goes-on (x y : lists.ListPlace) (hop : ℕ) (p : Packet) (ride : Ride) (sid : SidEntry) (r : Packet) : Type 0 where
+  record Goes-on (x y : lists.ListPlace) (hop : ℕ) (p : Packet) (transit : Transit) (sid : SidEntry) (r : Packet) : Type 0 where
     pub middle : takes_step sid ≡ true
-    pub high : 1 < hop - ride.lowered
+    pub high : 1 < hop - transit.lowered
     pub next : next_of x ≡ Some y
-    pub along : Along tunnel y (hop - ride.lowered - 1) r
-    pub gives : (choice : ℕ) → step_of net ride.place (V6 (there-packet p ride)) choice
-        ≡ goes (outcomes.Again ride.sid (onward_from ride.sid sid.behaviour)) (V6 r)
+    pub along : Along tunnel y (hop - transit.lowered - 1) r
+    pub gives : (choice : ℕ) → step_of net transit.place (V6 (there_packet p transit)) choice
+        ≡ goes (outcomes.Again transit.sid (onward_from transit.sid sid.behaviour)) (V6 r)
     pub rest : List Step
-    pub behind : LeftBehind net ride.sid ride.left rest
-    pub hands : Hands net (place_behind ride.sid sid) (V6 r) rest
+    pub behind : LeftBehind net transit.sid transit.left rest
+    pub hands : Hands net (place_behind transit.sid sid) (V6 r) rest
 
-  -- a SID that binds a policy is not executed
-  binds-not : (position : ℕ) (via : Option ℕ) (x : lists.ListPlace) (q : PrefixValue) (hop : ℕ) (p : Packet) (place : Place)
+  -- a binding SID is not executed
+  binds_not : (position : ℕ) (via : Option ℕ) (x : lists.ListPlace) (q : PrefixValue) (hop : ℕ) (p : Packet) (place : Place)
       → (c : Comes position via x q hop p place) → (number : ℕ) → behaviour_policy c.sid.behaviour ≡ Some number → (after : Packet)
-      → step_of net c.ride.place (V6 (there-packet p c.ride)) 0
-      ≡ goes (outcomes.Again c.ride.sid (onward_from c.ride.sid c.sid.behaviour)) (V6 after) → ⊥
-  binds-not position via x q hop p place c number binding after gives =
-      let n = c.ride.sid in
+      → step_of net c.transit.place (V6 (there_packet p c.transit)) 0
+      ≡ goes (outcomes.Again c.transit.sid (onward_from c.transit.sid c.sid.behaviour)) (V6 after) → ⊥
+  binds_not position via x q hop p place c number binding after gives =
+      let n = c.transit.sid in
       let zeros : ℕ → ℕ = λ d. 0 in
       let hand = c.hands zeros in
-      let over = again-over net c.ride.place (place_behind n c.sid) (V6 (there-packet p c.ride)) (V6 after) zeros 0 hand.0 n
-      (onward_from n c.sid.behaviour) gives (behind-again net c.ride.place n c.sid c.stands c.is_v6) hand.1 in
+      let over = again_over net c.transit.place (place_behind n c.sid) (V6 (there_packet p c.transit)) (V6 after) zeros 0 hand.0 n
+      (onward_from n c.sid.behaviour) gives (behind_again net c.transit.place n c.sid c.stands c.is_v6) hand.1 in
       let first = All-head (λ (m : ℕ). is_binding net m ≡ false) n over.0.sids
       (subst (Unbound net) (sym (ap (λ (h : Handed). h.sids) over.2)) hand.3) in
       let is : is_binding net n ≡ true = ap sid_binds c.there ∙ ap (λ (o : Option ℕ). is_some o) binding in
       absurd (false≢true (sym first ∙ is))
 
   -- what is handed over after the execution
-  goes-over : (position : ℕ) (via : Option ℕ) (x : lists.ListPlace) (q : PrefixValue) (hop : ℕ) (p r : Packet) (place : Place)
+  goes_over : (position : ℕ) (via : Option ℕ) (x : lists.ListPlace) (q : PrefixValue) (hop : ℕ) (p r : Packet) (place : Place)
       → (c : Comes position via x q hop p place)
-      → ((choice : ℕ) → step_of net c.ride.place (V6 (there-packet p c.ride)) choice
-      ≡ goes (outcomes.Again c.ride.sid (onward_from c.ride.sid c.sid.behaviour)) (V6 r))
+      → ((choice : ℕ) → step_of net c.transit.place (V6 (there_packet p c.transit)) choice
+      ≡ goes (outcomes.Again c.transit.sid (onward_from c.transit.sid c.sid.behaviour)) (V6 r))
       → (pick : ℕ → ℕ)
-      → (k : Handed) × Hands-over net (place_behind c.ride.sid c.sid) (V6 r) pick 0 k
-      × (matches c.ride.left (executed net c.ride.sid ++ k.trace) ≡ true) × Unbound net k.sids
-  goes-over position via x q hop p r place c gives pick =
-      let n = c.ride.sid in
+      → (k : Handed) × Hands_over net (place_behind c.transit.sid c.sid) (V6 r) pick 0 k
+      × (matches c.transit.left (executed net c.transit.sid ++ k.trace) ≡ true) × Unbound net k.sids
+  goes_over position via x q hop p r place c gives pick =
+      let n = c.transit.sid in
       let hand = c.hands pick in
-      let over = again-over net c.ride.place (place_behind n c.sid) (V6 (there-packet p c.ride)) (V6 r) pick 0 hand.0 n
-      (onward_from n c.sid.behaviour) (gives (pick 0)) (behind-again net c.ride.place n c.sid c.stands c.is_v6) hand.1 in (
+      let over = again_over net c.transit.place (place_behind n c.sid) (V6 (there_packet p c.transit)) (V6 r) pick 0 hand.0 n
+      (onward_from n c.sid.behaviour) (gives (pick 0)) (behind_again net c.transit.place n c.sid c.stands c.is_v6) hand.1 in (
         over.0,
         (over.1.0, over.1.1),
-        ap (λ (h : Handed). matches c.ride.left h.trace) over.2 ∙ hand.2,
+        ap (λ (h : Handed). matches c.transit.left h.trace) over.2 ∙ hand.2,
         All-tail (λ (m : ℕ). is_binding net m ≡ false) n over.0.sids
             (subst (Unbound net) (sym (ap (λ (h : Handed). h.sids) over.2)) hand.3),
       )
 
-  goes-onwards : (position : ℕ) (via : Option ℕ) (x y : lists.ListPlace) (q : PrefixValue) (hop : ℕ) (p r : Packet) (place : Place)
-      → (c : Comes position via x q hop p place) → takes_step c.sid ≡ true → 1 < hop - c.ride.lowered → next_of x ≡ Some y
-      → Along tunnel y (hop - c.ride.lowered - 1) r
-      → ((choice : ℕ) → step_of net c.ride.place (V6 (there-packet p c.ride)) choice
-      ≡ goes (outcomes.Again c.ride.sid (onward_from c.ride.sid c.sid.behaviour)) (V6 r))
-      → Goes-on x y hop p c.ride c.sid r
-  goes-onwards position via x y q hop p r place c middle high next along gives =
-      let over = goes-over position via x q hop p r place c gives in
+  goes_onwards : (position : ℕ) (via : Option ℕ) (x y : lists.ListPlace) (q : PrefixValue) (hop : ℕ) (p r : Packet) (place : Place)
+      → (c : Comes position via x q hop p place) → takes_step c.sid ≡ true → 1 < hop - c.transit.lowered → next_of x ≡ Some y
+      → Along tunnel y (hop - c.transit.lowered - 1) r
+      → ((choice : ℕ) → step_of net c.transit.place (V6 (there_packet p c.transit)) choice
+      ≡ goes (outcomes.Again c.transit.sid (onward_from c.transit.sid c.sid.behaviour)) (V6 r))
+      → Goes-on x y hop p c.transit c.sid r
+  goes_onwards position via x y q hop p r place c middle high next along gives =
+      let over = goes_over position via x q hop p r place c gives in
       let zeros : ℕ → ℕ = λ d. 0 in
-      let behind = meets-behind net c.ride.sid c.ride.left (over zeros).0.trace (over zeros).2 in
+      let behind = meets_behind net c.transit.sid c.transit.left (over zeros).0.trace (over zeros).2 in
       record {
         middle = middle;
         high = high;
@@ -176,73 +178,73 @@ module _ (net : Network) (network : IsNetwork net) (flat : IsFlat net) (facts : 
   -- ---- the packet is exposed at the SID that it comes to
 
   ended : (position : ℕ) (via : Option ℕ) (x : lists.ListPlace) (q : PrefixValue) (hop : ℕ) (p : Packet) (place : Place)
-      → is_start net intent position via ≡ true → place_from net intent via ≡ Some place
+      → is_origin net intent position via ≡ true → place_from net intent via ≡ Some place
       → (c : Comes position via x q hop p place) → (f : Family) (bytes : List ℕ)
-      → at_sid c.sid (allow_of (slice_get net.nodes c.ride.place.node)) (there-packet p c.ride) ≡ Exposed f bytes
+      → at_sid c.sid (allow_of (slice_get net.nodes c.transit.place.node)) (there_packet p c.transit) ≡ Exposed f bytes
       → BecomesOf k AnyWay tunnel x q position via hop p
   ended position via x q hop p place start from c f bytes shown =
-      let n = c.ride.sid in
+      let n = c.transit.sid in
       let zeros : ℕ → ℕ = λ d. 0 in
       let ts = drop position intent.steps in
-      let shows = along-exposes c.sid _ tunnel x (hop - c.ride.lowered) (there-packet p c.ride) f bytes c.along c.on shown in
-      let gives = λ (choice : ℕ). stage_into net c.ride.place (there-packet p c.ride) n c.sid choice c.into c.there
-      ∙ ap (treated_at_sid net c.ride.place.node n c.sid.behaviour (there-packet p c.ride)) shown in
+      let shows = along_exposes c.sid _ tunnel x (hop - c.transit.lowered) (there_packet p c.transit) f bytes c.along c.on shown in
+      let gives = λ (choice : ℕ). stage_into net c.transit.place (there_packet p c.transit) n c.sid choice c.into c.there
+      ∙ ap (treated_at_sid net c.transit.place.node n c.sid.behaviour (there_packet p c.transit)) shown in
       let hand = c.hands zeros in
-      let at = hand-over net c.ride.place (V6 (there-packet p c.ride)) (read_as f bytes) zeros 0 hand.0 n (exposed_from n c.sid.behaviour) f
+      let at = hand_over net c.transit.place (V6 (there_packet p c.transit)) (read_as f bytes) zeros 0 hand.0 n (exposed_from n c.sid.behaviour) f
       (gives 0) hand.1 in
-      let met : matches c.ride.left (executed net n) ≡ true = ap (matches c.ride.left) (sym at.1) ∙ hand.2 in
-      let behind = meets-behind net n c.ride.left [] (ap (matches c.ride.left) (append-nil (executed net n)) ∙ met) in
-      let none : matches behind.0 [] ≡ true = sym (behind-alone net n c.ride.left behind.0 behind.1) ∙ met in
-      let left : left_after net n c.ride.left ≡ Some 0 = behind.1.left ∙ ap Some (no-steps behind.0 none) in
-      let nr : NextRide net intent position via n
-      = record { start = start; place = place; from = from; ride = c.ride; is_ride = c.is_ride; sid = refl; left = 0; left_is = left } in
+      let met : matches c.transit.left (executed net n) ≡ true = ap (matches c.transit.left) (sym at.1) ∙ hand.2 in
+      let behind = meets_behind net n c.transit.left [] (ap (matches c.transit.left) (append-nil (executed net n)) ∙ met) in
+      let none : matches behind.0 [] ≡ true = sym (behind_alone net n c.transit.left behind.0 behind.1) ∙ met in
+      let left : left_after net n c.transit.left ≡ Some 0 = behind.1.left ∙ ap Some (no_steps behind.0 none) in
+      let nr : NextTransit net intent position via n
+      = record { start = start; place = place; from = from; transit = c.transit; is_transit = c.is_transit; sid = refl; left = 0; left_is = left } in
       let opens : hands_over intent.inner c.sid ≡ true = ap (λ (g : Family). hands_over g c.sid) (sym family) ∙ shows.1 in
-      Ended n c.ride.lowered (finish-from net intent position via n nr (ap (sid_exposes intent.inner) c.there ∙ opens) refl)
-      (shape-prefix net n ∙ c.prefix) c.low shows.0
+      Ended n c.transit.lowered (finish_from net intent position via n nr (ap (sid_exposes intent.inner) c.there ∙ opens) refl)
+      (shape_prefix net n ∙ c.prefix) c.low shows.0
       (λ pick taken h over.
-      let started = from-place net keeps facts intent is_intent tunnel via p pick taken h place from over in
-      let rest = ride-over net ts place p c.ride pick taken h c.walked started in
-      let end = hand-over net c.ride.place (V6 (there-packet p c.ride)) (read_as f bytes) pick (taken + c.walked.count) rest.0 n
+      let started = from_place net keeps facts intent is_intent tunnel via p pick taken h place from over in
+      let rest = transit_over net ts place p c.transit pick taken h c.walked started in
+      let end = hand_over net c.transit.place (V6 (there_packet p c.transit)) (read_as f bytes) pick (taken + c.walked.count) rest.0 n
       (exposed_from n c.sid.behaviour) f (gives (pick (taken + c.walked.count))) rest.1 in
       sym (ap (λ (k : Handed). k.sids) rest.2) ∙ end.0)
 
   -- ---- it goes on
 
   moved : (position : ℕ) (via : Option ℕ) (x y : lists.ListPlace) (q : PrefixValue) (hop : ℕ) (p r : Packet) (place : Place)
-      → is_start net intent position via ≡ true → place_from net intent via ≡ Some place
-      → (c : Comes position via x q hop p place) → Goes-on x y hop p c.ride c.sid r → BecomesOf k AnyWay tunnel x q position via hop p
+      → is_origin net intent position via ≡ true → place_from net intent via ≡ Some place
+      → (c : Comes position via x q hop p place) → Goes-on x y hop p c.transit c.sid r → BecomesOf k AnyWay tunnel x q position via hop p
   moved position via x y q hop p r place start from c g =
-      let n = c.ride.sid in
+      let n = c.transit.sid in
       let left = length g.rest in
-      let nr : NextRide net intent position via n
+      let nr : NextTransit net intent position via n
       = record {
         start = start;
         place = place;
         from = from;
-        ride = c.ride;
-        is_ride = c.is_ride;
+        transit = c.transit;
+        is_transit = c.is_transit;
         sid = refl;
         left = left;
         left_is = g.behind.left;
       } in
-      let s = start-facts net keeps intent is_intent position via place start from in
-      let f = ride-facts net keeps (sid_address net n) (drop position intent.steps) place c.ride s.how s.rest c.is_ride in
-      let rest = rest-is intent.steps c.ride.left g.rest position f.count left f.left g.behind.rest refl f.within s.within g.behind.few in
+      let s = start_facts net keeps intent is_intent position via place start from in
+      let f = transit_facts_law net keeps (sid_address net n) (drop position intent.steps) place c.transit s.how s.rest c.is_transit in
+      let rest = rest_is intent.steps c.transit.left g.rest position f.count left f.left g.behind.rest refl f.within s.within g.behind.few in
       let on : place_from net intent (Some n) ≡ Some (place_behind n c.sid) = ap (option_map (place_behind n)) c.there in
       let high = g.high in
-      let less : hop - c.ride.lowered - 1 ≡ hop - (c.ride.lowered + 1) = omega arith in
-      Moved n (leg_with (length intent.steps) c.ride.lowered left) y r
-      (leg-from net intent position via n nr (ap sid_goes_on c.there ∙ g.middle)) (shape-prefix net n ∙ c.prefix)
+      let less : hop - c.transit.lowered - 1 ≡ hop - (c.transit.lowered + 1) = omega arith in
+      Moved n (leg_with (length intent.steps) c.transit.lowered left) y r
+      (leg_from net intent position via n nr (ap sid_goes_on c.there ∙ g.middle)) (shape_prefix net n ∙ c.prefix)
       (omega (arith, high)) g.next (subst (λ (j : ℕ). Along tunnel y j r) less g.along)
-      (to-kept (Some n) r (length intent.steps - left)
+      (to_kept (Some n) r (length intent.steps - left)
       (subst (λ (us : List Step). HandsFrom (place_from net intent (Some n)) r us) rest
       (subst (λ (o : Option Place). HandsFrom o r g.rest) (sym on) g.hands)))
       (λ pick taken h any over.
-      let started = from-place net keeps facts intent is_intent tunnel via p pick taken h place from over in
-      let rest = ride-over net (drop position intent.steps) place p c.ride pick taken h c.walked started in
-      let again = again-over net c.ride.place (place_behind n c.sid) (V6 (there-packet p c.ride)) (V6 r) pick (taken + c.walked.count)
+      let started = from_place net keeps facts intent is_intent tunnel via p pick taken h place from over in
+      let rest = transit_over net (drop position intent.steps) place p c.transit pick taken h c.walked started in
+      let again = again_over net c.transit.place (place_behind n c.sid) (V6 (there_packet p c.transit)) (V6 r) pick (taken + c.walked.count)
       rest.0 n (onward_from n c.sid.behaviour) (g.gives (pick (taken + c.walked.count)))
-      (behind-again net c.ride.place n c.sid c.stands c.is_v6) rest.1 in (
+      (behind_again net c.transit.place n c.sid c.stands c.is_v6) rest.1 in (
         taken + c.walked.count + 0,
         again.0,
         tt,
@@ -256,39 +258,39 @@ module _ (net : Network) (network : IsNetwork net) (flat : IsFlat net) (facts : 
   -- ---- what comes of the packet where it comes to: it is exposed, or goes on
 
   becomes : (position : ℕ) (via : Option ℕ) (x : lists.ListPlace) (q : PrefixValue) (hop : ℕ) (p : Packet) (place : Place)
-      → is_start net intent position via ≡ true → place_from net intent via ≡ Some place
+      → is_origin net intent position via ≡ true → place_from net intent via ≡ Some place
       → (c : Comes position via x q hop p place) → BecomesOf k AnyWay tunnel x q position via hop p
   becomes position via x q hop p place start from c = by_end (at_sid c.sid allow b) refl
     where
       b : Packet
-      b = there-packet p c.ride
+      b = there_packet p c.transit
 
       allow : List ℕ
-      allow = allow_of (slice_get net.nodes c.ride.place.node)
+      allow = allow_of (slice_get net.nodes c.transit.place.node)
 
       n : ℕ
-      n = c.ride.sid
+      n = c.transit.sid
 
       zeros : ℕ → ℕ
       zeros d = 0
 
       gives : (e : Endpoint) → at_sid c.sid allow b ≡ e → (choice : ℕ)
-          → step_of net c.ride.place (V6 b) choice ≡ treated_at_sid net c.ride.place.node n c.sid.behaviour b e
+          → step_of net c.transit.place (V6 b) choice ≡ treated_at_sid net c.transit.place.node n c.sid.behaviour b e
       gives e is choice =
-          stage_into net c.ride.place b n c.sid choice c.into c.there ∙ ap (treated_at_sid net c.ride.place.node n c.sid.behaviour b) is
+          stage_into net c.transit.place b n c.sid choice c.into c.there ∙ ap (treated_at_sid net c.transit.place.node n c.sid.behaviour b) is
 
       onward : (r : Packet) → at_sid c.sid allow b ≡ Onward r → BecomesOf k AnyWay tunnel x q position via hop p
       onward r is =
-          let only = along-only c.sid allow tunnel x (hop - c.ride.lowered) b r c.along c.on is in
-          let moves = onward-moves c.sid b allow r is in
-          let goes-it = moved-goes c.sid x c.on b moves in
+          let only = along_only c.sid allow tunnel x (hop - c.transit.lowered) b r c.along c.on is in
+          let moves = onward_moves c.sid b allow r is in
+          let goes-it = moved_goes c.sid x c.on b moves in
           let Stage : Gave → Type 0
-          = λ gave. ((choice : ℕ) → step_of net c.ride.place (V6 b) choice ≡ gave) → BecomesOf k AnyWay tunnel x q position via hop p in
-          onward-each net c.ride.place.node n c.sid.behaviour b r Stage
-          (λ none all. moved position via x only.1 q hop p r place start from c (goes-onwards position via x only.1 q hop p r place c
+          = λ gave. ((choice : ℕ) → step_of net c.transit.place (V6 b) choice ≡ gave) → BecomesOf k AnyWay tunnel x q position via hop p in
+          onward_each net c.transit.place.node n c.sid.behaviour b r Stage
+          (λ none all. moved position via x only.1 q hop p r place start from c (goes_onwards position via x only.1 q hop p r place c
           (and_from (goes_on c.sid) (not (binds c.sid)) goes-it (ap (λ (o : Option ℕ). not (is_some o)) none)) only.0 only.2 only.3 all))
-          (λ number named binding policy fits all. absurd (binds-not position via x q hop p place c number binding _ (all 0)))
-          (λ reason all. absurd (none-dropped net c.ride.place (V6 b) (V6 b) zeros 0 (c.hands zeros).0 _ (all 0) (λ later. refl)
+          (λ number named binding policy fits all. absurd (binds_not position via x q hop p place c number binding _ (all 0)))
+          (λ reason all. absurd (none_dropped net c.transit.place (V6 b) (V6 b) zeros 0 (c.hands zeros).0 _ (all 0) (λ later. refl)
           (c.hands zeros).1))
           (gives (Onward r) is)
 
@@ -296,20 +298,20 @@ module _ (net : Network) (network : IsNetwork net) (flat : IsFlat net) (facts : 
       by_end (Onward r) is = onward r is
       by_end (Exposed f bytes) is = ended position via x q hop p place start from c f bytes is
       by_end (Delivered r) is =
-          absurd (none-dropped net c.ride.place (V6 b) (V6 b) zeros 0 (c.hands zeros).0 _ (gives (Delivered r) is 0) (λ later. refl)
+          absurd (none_dropped net c.transit.place (V6 b) (V6 b) zeros 0 (c.hands zeros).0 _ (gives (Delivered r) is 0) (λ later. refl)
           (c.hands zeros).1)
       by_end (Refused reason at) is =
-          absurd (none-dropped net c.ride.place (V6 b) (V6 b) zeros 0 (c.hands zeros).0 _ (gives (Refused reason at) is 0) (λ later. refl)
+          absurd (none_dropped net c.transit.place (V6 b) (V6 b) zeros 0 (c.hands zeros).0 _ (gives (Refused reason at) is 0) (λ later. refl)
           (c.hands zeros).1)
 
-  pub leg-down : (x : lists.ListPlace) (q : PrefixValue) (position : ℕ) (via : Option ℕ) (hop : ℕ) (p : Packet)
+  pub leg_down : (x : lists.ListPlace) (q : PrefixValue) (position : ℕ) (via : Option ℕ) (hop : ℕ) (p : Packet)
       → position ≤ length intent.steps → IsVia (legs_value net intent) position via → Along tunnel x hop p → PlaceKeeps net x
       → active x ≡ list_sid net q → IsSidPrefix net q → 0 < hop → AlwaysHands k via p position
       → BecomesOf k AnyWay tunnel x q position via hop p
-  leg-down x q position via hop p within at along nests to named positive hands =
+  leg_down x q position via hop p within at along nests to named positive hands =
       let start = starts position via within at in
       let place = from position via start in
       let c = comings.comes net network flat facts intent is_intent tunnel family position via x q hop p place.0 start place.1 along
       nests to named positive (subst (λ (o : Option Place). HandsFrom o p (drop position intent.steps)) place.1
-      (of-kept via p position hands)) in
+      (of_kept via p position hands)) in
       becomes position via x q hop p place.0 start place.1 c

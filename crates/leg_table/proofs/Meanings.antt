@@ -8,122 +8,123 @@ use Rattle.list_pack.specs.declared.types.Cost.{Cost}
 use Rattle.list_pack.specs.declared.types.PathStep.{PathStep}
 use Rattle.list_pack.specs.Costs.{Move, cost_of, start}
 use Rattle.list_pack.specs.Least.{step_of}
-use Rattle.list_pack.specs.Paths.{sids_of_moves, cost_with}
+use Rattle.list_pack.specs.Paths.{cost_with}
+use Rattle.list_pack.specs.PathsTerms.{sids_of_moves}
 use Rattle.list_pack.specs.PathLists.{list_of}
 use Rattle.list_pack.specs.PathLists as lists
 use Rattle.list_pack.specs.SidLists.{IsSidPrefix, IsLegalList, list_values, prefixes_in, steps_in}
 use Rattle.list_pack.specs.Meaning.{IsRealized, IsPathOf, IsPathBelow, Means}
-use Rattle.list_pack.proofs.PublicLaws.{split-of, path-list, steps-prefixes}
+use Rattle.list_pack.proofs.PublicLaws.{split_of, path_list, steps_prefixes}
 use Rattle.list_pack.proofs.PublicLaws as packs
-use Rattle.leg_table.specs.OneLeg.{LegKind, KindLaws, prefix_in}
-use Rattle.leg_table.specs.Meant.{AlwaysInner, IsRealizing, IsExecuting, IsHanding}
-use Rattle.leg_table.proofs.Inners.{some_inner, some_inner-is}
-use Rattle.leg_table.proofs.ListPlaces.{before-first}
-use Rattle.leg_table.proofs.Realizing.{first-place, one, packet, path-named, path-realizes, path-counts, by-list, PathAlong, list-path}
+use Rattle.leg_table.specs.OneLegLaws.{LegKind, KindLaws, prefix_in}
+use Rattle.leg_table.specs.LegMeaning.{AlwaysInner, IsRealizing, IsExecuting, IsHanding}
+use Rattle.leg_table.proofs.Inners.{some_inner, some_inner_is}
+use Rattle.leg_table.proofs.ListPlaces.{before_first}
+use Rattle.leg_table.proofs.StrictRealizing.{first_place, one, packet, path_named, path_realizes, path_counts, by_list, PathAlong, list_path}
 
 module _ (k : LegKind) (Longest : Option ℕ → Packet → (ℕ → ℕ) → ℕ → Type 0) (laws : KindLaws k Longest) where
   -- ---- a path is a list
 
-  moves-prefixes : (moves : List Move)
+  moves_prefixes : (moves : List Move)
       → map (λ (p : PathStep). p.prefix) (map (step_of k.legs) moves) ≡ map (prefix_in k) (sids_of_moves moves)
-  moves-prefixes [] = refl
-  moves-prefixes (m ∷ ms) = ap (λ (ps : List PrefixValue). prefix_in k m.sid ∷ ps) (moves-prefixes ms)
+  moves_prefixes [] = refl
+  moves_prefixes (m ∷ ms) = ap (λ (ps : List PrefixValue). prefix_in k m.sid ∷ ps) (moves_prefixes ms)
 
   pub realized : (moves : List Move) (c : Cost) → cost_of k.legs start moves ≡ Some c
       → IsRealized k.net (IsRealizing k) (IsExecuting k) (map (step_of k.legs) moves) c
-  realized [] c cost = let none = (split-of k.legs start [] c cost).hops in absurd (cc)
+  realized [] c cost = let none = (split_of k.legs start [] c cost).hops in absurd (cc)
   realized (m ∷ ms) c cost =
       let moves : List Move = m ∷ ms in
       let list : List Container = list_of k.net (map (step_of k.legs) moves) in
-      let hops = (split-of k.legs start moves c cost).hops in
-      let made = path-list k.legs k.net moves c laws.legs laws.suits cost in
+      let hops = (split_of k.legs start moves c cost).hops in
+      let made = path_list k.legs k.net moves c laws.legs laws.suits cost in
       let names : map (prefix_in k) (sids_of_moves moves) ≡ prefixes_in list
-      = sym (moves-prefixes moves) ∙ ap (map (λ (p : PathStep). p.prefix)) (sym made.steps) ∙ steps-prefixes list in
+      = sym (moves_prefixes moves) ∙ ap (map (λ (p : PathStep). p.prefix)) (sym made.steps) ∙ steps_prefixes list in
       let legal : IsLegalList k.net list = record {
         rules = made.legal;
         named = subst (λ (ps : List PrefixValue). All (IsSidPrefix k.net) ps) names
-            (path-named k Longest laws (sids_of_moves ms) m.sid 0 None c.hops hops);
+            (path_named k Longest laws (sids_of_moves ms) m.sid 0 None c.hops hops);
         nests = made.nests;
       } in
       record {
         of_path = made;
         legal = legal;
-        realizes = path-realizes k Longest laws list legal m.sid (sids_of_moves ms) c.hops names hops;
-        executes = path-counts k Longest laws list legal m.sid (sids_of_moves ms) c.hops names hops;
+        realizes = path_realizes k Longest laws list legal m.sid (sids_of_moves ms) c.hops names hops;
+        executes = path_counts k Longest laws list legal m.sid (sids_of_moves ms) c.hops names hops;
       }
 
   -- ---- a list is a path of no greater cost
 
   module _ (list : List Container) (legal : IsLegalList k.net list) where
-    moves-along : (inner : Content) (hop : ℕ) → (p : PathAlong k Longest laws list legal inner hop)
+    moves_along : (inner : Content) (hop : ℕ) → (p : PathAlong k Longest laws list legal inner hop)
         → lists.IsPathAlong k.legs list (p.first ∷ p.more) p.need
-    moves-along inner hop p =
+    moves_along inner hop p =
         let last = p.last in
-        let same = before-first k.net list (first-place k Longest laws list legal).0 (first-place k Longest laws list legal).1 in
-        packs.list-path k.legs k.net list (p.first ∷ p.more) p.need laws.legs laws.suits legal.rules legal.nests p.is_path p.names
+        let same = before_first k.net list (first_place k Longest laws list legal).0 (first_place k Longest laws list legal).1 in
+        packs.list_path k.legs k.net list (p.first ∷ p.more) p.need laws.legs laws.suits legal.rules legal.nests p.is_path p.names
         (omega (arith, last, same))
 
     -- where all SIDs are executed the path has the list's steps, and its hops are the need
-    whole-path : (inner : Content) (hop need : ℕ) → IsRealizing k list need → (p : PathAlong k Longest laws list legal inner hop)
+    whole_path : (inner : Content) (hop need : ℕ) → IsRealizing k list need → (p : PathAlong k Longest laws list legal inner hop)
         → p.need ≤ need → length (p.first ∷ p.more) ≡ length (prefixes_in list)
-        → (map (step_of k.legs) (moves-along inner hop p).moves ≡ steps_in list) × (p.need ≡ need)
-    whole-path inner hop need real p within all =
+        → (map (step_of k.legs) (moves_along inner hop p).moves ≡ steps_in list) × (p.need ≡ need)
+    whole_path inner hop need real p within all =
         let sids : List ℕ = p.first ∷ p.more in
         let long : length (steps_in list) ≡ length (prefixes_in list)
-        = sym (length-map (steps_in list) (λ (p : PathStep). p.prefix)) ∙ ap length (steps-prefixes list) in
+        = sym (length-map (steps_in list) (λ (p : PathStep). p.prefix)) ∙ ap length (steps_prefixes list) in
         let names : map (prefix_in k) sids ≡ prefixes_in list
         = p.names ∙ take_all (length sids) (prefixes_in list) (omega (arith, all)) in
-        let least = real.least p.need (path-realizes k Longest laws list legal p.first p.more p.need names p.is_path).reaches in (
-          (moves-along inner hop p).steps ∙ take_all (length sids) (steps_in list) (omega (arith, long, all)),
+        let least = real.least p.need (path_realizes k Longest laws list legal p.first p.more p.need names p.is_path).reaches in (
+          (moves_along inner hop p).steps ∙ take_all (length sids) (steps_in list) (omega (arith, long, all)),
           omega (arith, within, least),
         )
 
-    path-of : (need : ℕ) → IsRealizing k list need → IsPathOf k.legs (IsExecuting k) list need
-    path-of need real =
+    path_of : (need : ℕ) → IsRealizing k list need → IsPathOf k.legs (IsExecuting k) list need
+    path_of need real =
         let inner = some_inner k.intent.inner in
         let hop : ℕ = need + 1 in
         let marks = real.reaches.0 in
         let always : AlwaysInner k (list_values k.net list) inner hop marks
-        = real.reaches.1 inner (some_inner-is k.intent.inner) hop (omega arith) in
-        let p = list-path k Longest laws list legal inner hop marks (omega arith) always in
+        = real.reaches.1 inner (some_inner_is k.intent.inner) hop (omega arith) in
+        let p = list_path k Longest laws list legal inner hop marks (omega arith) always in
         let below = p.below in
         let within : p.need ≤ need = omega (arith, below) in
         let longest = (one k Longest laws list legal inner).some_longest None (packet k Longest laws list legal inner hop) in
-        let hand = by-list k Longest laws list legal inner hop marks always longest.0 in
+        let hand = by_list k Longest laws list legal inner hop marks always longest.0 in
         record {
-          moves = (moves-along inner hop p).moves;
+          moves = (moves_along inner hop p).moves;
           hops = p.need;
-          cost = (moves-along inner hop p).cost;
+          cost = (moves_along inner hop p).cost;
           within = within;
           whole = λ executes.
-              whole-path inner hop need real p within
+              whole_path inner hop need real p within
               (sym (ap length (p.executes longest.0 0 _ longest.1 hand.2)) ∙ executes inner hop marks hand.0 (always hand.0 hand.1));
         }
 
-    path-below : (hop : ℕ) → IsHanding k list hop → IsPathBelow k.legs list hop
-    path-below hop hands =
-        let p = list-path k Longest laws list legal hands.inner hop hands.marks hands.positive hands.always in
-        let got = moves-along hands.inner hop p in
+    path_below : (hop : ℕ) → IsHanding k list hop → IsPathBelow k.legs list hop
+    path_below hop hands =
+        let p = list_path k Longest laws list legal hands.inner hop hands.marks hands.positive hands.always in
+        let got = moves_along hands.inner hop p in
         record { moves = got.moves; hops = p.need; cost = got.cost; below = p.below }
 
     -- where a list hands over even one inner packet at a hop limit, one of as many containers realizes with a need below that
-    pub hands-realizes : (hop : ℕ) → IsHanding k list hop
+    pub hands_realizes : (hop : ℕ) → IsHanding k list hop
         → (other : List Container) × (need : ℕ) × IsLegalList k.net other × IsRealizing k other need × (length other ≡ length list)
         × (need < hop)
-    hands-realizes hop hands =
-        let path = path-below hop hands in
+    hands_realizes hop hands =
+        let path = path_below hop hands in
         let made = realized path.moves (cost_with (length list) path.hops) path.cost in
         (list_of k.net (map (step_of k.legs) path.moves), path.hops, made.legal, made.realizes, made.of_path.count, path.below)
 
   -- legs that keep the laws of their kind mean the lists that realize, as it is said apart from the kind
-  pub means-as : (Realizes Executes Hands : List Container → ℕ → Type 0)
+  pub means_as : (Realizes Executes Hands : List Container → ℕ → Type 0)
       → ((list : List Container) (need : ℕ) → IsLegalList k.net list → IsRealizing k list need
       → IsExecuting k list (length (prefixes_in list)) → Realizes list need)
       → ((list : List Container) (count : ℕ) → IsExecuting k list count → Executes list count)
       → ((list : List Container) (need : ℕ) → IsLegalList k.net list → Realizes list need
       → IsRealizing k list need × (Executes list (length (prefixes_in list)) → IsExecuting k list (length (prefixes_in list))))
       → ((list : List Container) (hop : ℕ) → Hands list hop → IsHanding k list hop) → Means k.legs k.net Realizes Executes Hands
-  means-as Realizes Executes Hands to_realizes to_executes of_realizes of_hands =
+  means_as Realizes Executes Hands to_realizes to_executes of_realizes of_hands =
       record {
         sids = laws.sids;
         suits = laws.suits;
@@ -137,7 +138,7 @@ module _ (k : LegKind) (Longest : Option ℕ → Packet → (ℕ → ℕ) → �
             };
         paths = λ list need legal real.
             let of = of_realizes list need legal real in
-            let path = path-of list legal need of.0 in
+            let path = path_of list legal need of.0 in
             record {
               moves = path.moves;
               hops = path.hops;
@@ -145,16 +146,16 @@ module _ (k : LegKind) (Longest : Option ℕ → Packet → (ℕ → ℕ) → �
               within = path.within;
               whole = λ executes. path.whole (of.1 executes);
             };
-        handing = λ list hop legal hands. path-below list legal hop (of_hands list hop hands);
+        handing = λ list hop legal hands. path_below list legal hop (of_hands list hop hands);
       }
 
   -- and so as it is said of the kind
-  pub kind-means : Means k.legs k.net (IsRealizing k) (IsExecuting k) (IsHanding k)
-  kind-means =
+  pub kind_means : Means k.legs k.net (IsRealizing k) (IsExecuting k) (IsHanding k)
+  kind_means =
       record {
         sids = laws.sids;
         suits = laws.suits;
         lists = realized;
-        paths = λ list need legal real. path-of list legal need real;
-        handing = λ list hop legal hands. path-below list legal hop hands;
+        paths = λ list need legal real. path_of list legal need real;
+        handing = λ list hop legal hands. path_below list legal hop hands;
       }

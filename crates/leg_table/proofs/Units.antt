@@ -4,14 +4,15 @@ use Rattle.std.proofs.Common.{◌≡◌, ℕ, ◌+◌, ◌-◌, ◌*◌, ◌/◌
 use Rattle.std.proofs.lemmas.Nat.{shr_high, shr-shr, mod_low, mod_below, mod-pow-add, pow_pos, pow-add}
 use Rattle.v6_addr.specs.Address.{PrefixValue, Holds, field_of}
 use Rattle.v6_addr.proofs.PublicLaws.{same_above}
-use Rattle.srv6_rules.specs.Compressed.{argument_of, shift_of, container_of, IsContainer}
-use Rattle.srv6_rules.proofs.PublicLaws.{container-shift, container-rest, container-holds}
+use Rattle.srv6_rules.specs.Compressed.{argument_of, shift_of, container_of}
+use Rattle.srv6_rules.specs.CompressedTerms.{IsContainer}
+use Rattle.srv6_rules.proofs.PublicLaws.{container_shift, container_rest, container_holds}
 
 -- ---- bits of numbers
 
 -- the highest bits of what is left below a bit
-below-cut : (a rest width : ℕ) → a % 2 ^ (width + rest) / 2 ^ rest ≡ a / 2 ^ rest % 2 ^ width
-below-cut a rest width =
+below_cut : (a rest width : ℕ) → a % 2 ^ (width + rest) / 2 ^ rest ≡ a / 2 ^ rest % 2 ^ width
+below_cut a rest width =
     ap (λ n. n / 2 ^ rest) (mod-pow-add a width rest)
     ∙ shr_high (a / 2 ^ rest % 2 ^ width) rest (a % 2 ^ rest) (mod_below a (2 ^ rest) (pow_pos rest))
 
@@ -33,7 +34,7 @@ moved d h k =
     ∙ ap (λ n. n / 2 ^ k) (ap (λ n. n / 2 ^ 16) (sym (add-zero (x * 2 ^ 16))) ∙ shr_high x 16 0 (pow_pos 16)) in
     let lower : x % 2 ^ (16 + k) ≡ low = mod_low h (16 + k) low (mod_below d (2 ^ (16 + k)) (pow_pos (16 + k))) in
     ap (λ n. n % 2 ^ 16) down
-    ∙ sym (below-cut x k 16) ∙ ap (λ n. n / 2 ^ k) lower ∙ below-cut d k 16
+    ∙ sym (below_cut x k 16) ∙ ap (λ n. n / 2 ^ k) lower ∙ below_cut d k 16
   where
     add-zero : (n : ℕ) → n + 0 ≡ n
     add-zero n = omega arith
@@ -41,9 +42,9 @@ moved d h k =
 -- ---- units of addresses
 
 -- the shift of a destination at a SID of 16 bits after the block's has the destination's next 16 bits after the block's
-shift-unit : (d lbl len : ℕ) → len ≡ lbl + 16 → lbl + 32 ≤ 128 → field_of (shift_of d lbl len) lbl 16 ≡ field_of d (lbl + 16) 16
+shift_unit : (d lbl len : ℕ) → len ≡ lbl + 16 → lbl + 32 ≤ 128 → field_of (shift_of d lbl len) lbl 16 ≡ field_of d (lbl + 16) 16
 unfolding field_of shift_of argument_of
-shift-unit d lbl len short fits =
+shift_unit d lbl len short fits =
     let k : ℕ = 128 - lbl - 32 in
     let a : 128 - lbl ≡ k + 32 = omega arith in
     let b : 128 - len ≡ 16 + k = omega arith in
@@ -58,33 +59,33 @@ shift-unit d lbl len short fits =
     ∙ ap (λ n. d / 2 ^ n % 2 ^ 16) (sym f)
 
 -- an address that a prefix holds has the prefix's bits there
-pub held-unit : (p : PrefixValue) (a at : ℕ) → Holds p a → at + 16 ≤ p.len → p.len ≤ 128 → field_of a at 16 ≡ field_of p.value at 16
+pub held_unit : (p : PrefixValue) (a at : ℕ) → Holds p a → at + 16 ≤ p.len → p.len ≤ 128 → field_of a at 16 ≡ field_of p.value at 16
 unfolding Holds field_of
-held-unit p a at held within fits = ap (λ n. n % 2 ^ 16) (same_above a p.value (128 - p.len) (128 - at - 16) (omega arith) held)
+held_unit p a at held within fits = ap (λ n. n % 2 ^ 16) (same_above a p.value (128 - p.len) (128 - at - 16) (omega arith) held)
 
 -- ---- what stands after a SID
 
 module _ (block s : PrefixValue) (short : s.len ≡ block.len + 16) (fits : block.len + 32 ≤ 128) where
-  pub unit-after : (t : PrefixValue) (ts : List PrefixValue) → IsContainer block (s ∷ t ∷ ts) → block.len + 16 ≤ t.len
+  pub unit_after : (t : PrefixValue) (ts : List PrefixValue) → IsContainer block (s ∷ t ∷ ts) → block.len + 16 ≤ t.len
       → field_of (container_of block.len (s ∷ t ∷ ts)) (block.len + 16) 16 ≡ field_of t.value block.len 16
-  unit-after t ts is long =
+  unit_after t ts is long =
       let d : ℕ = container_of block.len (s ∷ t ∷ ts) in
-      let rest = container-rest block s (t ∷ ts) is in
-      sym (shift-unit d block.len s.len short fits)
-      ∙ ap (λ n. field_of n block.len 16) (container-shift block s t ts is)
-      ∙ held-unit t (container_of block.len (t ∷ ts)) block.len (container-holds block t ts rest) long rest.0.prefix.0
+      let rest = container_rest block s (t ∷ ts) is in
+      sym (shift_unit d block.len s.len short fits)
+      ∙ ap (λ n. field_of n block.len 16) (container_shift block s t ts is)
+      ∙ held_unit t (container_of block.len (t ∷ ts)) block.len (container_holds block t ts rest) long rest.0.prefix.0
 
-  pub unit-last : s.value % 2 ^ (128 - s.len) ≡ 0 → field_of s.value (block.len + 16) 16 ≡ 0
+  pub unit_last : s.value % 2 ^ (128 - s.len) ≡ 0 → field_of s.value (block.len + 16) 16 ≡ 0
   unfolding field_of
-  unit-last clean =
+  unit_last clean =
       let k : ℕ = 128 - block.len - 32 in
       let e : 128 - (block.len + 16) - 16 ≡ k = omega arith in
       let f : 128 - s.len ≡ 16 + k = omega arith in
       ap (λ n. s.value / 2 ^ n % 2 ^ 16) e
-      ∙ sym (below-cut s.value k 16)
+      ∙ sym (below_cut s.value k 16)
       ∙ ap (λ n. s.value % 2 ^ n / 2 ^ k) (sym f)
       ∙ ap (λ n. n / 2 ^ k) clean
-      ∙ zero-div (2 ^ k) (pow_pos k)
+      ∙ zero_div (2 ^ k) (pow_pos k)
     where
-      zero-div : (m : ℕ) → 0 < m → 0 / m ≡ 0
-      zero-div m some = omega arith
+      zero_div : (m : ℕ) → 0 < m → 0 / m ≡ 0
+      zero_div m some = omega arith

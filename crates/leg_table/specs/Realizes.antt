@@ -1,5 +1,5 @@
 -- Lists of segments that realize an intent, and paths of legs.
-use Rattle.std.specs.Prelude.{◌≡◌, ℕ, ◌<◌, ◌≤◌, false, List, [], ◌∷◌, length, map, take, All, Option, Some, None, IsTrue}
+use Rattle.std.specs.Prelude.{◌≡◌, ℕ, ◌<◌, ◌≤◌, false, List, length, All, Some, IsTrue}
 use Rattle.srv6_rules.specs.declared.family.Family.{Family}
 use Rattle.srv6_rules.specs.declared.family.Family.TheVariants as families
 use Rattle.srv6_rules.specs.Packet.{Packet, Content, V6, V4, Unreadable, IsSpellable, bytes_of}
@@ -12,13 +12,10 @@ use Rattle.walk_rules.specs.declared.place.Place.{Place}
 use Rattle.walk_rules.specs.Walk.{free_walk_of as walk_of, choice_at}
 use Rattle.intent_reader.specs.declared.intent.Intent.{Intent}
 use Rattle.list_pack.specs.declared.types.Container.{Container}
-use Rattle.list_pack.specs.PathLists.{before_last}
-use Rattle.list_pack.specs.Paths.{with_hops}
-use Rattle.list_pack.specs.SidLists.{prefixes_in, list_values}
-use Rattle.leg_table.specs.Trace.{Handed, handed_over}
-use Rattle.leg_table.specs.Tasks.{matches}
-use Rattle.leg_table.specs.Sids.{is_binding, prefix_at}
-use Rattle.leg_table.specs.Leg.{leg_of, finish_of}
+use Rattle.list_pack.specs.SidLists.{list_values}
+use Rattle.leg_table.specs.WalkTrace.{Handed, handed_over}
+use Rattle.leg_table.specs.StepMatching.{matches}
+use Rattle.leg_table.specs.PositionSids.{is_binding}
 
 -- where the headend's own packets are looked up
 abbrev pub headend_place : Intent → Place
@@ -60,7 +57,7 @@ encapsulated_for intent segments inner hop =
 -- ---- lists that realize an intent
 
 -- under a list of choices the encapsulated packet is handed over: its trace up to there is the intent's steps, what is handed over is the
--- inner packet lowered by one, and no SID that binds a policy was executed
+-- inner packet lowered by one, and no binding SID was executed
 pub record HandsOver (net : Network) (intent : Intent) (segments : List ℕ) (inner : Content) (hop : ℕ) (choices : List ℕ) : Type 0 where
   pub fuel : ℕ
   pub handed : Handed
@@ -84,42 +81,7 @@ pub record Realizes (net : Network) (intent : Intent) (segments : List ℕ) (nee
   pub reaches : ReachesAbove net intent segments need
   pub least : (n : ℕ) → ReachesAbove net intent segments n → need ≤ n
 
--- wherever the segments hand over, as many SIDs are executed
-abbrev pub Executes : Network → Intent → List ℕ → ℕ → Type 0
-Executes net intent segments count =
-    (inner : Content) (hop : ℕ) (choices : List ℕ) → (h : HandsOver net intent segments inner hop choices) → length h.handed.sids ≡ count
-
 -- so it is of a list of containers, by its values
 
 abbrev pub ListRealizes : Network → Intent → List Container → ℕ → Type 0
 ListRealizes net intent list need = Realizes net intent (list_values net list) need
-
-abbrev pub ListExecutes : Network → Intent → List Container → ℕ → Type 0
-ListExecutes net intent list count = Executes net intent (list_values net list) count
-
--- they hand over even one inner packet at one outer hop limit, for every list of choices
-pub record HandsSome (net : Network) (intent : Intent) (segments : List ℕ) (hop : ℕ) : Type 0 where
-  pub positive : 0 < hop
-  pub inner : Content
-  pub always : AlwaysHandsOver net intent segments inner hop
-
-abbrev pub ListHands : Network → Intent → List Container → ℕ → Type 0
-ListHands net intent list hop = HandsSome net intent (list_values net list) hop
-
--- ---- paths of legs
-
--- the lowerings of the path of legs and a finish through these SIDs, if it is one, from a position and the SID that was
--- executed last
-abbrev pub path_need : Network → Intent → ℕ → Option ℕ → List ℕ → Option ℕ
-path_need net intent position via [] = None
-path_need net intent position via (n ∷ []) = finish_of net intent position via n
-path_need net intent position via (n ∷ m ∷ more) =
-    with_hops (leg_of net intent position via n) (λ to. path_need net intent to (Some n) (m ∷ more))
-
--- a path of legs and a finish from the start along a list: its SIDs are of the first prefixes of the list, up to one in the last
--- container, and its need
-pub record IsPathAlong (net : Network) (intent : Intent) (list : List Container) (sids : List ℕ) (need : ℕ) : Type 0 where
-  pub is_path : path_need net intent 0 None sids ≡ Some need
-  pub names : map (prefix_at net) sids ≡ take (length sids) (prefixes_in list)
-  pub few : length sids ≤ length (prefixes_in list)
-  pub last : before_last list < length sids

@@ -2,16 +2,16 @@
 
 ghost use Rattle.std.specs.Prelude.{◌≡◌, ◌<◌, length};
 ghost use Rattle.list_pack.specs.SidLists.{block_at};
-ghost use Rattle.leg_table.specs.Sids as sids;
-ghost use Rattle.leg_table.specs.Table.{shape_of};
+ghost use Rattle.leg_table.specs.PositionSids as sids;
+ghost use Rattle.leg_table.specs.StrictTable.{shape_of};
 
 use list_pack::Shape;
 use net_model::Net;
 use srv6_rules::SidEntry;
 use v6_addr::Prefix;
 
-/// the number of the block that a prefix lies strictly inside
-#[tactic(auto, using(crate::proofs::Searches::searching))]
+/// The number of the block that a prefix lies strictly inside
+#[tactic(auto, using(crate::proofs::StrictSearches::searching))]
 fn block_at(net: &Net, prefix: &Prefix) -> Option<u32>
     ensures { result ≡ block_at net.now.blocks prefix.now }
 {
@@ -23,7 +23,7 @@ fn block_at(net: &Net, prefix: &Prefix) -> Option<u32>
     None
 }
 
-/// The packet goes on from the SID to a next segment, after no further header. (own rule)
+/// The packet goes on from the SID to a next segment, after no further header.
 pub fn takes_step(sid: &SidEntry) -> bool
     ensures { result ≡ sids.takes_step sid.now }
 {
@@ -31,7 +31,6 @@ pub fn takes_step(sid: &SidEntry) -> bool
 }
 
 /// What a SID is to the search: its prefix, its block, its compression, and whether it is middle.
-/// (own rule)
 pub fn shape_of(net: &Net, n: u32) -> Shape
     requires { n < length net.now.sids }
     ensures { result ≡ shape_of net.now n }

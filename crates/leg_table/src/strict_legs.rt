@@ -1,21 +1,21 @@
 //! The legs of an intent in a network.
 
 ghost use Rattle.std.specs.Prelude.{◌≡◌, ◌<◌, ◌≤◌, ℕ, length, drop, Some, IfOk, IfSome};
-ghost use Rattle.net_model.specs.Keeps.{Keeps};
-ghost use Rattle.net_model.specs.Rules.{IsNetwork};
-ghost use Rattle.intent_reader.specs.Rules.{IsIntent};
-ghost use Rattle.leg_table.specs.Course.{way_behind};
-ghost use Rattle.leg_table.specs.Reach.{IsReach, IsStart, AreLater, way_along, way_at};
-ghost use Rattle.leg_table.specs.Leg as legs;
+ghost use Rattle.net_model.specs.NetworkKeeps.{Keeps};
+ghost use Rattle.net_model.specs.NetworkRulesTerms.{IsNetwork};
+ghost use Rattle.intent_reader.specs.IntentRulesTerms.{IsIntent};
+ghost use Rattle.leg_table.specs.Courses.{way_behind};
+ghost use Rattle.leg_table.specs.TransitTables.{IsReach, IsOrigin, AreLater, way_along, way_at};
+ghost use Rattle.leg_table.specs.StrictLegsTerms as legs_terms;
 ghost use Rattle.leg_table.specs.Realizes.{headend_place};
-ghost use Rattle.leg_table.specs.Sids as sids;
-ghost use Rattle.flat_networks.specs.Flat.{IsFlat};
+ghost use Rattle.leg_table.specs.PositionSids as sids;
+ghost use Rattle.net_flatness.specs.Flat.{IsFlat};
 
-use crate::nests::{Units, may_stay, nested_of};
-use crate::reach::{Reach, reaches_of, way_at, way_from};
-use crate::rows::{Row, is_sid_at, rows_of};
+use crate::nest_legs::{Units, may_stay, nested_of};
 use crate::sid_shapes::{shape_of, takes_step};
 use crate::step_links::{Behind, if_none_left, leg_with};
+use crate::strict_rows::{Row, is_sid_at, rows_of};
+use crate::transit_table::{TransitTable, reaches_of, way_at, way_from};
 use base::NoMemory;
 use intent_reader::{Intent, Step};
 use list_pack::{Leg, Legs, ListLegs, Shape};
@@ -27,20 +27,20 @@ use std::marker::Model;
 use walk_rules::{How, Place, onward_from};
 
 /// The legs of an intent in a network, with the SIDs of each position, the ways from its node to
-/// all SIDs, and what is nested in each SID, so that each question is a look-up or two. (own rule)
+/// all SIDs, and what is nested in each SID, so that each question is a look-up or two.
 #[derive(Debug, Drop)]
 pub struct StrictLegs<'a> {
     net: &'a Net,
     intent: &'a Intent,
     rows: Vec<Row>,
     // from the last position backwards
-    reaches: Vec<Reach>,
+    reaches: Vec<TransitTable>,
     // by the SIDs' numbers
     nested: Vec<Units>,
 }
 
 impl<'a> Model for StrictLegs<'a> {
-    ghost use Rattle.leg_table.specs.Table.{LegTable, IsTable};
+    ghost use Rattle.leg_table.specs.StrictTableTerms.{LegTable, IsTable};
 
     ghost Value = { LegTable };
 
@@ -51,7 +51,7 @@ impl<'a> Model for StrictLegs<'a> {
 }
 
 impl<'a> StrictLegs<'a> {
-    /// The legs of an intent that keeps the rules in a flat network. (own rule)
+    /// The legs of an intent that keeps the rules in a flat network.
     pub fn build(
         alloc: Global,
         net: &'a Net,
@@ -75,7 +75,7 @@ impl<'a> StrictLegs<'a> {
     }
 
     /// That the network and the intent keep their rules, and that the network is flat: a call for
-    /// the callers' proofs alone. (own rule)
+    /// the callers' proofs alone.
     pub fn keeps_rules(&self)
         ensures network { IsNetwork self.now.net }
         ensures facts { Keeps self.now.net }
@@ -100,7 +100,7 @@ impl<'a> StrictLegs<'a> {
         self.rows[position as usize].as_slice()
     }
 
-    /// Whether a SID may be executed at a position, all of whose SIDs stand at one node. (own rule)
+    /// Whether a SID may be executed at a position, all of whose SIDs stand at one node.
     pub fn has_sid(&self, position: u32, n: u32) -> bool
         requires { position ≤ length self.now.intent.steps }
         ensures { result ≡ sids.is_sid_at self.now.net self.now.intent position n }
@@ -117,9 +117,9 @@ impl<'a> StrictLegs<'a> {
         is_sid_at(self.net, self.intent, position, node, n)
     }
 
-    /// from where a packet starts to the next SID
+    /// From where a packet starts to the next SID
     fn start(&self, position: u32, via: Option<u32>) -> Option<Place>
-        ensures { result ≡ legs.start_of self.now.net self.now.intent position via }
+        ensures { result ≡ legs_terms.origin_of self.now.net self.now.intent position via }
     {
         self.keeps_rules();
         if position > self.count() {
@@ -135,18 +135,18 @@ impl<'a> StrictLegs<'a> {
 }
 
 impl<'a> StrictLegs<'a> {
-    /// the same, with what is known of the place
+    /// The same, with what is known of the place
     fn place(&self, position: u32, via: Option<u32>) -> Option<Place>
-        ensures value { result ≡ legs.start_of self.now.net self.now.intent position via }
-        ensures is_start { IfSome result (λ place.
-            IsStart self.now.net self.now.intent position place) }
+        ensures value { result ≡ legs_terms.origin_of self.now.net self.now.intent position via }
+        ensures is_origin { IfSome result (λ place.
+            IsOrigin self.now.net self.now.intent position place) }
     {
         self.keeps_rules();
         self.start(position, via)
     }
 
-    /// the ways from the node where the walk stands at a position
-    fn reach(&self, position: u32) -> &Reach
+    /// The ways from the node where the walk stands at a position
+    fn reach(&self, position: u32) -> &TransitTable
         requires { position ≤ length self.now.intent.steps }
         ensures { (at : ℕ) → sids.node_at self.now.net self.now.intent position ≡ Some at →
             IsReach self.now.net (drop position self.now.intent.steps) at result.now }
@@ -155,7 +155,7 @@ impl<'a> StrictLegs<'a> {
         &self.reaches[(count - position) as usize]
     }
 
-    /// the steps from a position on
+    /// The steps from a position on
     fn rest(&self, position: u32) -> &[Step]
         requires { position ≤ length self.now.intent.steps }
         ensures value { result.now ≡ drop position self.now.intent.steps }
@@ -166,7 +166,7 @@ impl<'a> StrictLegs<'a> {
         rest
     }
 
-    /// the ways from where the step that starts at a position ends, if one does
+    /// The ways from where the step that starts at a position ends, if one does
     fn later(&self, position: u32) -> &[Option<Behind>]
         requires { position ≤ length self.now.intent.steps }
         ensures { (at : ℕ) → sids.node_at self.now.net self.now.intent position ≡ Some at →
@@ -184,10 +184,10 @@ impl<'a> StrictLegs<'a> {
     /// The way of a packet to a next SID and its execution, along the steps from a position on,
     /// from a place at the node where the walk stands at that position: how many steps are left
     /// then, and how often the hop limit was lowered. None where the packet doesn't come to the SID
-    /// first, or leaves the steps before. (own rule)
+    /// first, or leaves the steps before.
     pub fn way_on(&self, position: u32, place: &Place, next: u32) -> Option<Behind>
         requires next { next < length self.now.net.sids }
-        requires start { IsStart self.now.net self.now.intent position place.now }
+        requires start { IsOrigin self.now.net self.now.intent position place.now }
         ensures value { result
             ≡ way_along self.now.net (drop position self.now.intent.steps) place.now next }
         ensures few { IfSome result (λ b.
@@ -197,10 +197,10 @@ impl<'a> StrictLegs<'a> {
         self.way_found(position, place, next)
     }
 
-    /// the same, without its bounds
+    /// The same, without its bounds
     fn way_found(&self, position: u32, place: &Place, next: u32) -> Option<Behind>
         requires next { next < length self.now.net.sids }
-        requires start { IsStart self.now.net self.now.intent position place.now }
+        requires start { IsOrigin self.now.net self.now.intent position place.now }
         ensures { result
             ≡ way_along self.now.net (drop position self.now.intent.steps) place.now next }
     {
@@ -216,7 +216,7 @@ impl<'a> StrictLegs<'a> {
         }
     }
 
-    /// the way from the start to a next SID
+    /// The way from the start to a next SID
     fn way_behind(&self, position: u32, via: Option<u32>, next: u32) -> Option<Behind>
         requires { next < length self.now.net.sids }
         ensures value { result ≡ way_behind self.now.net self.now.intent position via next }
@@ -229,7 +229,7 @@ impl<'a> StrictLegs<'a> {
 }
 
 impl<'a> Legs for StrictLegs<'a> {
-    ghost use Rattle.leg_table.specs.Value.{legs_value};
+    ghost use Rattle.leg_table.specs.StrictLegsValue.{legs_value};
 
     ghost seen = { λ t. legs_value t.net t.intent };
 
@@ -274,7 +274,8 @@ impl<'a> Legs for StrictLegs<'a> {
 }
 
 impl<'a> ListLegs for StrictLegs<'a> {
-    ghost use Rattle.leg_table.specs.Realizes.{ListRealizes, ListExecutes, ListHands};
+    ghost use Rattle.leg_table.specs.Realizes.{ListRealizes};
+    ghost use Rattle.leg_table.specs.RealizesTerms.{ListExecutes, ListHands};
 
     ghost network = { λ t. t.net };
 
@@ -289,7 +290,7 @@ impl<'a> ListLegs for StrictLegs<'a> {
     }
 }
 
-/// the SID exposes a packet of a family inside
+/// The SID exposes a packet of a family inside
 fn hands_over(sid: &SidEntry, family: Family) -> bool
     ensures { result ≡ sids.hands_over family sid.now }
 {
@@ -300,21 +301,21 @@ fn hands_over(sid: &SidEntry, family: Family) -> bool
 }
 
 /// Whether there is a SID with this number from which the packet goes on to a next segment, after
-/// no further header. (own rule)
+/// no further header.
 pub fn is_middle(net: &Net, n: u32) -> bool
     ensures { result ≡ sids.is_middle net.now n }
 {
     n < net.sids() && takes_step(net.sid(n))
 }
 
-/// Whether there is a SID with this number that exposes a packet of a family inside. (own rule)
+/// Whether there is a SID with this number that exposes a packet of a family inside.
 pub fn is_last(net: &Net, family: Family, n: u32) -> bool
     ensures { result ≡ sids.is_last net.now family n }
 {
     n < net.sids() && hands_over(net.sid(n), family)
 }
 
-/// Where the packet stands that the headend of an intent makes. (own rule)
+/// Where the packet stands that the headend of an intent makes.
 pub fn headend_place(intent: &Intent) -> Place
     ensures { result ≡ headend_place intent.now }
 {
@@ -325,9 +326,9 @@ pub fn headend_place(intent: &Intent) -> Place
     }
 }
 
-/// Where the packet stands after the execution of a middle SID: none after any other. (own rule)
+/// Where the packet stands after the execution of a middle SID: none after any other.
 pub fn place_behind(net: &Net, v: u32) -> Option<Place>
-    ensures { result ≡ legs.middle_place net.now v }
+    ensures { result ≡ legs_terms.middle_place net.now v }
 {
     if !is_middle(net, v) {
         return None;

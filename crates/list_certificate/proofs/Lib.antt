@@ -1,9 +1,9 @@
 pub mod Listed
 pub mod Passing
 pub mod Ranges
-pub mod Pathing
-pub mod Celling
-pub mod Judging
+pub mod CertificatePathing
+pub mod CertificateCelling
+pub mod CertificateJudging
 pub mod States
 pub mod OneVerdict
 pub mod Showing

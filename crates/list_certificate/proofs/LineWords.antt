@@ -6,26 +6,29 @@ use Rattle.std.proofs.lemmas.Bool.{and_from, eq-eqb, le-ltb, le-leb, cond-true, 
 use Rattle.std.proofs.lemmas.Fmt.{decimal_digit}
 use Rattle.std.proofs.lemmas.List.Sums.{AllPass-from_list_all}
 use Rattle.std.proofs.lemmas.Slice.Eq.{bytes_eq-Decides}
-use Rattle.v6_addr.specs.Address.{PrefixValue, IsPrefix}
+use Rattle.v6_addr.specs.Address.{PrefixValue}
+use Rattle.v6_addr.specs.AddressTerms.{IsPrefix}
 use Rattle.v6_addr.specs.Text.{prefix_text}
 use Rattle.srv6_rules.specs.declared.sid.Csid.{Csid}
 use Rattle.srv6_rules.specs.declared.sid.Csid.TheVariants.{Plain, Next, Replace}
 use Rattle.net_model.specs.Network.{Network}
-use Rattle.net_model.specs.Rules.{IsNetwork}
+use Rattle.net_model.specs.NetworkRulesTerms.{IsNetwork}
 use Rattle.list_pack.specs.declared.types.Cost.{Cost}
 use Rattle.list_pack.specs.declared.types.State.{State}
 use Rattle.list_pack.specs.declared.types.Shape.{Shape}
 use Rattle.list_pack.specs.declared.types.PathStep.{PathStep}
 use Rattle.list_pack.specs.declared.types.Potential.{Potential}
-use Rattle.list_pack.specs.Value.{LegsValue, KeepsLaws}
+use Rattle.list_pack.specs.LegsValue.{LegsValue}
+use Rattle.list_pack.specs.LegsValueTerms.{KeepsLaws}
 use Rattle.list_pack.specs.Rooms.{top_room_by, top_room}
 use Rattle.list_pack.specs.Costs.{IsState, IsStateBy}
 use Rattle.list_certificate.specs.declared.item.Item.TheVariants as items
 use Rattle.list_certificate.specs.Spelling.{sid_text, start_text, placed_text, state_text_by, potential_of_text, potential_text, stay_text, new_text, step_text}
-use Rattle.list_certificate.specs.Reading.{IsNetworkOf, RowValue, row_in, placed_in, state_in, potential_in, step_by, step_in, listed_item, step_item, item_by, item_in}
-use Rattle.list_certificate.proofs.Marks.{Lacks, IsWord, word-feed, word-space, decimal-word, number-read, cut-first, lacks-joined, lacks-mark}
-use Rattle.list_certificate.proofs.PrefixWords.{prefix-word, prefix-read}
-use Rattle.list_certificate.proofs.SidWords.{sid-lacks, sid-no-dash, sid-read}
+use Rattle.list_certificate.specs.CertificateReading.{RowValue, row_in, placed_in, state_in, potential_in, step_by, step_in, listed_item, step_item, item_by, item_in}
+use Rattle.list_certificate.specs.CertificateReadingTerms.{IsNetworkOf}
+use Rattle.list_certificate.proofs.Marks.{Lacks, IsWord, word_feed, word_space, decimal_word, number_read, cut_first, lacks_joined, lacks_mark}
+use Rattle.list_certificate.proofs.PrefixWords.{prefix_word, prefix_read}
+use Rattle.list_certificate.proofs.SidWords.{sid_lacks, sid_no_dash, sid_read}
 
 -- the numbers of a potential's cost have 32 bits
 pub record HasNumbers (q : Potential) : Type 0 where
@@ -33,11 +36,11 @@ pub record HasNumbers (q : Potential) : Type 0 where
   pub hops : q.cost.hops < 2 ^ 32
 
 -- a text that computes has no mark where a test says so
-pub plain-lacks : (mark : ℕ) (text : List ℕ) → list_all (λ b. not (b == mark)) text ≡ true → Lacks mark text
-plain-lacks mark text h k d within = not-true _ (AllPass-from_list_all (λ b. not (b == mark)) text h k d within)
+pub plain_lacks : (mark : ℕ) (text : List ℕ) → list_all (λ b. not (b == mark)) text ≡ true → Lacks mark text
+plain_lacks mark text h k d within = not-true _ (AllPass-from_list_all (λ b. not (b == mark)) text h k d within)
 
-digits-lack : (mark n : ℕ) → n < 2 ^ 32 → ((text : List ℕ) → IsWord text → Lacks mark text) → Lacks mark (decimal n)
-digits-lack mark n h lacks = lacks (decimal n) (decimal-word n (omega (arith, h)))
+digits_lack : (mark n : ℕ) → n < 2 ^ 32 → ((text : List ℕ) → IsWord text → Lacks mark text) → Lacks mark (decimal n)
+digits_lack mark n h lacks = lacks (decimal n) (decimal_word n (omega (arith, h)))
 
 -- ---- the words of a line with a potential
 
@@ -45,197 +48,197 @@ abbrev pub row_text : ℕ → List ℕ → ℕ → ℕ → ℕ → List ℕ
 row_text position sid room containers hops =
     decimal position ++ 32 ∷ (sid ++ 32 ∷ (decimal room ++ 32 ∷ (decimal containers ++ 32 ∷ decimal hops)))
 
-pub row-read : (position room containers hops : ℕ) (sid : List ℕ) → position < 2 ^ 32 → room < 2 ^ 32 → containers < 2 ^ 32 → hops < 2 ^ 32
+pub row_read : (position room containers hops : ℕ) (sid : List ℕ) → position < 2 ^ 32 → room < 2 ^ 32 → containers < 2 ^ 32 → hops < 2 ^ 32
     → Lacks 32 sid
     → row_in (row_text position sid room containers hops)
     ≡ Some (record { position = position; sid = sid; room = room; cost = record { containers = containers; hops = hops } })
 unfolding row_in
-row-read position room containers hops sid a b c d none =
+row_read position room containers hops sid a b c d none =
     let four = decimal containers ++ 32 ∷ decimal hops in
     let three = decimal room ++ 32 ∷ four in
     let two = sid ++ 32 ∷ three in
     rw (
-      cut-first 32 (decimal position) two (digits-lack 32 position a word-space),
-      cut-first 32 sid three none,
-      cut-first 32 (decimal room) four (digits-lack 32 room b word-space),
-      cut-first 32 (decimal containers) (decimal hops) (digits-lack 32 containers c word-space),
-      number-read position a,
-      number-read room b,
-      number-read containers c,
-      number-read hops d,
+      cut_first 32 (decimal position) two (digits_lack 32 position a word_space),
+      cut_first 32 sid three none,
+      cut_first 32 (decimal room) four (digits_lack 32 room b word_space),
+      cut_first 32 (decimal containers) (decimal hops) (digits_lack 32 containers c word_space),
+      number_read position a,
+      number_read room b,
+      number_read containers c,
+      number_read hops d,
     )
 
-pub row-feed : (position room containers hops : ℕ) (sid : List ℕ) → position < 2 ^ 32 → room < 2 ^ 32 → containers < 2 ^ 32 → hops < 2 ^ 32
+pub row_feed : (position room containers hops : ℕ) (sid : List ℕ) → position < 2 ^ 32 → room < 2 ^ 32 → containers < 2 ^ 32 → hops < 2 ^ 32
     → Lacks 10 sid
     → Lacks 10 (row_text position sid room containers hops)
-row-feed position room containers hops sid a b c d none =
+row_feed position room containers hops sid a b c d none =
     let four = decimal containers ++ 32 ∷ decimal hops in
     let three = decimal room ++ 32 ∷ four in
     let two = sid ++ 32 ∷ three in
-    lacks-joined 10 (decimal position) (32 ∷ two) (digits-lack 10 position a word-feed)
-    (lacks-mark 10 32 two refl
-    (lacks-joined 10 sid (32 ∷ three) none
-    (lacks-mark 10 32 three refl
-    (lacks-joined 10 (decimal room) (32 ∷ four) (digits-lack 10 room b word-feed)
-    (lacks-mark 10 32 four refl
-    (lacks-joined 10 (decimal containers) (32 ∷ decimal hops) (digits-lack 10 containers c word-feed)
-    (lacks-mark 10 32 (decimal hops) refl (digits-lack 10 hops d word-feed))))))))
+    lacks_joined 10 (decimal position) (32 ∷ two) (digits_lack 10 position a word_feed)
+    (lacks_mark 10 32 two refl
+    (lacks_joined 10 sid (32 ∷ three) none
+    (lacks_mark 10 32 three refl
+    (lacks_joined 10 (decimal room) (32 ∷ four) (digits_lack 10 room b word_feed)
+    (lacks_mark 10 32 four refl
+    (lacks_joined 10 (decimal containers) (32 ∷ decimal hops) (digits_lack 10 containers c word_feed)
+    (lacks_mark 10 32 (decimal hops) refl (digits_lack 10 hops d word_feed))))))))
 
 -- ---- states
 
-top-by : (c : Csid) (s : Shape) → top_room_by c s ≤ 128
-top-by Plain s = omega arith
-top-by Next s = omega arith
-top-by Replace s = omega (arith, div-le_self 128 (s.prefix.len - s.lbl))
+top_by : (c : Csid) (s : Shape) → top_room_by c s ≤ 128
+top_by Plain s = omega arith
+top_by Next s = omega arith
+top_by Replace s = omega (arith, div-le_self 128 (s.prefix.len - s.lbl))
 
-pub room-few : (v : LegsValue) (position : ℕ) (via : Option ℕ) (room : ℕ) → IsStateBy v position via room → room ≤ 128
-room-few v position None room is = omega (arith, is.1)
-room-few v position (Some n) room is = let top : top_room (v.shape n) ≤ 128 =
-    top-by (v.shape n).csid (v.shape n) in omega (arith, is.3, top)
+pub room_few : (v : LegsValue) (position : ℕ) (via : Option ℕ) (room : ℕ) → IsStateBy v position via room → room ≤ 128
+room_few v position None room is = omega (arith, is.1)
+room_few v position (Some n) room is = let top : top_room (v.shape n) ≤ 128 =
+    top_by (v.shape n).csid (v.shape n) in omega (arith, is.3, top)
 
-pub position-few : (v : LegsValue) → KeepsLaws v → (position : ℕ) (via : Option ℕ) (room : ℕ) → IsStateBy v position via room
+pub position_few : (v : LegsValue) → KeepsLaws v → (position : ℕ) (via : Option ℕ) (room : ℕ) → IsStateBy v position via room
     → position ≤ 48
-position-few v laws position None room is = omega (arith, is.0)
-position-few v laws position (Some n) room is = omega (arith, is.0, laws.steps)
+position_few v laws position None room is = omega (arith, is.0)
+position_few v laws position (Some n) room is = omega (arith, is.0, laws.steps)
 
 -- the word that names a state's SID
 abbrev pub via_text : Network → Option ℕ → List ℕ
 via_text net None = 45 ∷ []
 via_text net (Some n) = sid_text net n
 
-pub state-words : (net : Network) (v : LegsValue) (position : ℕ) (via : Option ℕ) (room : ℕ) → IsStateBy v position via room
+pub state_words : (net : Network) (v : LegsValue) (position : ℕ) (via : Option ℕ) (room : ℕ) → IsStateBy v position via room
     → state_text_by net position via room ≡ decimal position ++ 32 ∷ (via_text net via ++ 32 ∷ decimal room)
 unfolding start_text placed_text
-state-words net v position None room is =
+state_words net v position None room is =
     let zeros : start_text ≡ decimal 0 ++ 32 ∷ (45 ∷ (32 ∷ decimal 0)) =
     sym (ap (λ (ds : List ℕ). ds ++ 32 ∷ (45 ∷ (32 ∷ ds))) (decimal_digit 0 (omega arith))) in
     zeros ∙ ap (λ (x : ℕ). decimal x ++ 32 ∷ (45 ∷ (32 ∷ decimal 0))) (sym is.0)
     ∙ ap (λ (x : ℕ). decimal position ++ 32 ∷ (45 ∷ (32 ∷ decimal x))) (sym is.1)
-state-words net v position (Some n) room is = refl
+state_words net v position (Some n) room is = refl
 
 module _ (net : Network) (v : LegsValue) (rules : IsNetwork net) (laws : KeepsLaws v) (is_net : IsNetworkOf net v) where
-  via-lacks : (mark position : ℕ) (via : Option ℕ) (room : ℕ) → IsStateBy v position via room → (64 == mark) ≡ false → (45 == mark) ≡ false
+  via_lacks : (mark position : ℕ) (via : Option ℕ) (room : ℕ) → IsStateBy v position via room → (64 == mark) ≡ false → (45 == mark) ≡ false
       → ((text : List ℕ) → IsWord text → Lacks mark text)
       → Lacks mark (via_text net via)
-  via-lacks mark position None room is at dash lacks = lacks-mark mark 45 [] dash (plain-lacks mark [] refl)
-  via-lacks mark position (Some n) room is at dash lacks = sid-lacks net v rules laws is_net mark n (position, is.0, is.1) at lacks
+  via_lacks mark position None room is at dash lacks = lacks_mark mark 45 [] dash (plain_lacks mark [] refl)
+  via_lacks mark position (Some n) room is at dash lacks = sid_lacks net v rules laws is_net mark n (position, is.0, is.1) at lacks
 
-  state-read : (position : ℕ) (via : Option ℕ) (room : ℕ) (cost : Cost) → IsStateBy v position via room
+  state_read : (position : ℕ) (via : Option ℕ) (room : ℕ) (cost : Cost) → IsStateBy v position via room
       → state_in net v (record { position = position; sid = via_text net via; room = room; cost = cost })
       ≡ Some (record { position = position; via = via; room = room })
   unfolding state_in
-  state-read position None room cost is =
+  state_read position None room cost is =
       let first : (x : ℕ) → State = λ x. record { position = x; via = None; room = 0 } in
       let last : (x : ℕ) → State = λ x. record { position = position; via = None; room = x } in
       cond-true _ _ _ (and_from (position == 0) (room == 0) (eq-eqb position 0 is.0) (eq-eqb room 0 is.1))
       ∙ ap (λ (x : ℕ). Some (first x)) (sym is.0) ∙ ap (λ (x : ℕ). Some (last x)) (sym is.1)
-  state-read position (Some n) room cost is =
+  state_read position (Some n) room cost is =
       let row : RowValue = record { position = position; sid = sid_text net n; room = room; cost = cost } in
       let no_dash : bytes_eq (sid_text net n) (codes "-") ≡ false =
       false_from_ne_true (bytes_eq (sid_text net n) (codes "-")) (λ e.
-      sid-no-dash net v rules laws is_net n (position, is.0, is.1) ((bytes_eq-Decides (sid_text net n) (codes "-")).0 e)) in
+      sid_no_dash net v rules laws is_net n (position, is.0, is.1) ((bytes_eq-Decides (sid_text net n) (codes "-")).0 e)) in
       cond-false _ _ _ no_dash
       ∙ cond-false _ _ _ (le-ltb v.steps position is.0)
-      ∙ ap (option_and_then (placed_in v position room)) (sid-read net v rules laws is_net position n is.0 is.1 is.2)
+      ∙ ap (option_and_then (placed_in v position room)) (sid_read net v rules laws is_net position n is.0 is.1 is.2)
       ∙ cond-true _ _ _ (le-leb room (top_room (v.shape n)) is.3)
 
   -- the words of a potential's line, after its first
   abbrev pub words_of : Potential → List ℕ
   words_of q = row_text q.state.position (via_text net q.state.via) q.state.room q.cost.containers q.cost.hops
 
-  pub potential-read : (q : Potential) → IsState v q.state → HasNumbers q → potential_in net v (words_of q) ≡ Some q
+  pub potential_read : (q : Potential) → IsState v q.state → HasNumbers q → potential_in net v (words_of q) ≡ Some q
   unfolding potential_in
-  potential-read q is few =
-      let position = position-few v laws q.state.position q.state.via q.state.room is in
-      let room = room-few v q.state.position q.state.via q.state.room is in
+  potential_read q is few =
+      let position = position_few v laws q.state.position q.state.via q.state.room is in
+      let room = room_few v q.state.position q.state.via q.state.room is in
       let row =
-      row-read q.state.position q.state.room q.cost.containers q.cost.hops (via_text net q.state.via) (omega (arith, position))
-      (omega (arith, room)) few.containers few.hops (via-lacks 32 q.state.position q.state.via q.state.room is refl refl word-space) in
-      let state = state-read q.state.position q.state.via q.state.room q.cost is in
+      row_read q.state.position q.state.room q.cost.containers q.cost.hops (via_text net q.state.via) (omega (arith, position))
+      (omega (arith, room)) few.containers few.hops (via_lacks 32 q.state.position q.state.via q.state.room is refl refl word_space) in
+      let state = state_read q.state.position q.state.via q.state.room q.cost is in
       rw (row, state)
 
-  pub words-feed : (q : Potential) → IsState v q.state → HasNumbers q → Lacks 10 (words_of q)
-  words-feed q is few =
-      let position = position-few v laws q.state.position q.state.via q.state.room is in
-      let room = room-few v q.state.position q.state.via q.state.room is in
-      row-feed q.state.position q.state.room q.cost.containers q.cost.hops (via_text net q.state.via) (omega (arith, position))
-      (omega (arith, room)) few.containers few.hops (via-lacks 10 q.state.position q.state.via q.state.room is refl refl word-feed)
+  pub words_feed : (q : Potential) → IsState v q.state → HasNumbers q → Lacks 10 (words_of q)
+  words_feed q is few =
+      let position = position_few v laws q.state.position q.state.via q.state.room is in
+      let room = room_few v q.state.position q.state.via q.state.room is in
+      row_feed q.state.position q.state.room q.cost.containers q.cost.hops (via_text net q.state.via) (omega (arith, position))
+      (omega (arith, room)) few.containers few.hops (via_lacks 10 q.state.position q.state.via q.state.room is refl refl word_feed)
 
 -- ---- lines
 
-pub item-potential : (net : Network) (v : LegsValue) (text : List ℕ) (q : Potential) → potential_in net v text ≡ Some q
+pub item_potential : (net : Network) (v : LegsValue) (text : List ℕ) (q : Potential) → potential_in net v text ≡ Some q
     → item_in net v (codes "potential" ++ 32 ∷ text) ≡ items.Listed q
 unfolding item_in
-item-potential net v text q h =
-    ap (item_by net v) (cut-first 32 (codes "potential") text (plain-lacks 32 (codes "potential") refl)) ∙ ap listed_item h
+item_potential net v text q h =
+    ap (item_by net v) (cut_first 32 (codes "potential") text (plain_lacks 32 (codes "potential") refl)) ∙ ap listed_item h
 
-step-in : (word : List ℕ) (p : PrefixValue) → Lacks 32 word → IsPrefix p → step_in (word ++ 32 ∷ prefix_text p) ≡ step_by word p
+step_in_law : (word : List ℕ) (p : PrefixValue) → Lacks 32 word → IsPrefix p → step_in (word ++ 32 ∷ prefix_text p) ≡ step_by word p
 unfolding step_in
-step-in word p none is = rw (cut-first 32 word (prefix_text p) none, prefix-read p is)
+step_in_law word p none is = rw (cut_first 32 word (prefix_text p) none, prefix_read p is)
 
 -- the words of a step's line, after its first
 abbrev pub turn_text : Bool → List ℕ
 turn_text true = codes "stay"
 turn_text false = codes "new"
 
-turn-lacks : (stays : Bool) → Lacks 32 (turn_text stays)
-turn-lacks true = plain-lacks 32 (codes "stay") refl
-turn-lacks false = plain-lacks 32 (codes "new") refl
+turn_lacks : (stays : Bool) → Lacks 32 (turn_text stays)
+turn_lacks true = plain_lacks 32 (codes "stay") refl
+turn_lacks false = plain_lacks 32 (codes "new") refl
 
-turn-step : (stays : Bool) (p : PrefixValue) → step_by (turn_text stays) p ≡ Some (record { stays = stays; prefix = p })
-turn-step true p = refl
-turn-step false p = refl
+turn_step : (stays : Bool) (p : PrefixValue) → step_by (turn_text stays) p ≡ Some (record { stays = stays; prefix = p })
+turn_step true p = refl
+turn_step false p = refl
 
-pub step-read : (step : PathStep) → IsPrefix step.prefix → step_in (turn_text step.stays ++ 32 ∷ prefix_text step.prefix) ≡ Some step
-step-read step is = step-in (turn_text step.stays) step.prefix (turn-lacks step.stays) is ∙ turn-step step.stays step.prefix
+pub step_read : (step : PathStep) → IsPrefix step.prefix → step_in (turn_text step.stays ++ 32 ∷ prefix_text step.prefix) ≡ Some step
+step_read step is = step_in_law (turn_text step.stays) step.prefix (turn_lacks step.stays) is ∙ turn_step step.stays step.prefix
 
-pub item-step : (net : Network) (v : LegsValue) (text : List ℕ) (p : PathStep) → step_in text ≡ Some p
+pub item_step : (net : Network) (v : LegsValue) (text : List ℕ) (p : PathStep) → step_in text ≡ Some p
     → item_in net v (codes "path" ++ 32 ∷ text) ≡ items.Step p
 unfolding item_in
-item-step net v text p h =
-    ap (item_by net v) (cut-first 32 (codes "path") text (plain-lacks 32 (codes "path") refl)) ∙ ap step_item h
+item_step net v text p h =
+    ap (item_by net v) (cut_first 32 (codes "path") text (plain_lacks 32 (codes "path") refl)) ∙ ap step_item h
 
 -- ---- the printed text of a line
 
-line-end : (a w r c h rest : List ℕ)
+line_end : (a w r c h rest : List ℕ)
     → ((a ++ 32 ∷ (w ++ 32 ∷ r)) ++ 32 ∷ (c ++ 32 ∷ (h ++ 10 ∷ []))) ++ rest
     ≡ (a ++ 32 ∷ (w ++ 32 ∷ (r ++ 32 ∷ (c ++ 32 ∷ h)))) ++ 10 ∷ rest
-line-end a w r c h rest = simp append_assoc
+line_end a w r c h rest = simp append_assoc
 
-pub potential-line : (net : Network) (v : LegsValue) (q : Potential) (rest : List ℕ) → IsState v q.state
+pub potential_line : (net : Network) (v : LegsValue) (q : Potential) (rest : List ℕ) → IsState v q.state
     → potential_text net q ++ rest
     ≡ (codes "potential" ++ 32
     ∷ row_text q.state.position (via_text net q.state.via) q.state.room q.cost.containers q.cost.hops) ++ 10 ∷ rest
 unfolding potential_of_text
-potential-line net v q rest is =
+potential_line net v q rest is =
     ap (λ (xs : List ℕ). potential_of_text xs q.cost.containers q.cost.hops ++ rest)
-    (state-words net v q.state.position q.state.via q.state.room is)
+    (state_words net v q.state.position q.state.via q.state.room is)
     ∙ ap (λ (xs : List ℕ). codes "potential " ++ xs)
-    (line-end (decimal q.state.position) (via_text net q.state.via) (decimal q.state.room) (decimal q.cost.containers) (decimal q.cost.hops)
+    (line_end (decimal q.state.position) (via_text net q.state.via) (decimal q.state.room) (decimal q.cost.containers) (decimal q.cost.hops)
     rest)
 
-step-line-by : (stays : Bool) (p : PrefixValue) (rest : List ℕ)
+step_line_by : (stays : Bool) (p : PrefixValue) (rest : List ℕ)
     → cond stays (stay_text p) (new_text p) ++ rest ≡ (codes "path" ++ 32 ∷ (turn_text stays ++ 32 ∷ prefix_text p)) ++ 10 ∷ rest
 unfolding stay_text new_text
-step-line-by true p rest = ap (λ (xs : List ℕ). codes "path stay " ++ xs) (append_assoc (prefix_text p) (10 ∷ []) rest)
-step-line-by false p rest = ap (λ (xs : List ℕ). codes "path new " ++ xs) (append_assoc (prefix_text p) (10 ∷ []) rest)
+step_line_by true p rest = ap (λ (xs : List ℕ). codes "path stay " ++ xs) (append_assoc (prefix_text p) (10 ∷ []) rest)
+step_line_by false p rest = ap (λ (xs : List ℕ). codes "path new " ++ xs) (append_assoc (prefix_text p) (10 ∷ []) rest)
 
-pub step-line : (step : PathStep) (rest : List ℕ)
+pub step_line : (step : PathStep) (rest : List ℕ)
     → step_text step ++ rest ≡ (codes "path" ++ 32 ∷ (turn_text step.stays ++ 32 ∷ prefix_text step.prefix)) ++ 10 ∷ rest
-step-line step rest = step-line-by step.stays step.prefix rest
+step_line step rest = step_line_by step.stays step.prefix rest
 
-turn-feed : (stays : Bool) → Lacks 10 (turn_text stays)
-turn-feed true = plain-lacks 10 (codes "stay") refl
-turn-feed false = plain-lacks 10 (codes "new") refl
+turn_feed : (stays : Bool) → Lacks 10 (turn_text stays)
+turn_feed true = plain_lacks 10 (codes "stay") refl
+turn_feed false = plain_lacks 10 (codes "new") refl
 
-pub step-feed : (step : PathStep) → IsPrefix step.prefix
+pub step_feed : (step : PathStep) → IsPrefix step.prefix
     → Lacks 10 (codes "path" ++ 32 ∷ (turn_text step.stays ++ 32 ∷ prefix_text step.prefix))
-step-feed step is =
-    lacks-joined 10 (codes "path") (32 ∷ (turn_text step.stays ++ 32 ∷ prefix_text step.prefix)) (plain-lacks 10 (codes "path") refl)
-    (lacks-mark 10 32 (turn_text step.stays ++ 32 ∷ prefix_text step.prefix) refl
-    (lacks-joined 10 (turn_text step.stays) (32 ∷ prefix_text step.prefix) (turn-feed step.stays)
-    (lacks-mark 10 32 (prefix_text step.prefix) refl (word-feed (prefix_text step.prefix) (prefix-word step.prefix is)))))
+step_feed step is =
+    lacks_joined 10 (codes "path") (32 ∷ (turn_text step.stays ++ 32 ∷ prefix_text step.prefix)) (plain_lacks 10 (codes "path") refl)
+    (lacks_mark 10 32 (turn_text step.stays ++ 32 ∷ prefix_text step.prefix) refl
+    (lacks_joined 10 (turn_text step.stays) (32 ∷ prefix_text step.prefix) (turn_feed step.stays)
+    (lacks_mark 10 32 (prefix_text step.prefix) refl (word_feed (prefix_text step.prefix) (prefix_word step.prefix is)))))
 
-pub potential-feed : (text : List ℕ) → Lacks 10 text → Lacks 10 (codes "potential" ++ 32 ∷ text)
-potential-feed text none =
-    lacks-joined 10 (codes "potential") (32 ∷ text) (plain-lacks 10 (codes "potential") refl) (lacks-mark 10 32 text refl none)
+pub potential_feed : (text : List ℕ) → Lacks 10 text → Lacks 10 (codes "potential" ++ 32 ∷ text)
+potential_feed text none =
+    lacks_joined 10 (codes "potential") (32 ∷ text) (plain_lacks 10 (codes "potential") refl) (lacks_mark 10 32 text refl none)

@@ -6,99 +6,103 @@ use Rattle.std.proofs.lemmas.Bool.{false≢true, and_parts, and_from, eq-eqb, eq
 use Rattle.std.proofs.lemmas.List.Sums.{sum_by-cons, AllPass-from_list_all}
 use Rattle.std.proofs.lemmas.Option.{none-some, same_Some}
 use Rattle.std.proofs.lemmas.Slice.Eq.{bytes_eq-Decides}
-use Rattle.v6_addr.specs.Address.{PrefixValue, IsPrefix}
+use Rattle.v6_addr.specs.Address.{PrefixValue}
+use Rattle.v6_addr.specs.AddressTerms.{IsPrefix}
 use Rattle.v6_addr.specs.Text.{prefix_text}
 use Rattle.srv6_rules.specs.declared.sid.SidEntry.{SidEntry}
 use Rattle.net_model.specs.declared.parts.Node.{Node}
 use Rattle.net_model.specs.Network.{Network}
-use Rattle.net_model.specs.Rules.{is_name_byte, is_name, same_prefix, IsNetwork}
-use Rattle.net_model.specs.Keeps.{Keeps}
+use Rattle.net_model.specs.NetworkRules.{is_name_byte, is_name, same_prefix}
+use Rattle.net_model.specs.NetworkRulesTerms.{IsNetwork}
+use Rattle.net_model.specs.NetworkKeeps.{Keeps}
 use Rattle.net_model.proofs.PublicLaws.{keeps_from_network}
-use Rattle.list_pack.specs.Value.{LegsValue, KeepsLaws, IsSid, sid_key}
+use Rattle.list_pack.specs.LegsValue.{LegsValue}
+use Rattle.list_pack.specs.LegsValueTerms.{KeepsLaws, IsSid, sid_key}
 use Rattle.list_certificate.specs.Spelling.{is_shared, name_by, sid_text_by, sid_text}
-use Rattle.list_certificate.specs.Reading.{IsSidOf, IsNetworkOf, cut_at, node_of, has_name, is_unnamed, is_named, sid_by, sid_in}
-use Rattle.list_certificate.proofs.Passing.{place-in, item-in}
-use Rattle.list_certificate.proofs.States.{sid-same}
-use Rattle.list_certificate.proofs.Marks.{IsWord, no-mark, Lacks, word-at, lacks-joined, lacks-mark, cut-first, cut-none}
-use Rattle.list_certificate.proofs.PrefixWords.{prefix-word, prefix-read, prefix-no-dash}
+use Rattle.list_certificate.specs.CertificateReading.{cut_at, node_of, has_name, is_unnamed, is_named, sid_by, sid_in}
+use Rattle.list_certificate.specs.CertificateReadingTerms.{IsSidOf, IsNetworkOf}
+use Rattle.list_certificate.proofs.Passing.{place_in, item_in}
+use Rattle.list_certificate.proofs.States.{sid_same}
+use Rattle.list_certificate.proofs.Marks.{IsWord, no_mark, Lacks, word_at, lacks_joined, lacks_mark, cut_first, cut_none}
+use Rattle.list_certificate.proofs.PrefixWords.{prefix_word, prefix_read, prefix_no_dash}
 
 -- ---- lists
 
 -- the one item that passes is found
-found-by : (p : ℕ → Bool) (x : ℕ) (xs : List ℕ) (n : ℕ) → (b : Bool) → p x ≡ b → (p x ≡ true → x ≡ n)
+found_by : (p : ℕ → Bool) (x : ℕ) (xs : List ℕ) (n : ℕ) → (b : Bool) → p x ≡ b → (p x ≡ true → x ≡ n)
     → (p x ≡ false → find p xs ≡ Some n)
     → cond b (Some x) (find p xs) ≡ Some n
-found-by p x xs n true e one rest = ap (λ (y : ℕ). Some y) (one e)
-found-by p x xs n false e one rest = rest e
+found_by p x xs n true e one rest = ap (λ (y : ℕ). Some y) (one e)
+found_by p x xs n false e one rest = rest e
 
-pub find-only : (p : ℕ → Bool) (xs : List ℕ) (i n : ℕ) → slice_get xs i ≡ Some n → p n ≡ true
+pub find_only : (p : ℕ → Bool) (xs : List ℕ) (i n : ℕ) → slice_get xs i ≡ Some n → p n ≡ true
     → ((j m : ℕ) → slice_get xs j ≡ Some m → p m ≡ true → m ≡ n) → find p xs ≡ Some n
-find-only p [] i n e h only = absurd (none-some n e)
-find-only p (x ∷ xs) zero n e h only =
+find_only p [] i n e h only = absurd (none-some n e)
+find_only p (x ∷ xs) zero n e h only =
     let same : x ≡ n = same_Some x n e in
-    found-by p x xs n (p x) refl (λ yes. same) (λ no. absurd (false≢true (sym no ∙ ap p same ∙ h)))
-find-only p (x ∷ xs) (suc i) n e h only =
-    found-by p x xs n (p x) refl (only 0 x refl) (λ no. find-only p xs i n e h (λ j m f g. only (suc j) m f g))
+    found_by p x xs n (p x) refl (λ yes. same) (λ no. absurd (false≢true (sym no ∙ ap p same ∙ h)))
+find_only p (x ∷ xs) (suc i) n e h only =
+    found_by p x xs n (p x) refl (only 0 x refl) (λ no. find_only p xs i n e h (λ j m f g. only (suc j) m f g))
 
-count-cons : {X : Type 0} (p : X → Bool) (x : X) (xs : List X) → count_by p (x ∷ xs) ≡ cond (p x) 1 0 + count_by p xs
-count-cons p x xs = sum_by-cons (λ y. cond (p y) 1 0) x xs
+count_cons : {X : Type 0} (p : X → Bool) (x : X) (xs : List X) → count_by p (x ∷ xs) ≡ cond (p x) 1 0 + count_by p xs
+count_cons p x xs = sum_by-cons (λ y. cond (p y) 1 0) x xs
 
 -- what counts one, and two
-count-one : {X : Type 0} (p : X → Bool) (xs : List X) (i : ℕ) (x : X) → slice_get xs i ≡ Some x → p x ≡ true → 1 ≤ count_by p xs
-count-one p [] i x e h = absurd (none-some x e)
-count-one p (y ∷ ys) zero x e h =
+count_one : {X : Type 0} (p : X → Bool) (xs : List X) (i : ℕ) (x : X) → slice_get xs i ≡ Some x → p x ≡ true → 1 ≤ count_by p xs
+count_one p [] i x e h = absurd (none-some x e)
+count_one p (y ∷ ys) zero x e h =
     let here : cond (p y) 1 0 ≡ 1 = ap (λ b. cond {A = ℕ} b 1 0) (ap p (same_Some y x e) ∙ h) in
-    let sum = count-cons p y ys in
+    let sum = count_cons p y ys in
     omega (arith, here, sum)
-count-one p (y ∷ ys) (suc i) x e h =
-    let rest = count-one p ys i x e h in
-    let sum = count-cons p y ys in
+count_one p (y ∷ ys) (suc i) x e h =
+    let rest = count_one p ys i x e h in
+    let sum = count_cons p y ys in
     omega (arith, rest, sum)
 
-count-two : {X : Type 0} (p : X → Bool) (xs : List X) (i j : ℕ) (x y : X) → i < j → slice_get xs i ≡ Some x → slice_get xs j ≡ Some y
+count_two : {X : Type 0} (p : X → Bool) (xs : List X) (i j : ℕ) (x y : X) → i < j → slice_get xs i ≡ Some x → slice_get xs j ≡ Some y
     → p x ≡ true
     → p y ≡ true → 1 < count_by p xs
-count-two p [] i j x y l e f h k = absurd (none-some x e)
-count-two p (z ∷ zs) i zero x y l e f h k = absurd (omega (arith, l))
-count-two p (z ∷ zs) zero (suc j) x y l e f h k =
+count_two p [] i j x y l e f h k = absurd (none-some x e)
+count_two p (z ∷ zs) i zero x y l e f h k = absurd (omega (arith, l))
+count_two p (z ∷ zs) zero (suc j) x y l e f h k =
     let here : cond (p z) 1 0 ≡ 1 = ap (λ b. cond {A = ℕ} b 1 0) (ap p (same_Some z x e) ∙ h) in
-    let rest = count-one p zs j y f k in
-    let sum = count-cons p z zs in
+    let rest = count_one p zs j y f k in
+    let sum = count_cons p z zs in
     omega (arith, here, rest, sum)
-count-two p (z ∷ zs) (suc i) (suc j) x y l e f h k =
-    let rest = count-two p zs i j x y (omega (arith, l)) e f h k in
-    let sum = count-cons p z zs in
+count_two p (z ∷ zs) (suc i) (suc j) x y l e f h k =
+    let rest = count_two p zs i j x y (omega (arith, l)) e f h k in
+    let sum = count_cons p z zs in
     omega (arith, rest, sum)
 
-pub some-at : {X : Type 0} (xs : List X) (k : ℕ) → k < length xs → (x : X) × (slice_get xs k ≡ Some x)
-some-at [] k h = absurd (omega (arith, h))
-some-at (x ∷ xs) zero h = (x, refl)
-some-at (x ∷ xs) (suc k) h = some-at xs k (omega (arith, h))
+pub some_at : {X : Type 0} (xs : List X) (k : ℕ) → k < length xs → (x : X) × (slice_get xs k ≡ Some x)
+some_at [] k h = absurd (omega (arith, h))
+some_at (x ∷ xs) zero h = (x, refl)
+some_at (x ∷ xs) (suc k) h = some_at xs k (omega (arith, h))
 
 -- ---- prefixes and names
 
-pub same-prefix : (p q : PrefixValue) → same_prefix p q ≡ true → p ≡ q
-same-prefix p q h =
+pub same_prefix_law : (p q : PrefixValue) → same_prefix p q ≡ true → p ≡ q
+same_prefix_law p q h =
     let parts = and_parts (p.value == q.value) (p.len == q.len) h in
     let one : (x : ℕ) → PrefixValue = λ x. record { value = x; len = p.len } in
     let two : (x : ℕ) → PrefixValue = λ x. record { value = q.value; len = x } in
     ap one (eqb-true p.value q.value parts.0) ∙ ap two (eqb-true p.len q.len parts.1)
 
-pub prefix-same : (p q : PrefixValue) → p ≡ q → same_prefix p q ≡ true
-prefix-same p q e =
+pub prefix_same : (p q : PrefixValue) → p ≡ q → same_prefix p q ≡ true
+prefix_same p q e =
     and_from (p.value == q.value) (p.len == q.len) (eq-eqb p.value q.value (ap (λ (x : PrefixValue). x.value) e))
     (eq-eqb p.len q.len (ap (λ (x : PrefixValue). x.len) e))
 
-name-byte : (mark b : ℕ) → is_name_byte b ≡ true → (is_name_byte mark ≡ false) → b ≡ mark → ⊥
-name-byte mark b h not_one e = false≢true (sym not_one ∙ ap is_name_byte (sym e) ∙ h)
+name_byte : (mark b : ℕ) → is_name_byte b ≡ true → (is_name_byte mark ≡ false) → b ≡ mark → ⊥
+name_byte mark b h not_one e = false≢true (sym not_one ∙ ap is_name_byte (sym e) ∙ h)
 
-name-word : (name : List ℕ) → IsTrue (is_name name) → IsWord name
-name-word name h k d within =
+name_word : (name : List ℕ) → IsTrue (is_name name) → IsWord name
+name_word name h k d within =
     let some = and_parts (nat_le 1 (length name)) _ h in
     let bytes = and_parts (nat_le (length name) _) (list_all is_name_byte name) some.1 in
     let b = get_or name k d in
     let is : is_name_byte b ≡ true = AllPass-from_list_all is_name_byte name bytes.1 k d within in
-    no-mark b (name-byte 10 b is refl) (name-byte 32 b is refl) (name-byte 64 b is refl)
+    no_mark b (name_byte 10 b is refl) (name_byte 32 b is refl) (name_byte 64 b is refl)
 
 -- ---- the SIDs of legs in their network
 
@@ -118,143 +122,143 @@ module _ (net : Network) (v : LegsValue) (rules : IsNetwork net) (laws : KeepsLa
   entry n is =
       let of = is_net n is in
       let keeps_sid = keeps.sid n of.sid of.here in
-      let at = some-at net.nodes of.sid.node keeps_sid.node in
+      let at = some_at net.nodes of.sid.node keeps_sid.node in
       record {
         of = of;
         node = at.0;
         at = at.1;
         prefix = keeps_sid.prefix;
-        name = name-word at.0.name (keeps.node of.sid.node at.0 at.1).name;
+        name = name_word at.0.name (keeps.node of.sid.node at.0 at.1).name;
       }
 
-  named-text : (n : ℕ) (e : Entry n) → is_shared net e.of.sid.prefix ≡ true
+  named_text : (n : ℕ) (e : Entry n) → is_shared net e.of.sid.prefix ≡ true
       → sid_text net n ≡ prefix_text e.of.sid.prefix ++ 64 ∷ e.node.name
-  named-text n e shared =
+  named_text n e shared =
       ap (sid_text_by net) e.of.here ∙ cond-true _ _ _ shared
       ∙ ap (λ (o : Option Node). prefix_text e.of.sid.prefix ++ 64 ∷ name_by o) e.at
 
-  plain-text : (n : ℕ) (e : Entry n) → is_shared net e.of.sid.prefix ≡ false → sid_text net n ≡ prefix_text e.of.sid.prefix
-  plain-text n e single = ap (sid_text_by net) e.of.here ∙ cond-false _ _ _ single
+  plain_text : (n : ℕ) (e : Entry n) → is_shared net e.of.sid.prefix ≡ false → sid_text net n ≡ prefix_text e.of.sid.prefix
+  plain_text n e single = ap (sid_text_by net) e.of.here ∙ cond-false _ _ _ single
 
   -- a SID's text has no line feed and no space, and is not the start's dash
-  pub sid-lacks : (mark n : ℕ) → IsSid v n → (64 == mark) ≡ false → ((text : List ℕ) → IsWord text → Lacks mark text)
+  pub sid_lacks : (mark n : ℕ) → IsSid v n → (64 == mark) ≡ false → ((text : List ℕ) → IsWord text → Lacks mark text)
       → Lacks mark (sid_text net n)
-  sid-lacks mark n is other lacks = by (is_shared net (entry n is).of.sid.prefix) refl
+  sid_lacks mark n is other lacks = by (is_shared net (entry n is).of.sid.prefix) refl
     where
       e : Entry n
       e = entry n is
 
       front : Lacks mark (prefix_text e.of.sid.prefix)
-      front = lacks (prefix_text e.of.sid.prefix) (prefix-word e.of.sid.prefix e.prefix)
+      front = lacks (prefix_text e.of.sid.prefix) (prefix_word e.of.sid.prefix e.prefix)
 
       by : (b : Bool) → is_shared net e.of.sid.prefix ≡ b → Lacks mark (sid_text net n)
       by true shared =
-          subst (Lacks mark) (sym (named-text n e shared))
-          (lacks-joined mark (prefix_text e.of.sid.prefix) (64 ∷ e.node.name) front
-          (lacks-mark mark 64 e.node.name other (lacks e.node.name e.name)))
-      by false single = subst (Lacks mark) (sym (plain-text n e single)) front
+          subst (Lacks mark) (sym (named_text n e shared))
+          (lacks_joined mark (prefix_text e.of.sid.prefix) (64 ∷ e.node.name) front
+          (lacks_mark mark 64 e.node.name other (lacks e.node.name e.name)))
+      by false single = subst (Lacks mark) (sym (plain_text n e single)) front
 
-  pub sid-no-dash : (n : ℕ) → IsSid v n → sid_text net n ≡ 45 ∷ [] → ⊥
-  sid-no-dash n is same = by (is_shared net (entry n is).of.sid.prefix) refl
+  pub sid_no_dash : (n : ℕ) → IsSid v n → sid_text net n ≡ 45 ∷ [] → ⊥
+  sid_no_dash n is same = by (is_shared net (entry n is).of.sid.prefix) refl
     where
       e : Entry n
       e = entry n is
 
       by : (b : Bool) → is_shared net e.of.sid.prefix ≡ b → ⊥
-      by true shared = prefix-no-dash e.of.sid.prefix (64 ∷ e.node.name) e.prefix (sym (named-text n e shared) ∙ same)
+      by true shared = prefix_no_dash e.of.sid.prefix (64 ∷ e.node.name) e.prefix (sym (named_text n e shared) ∙ same)
       by false single =
-          prefix-no-dash e.of.sid.prefix [] e.prefix
-          (append-nil (prefix_text e.of.sid.prefix) ∙ sym (plain-text n e single) ∙ same)
+          prefix_no_dash e.of.sid.prefix [] e.prefix
+          (append-nil (prefix_text e.of.sid.prefix) ∙ sym (plain_text n e single) ∙ same)
 
   -- a SID that is one of a position is the only one there that passes
-  node-name : (n : ℕ) (e : Entry n) → node_of net (slice_get net.sids n) ≡ e.node.name
-  node-name n e = ap (node_of net) e.of.here ∙ ap name_by e.at
+  node_name_law : (n : ℕ) (e : Entry n) → node_of net (slice_get net.sids n) ≡ e.node.name
+  node_name_law n e = ap (node_of net) e.of.here ∙ ap name_by e.at
 
-  named-only : (position n m : ℕ) → position ≤ v.steps → Contains (v.sids_at position) n → Contains (v.sids_at position) m
+  named_only : (position n m : ℕ) → position ≤ v.steps → Contains (v.sids_at position) n → Contains (v.sids_at position) m
       → (e : Entry n) → is_named net v e.of.sid.prefix e.node.name m ≡ true → m ≡ n
-  named-only position n m within is_n is_m e h =
+  named_only position n m within is_n is_m e h =
       let other = entry m (position, within, is_m) in
       let both = and_parts (is_unnamed v e.of.sid.prefix m) (has_name net e.node.name m) h in
       let prefix = and_parts (same_prefix (v.shape m).prefix e.of.sid.prefix) (v.shape m).middle both.0 in
       let prefixes : (v.shape m).prefix ≡ (v.shape n).prefix =
-      same-prefix (v.shape m).prefix e.of.sid.prefix prefix.0 ∙ sym e.of.prefix in
+      same_prefix_law (v.shape m).prefix e.of.sid.prefix prefix.0 ∙ sym e.of.prefix in
       let names : other.node.name ≡ e.node.name =
-      sym (node-name m other) ∙ (bytes_eq-Decides (node_of net (slice_get net.sids m)) e.node.name).0 both.1 in
+      sym (node_name_law m other) ∙ (bytes_eq-Decides (node_of net (slice_get net.sids m)) e.node.name).0 both.1 in
       let nodes : other.of.sid.node ≡ e.of.sid.node =
       keeps.node_name other.of.sid.node e.of.sid.node other.node e.node other.at e.at names in
       let stands : v.node m ≡ v.node n = other.of.node ∙ nodes ∙ sym e.of.node in
       let keys : sid_key v m ≡ sid_key v n =
       ap (λ (p : PrefixValue). p.value ∷ p.len ∷ v.node m ∷ []) prefixes
       ∙ ap (λ (x : ℕ). (v.shape n).prefix.value ∷ (v.shape n).prefix.len ∷ x ∷ []) stands in
-      sid-same v laws position m n within is_m is_n keys
+      sid_same v laws position m n within is_m is_n keys
 
-  unnamed-only : (position n m : ℕ) → position ≤ v.steps → Contains (v.sids_at position) m → (e : Entry n)
+  unnamed_only : (position n m : ℕ) → position ≤ v.steps → Contains (v.sids_at position) m → (e : Entry n)
       → is_shared net e.of.sid.prefix ≡ false
       → is_unnamed v e.of.sid.prefix m ≡ true → m ≡ n
-  unnamed-only position n m within is_m e single h =
+  unnamed_only position n m within is_m e single h =
       let other = entry m (position, within, is_m) in
       let prefix = and_parts (same_prefix (v.shape m).prefix e.of.sid.prefix) (v.shape m).middle h in
       let prefixes : other.of.sid.prefix ≡ e.of.sid.prefix =
-      sym other.of.prefix ∙ same-prefix (v.shape m).prefix e.of.sid.prefix prefix.0 in
+      sym other.of.prefix ∙ same_prefix_law (v.shape m).prefix e.of.sid.prefix prefix.0 in
       let test : SidEntry → Bool = λ s. same_prefix s.prefix e.of.sid.prefix in
-      let one : test other.of.sid ≡ true = prefix-same other.of.sid.prefix e.of.sid.prefix prefixes in
-      let two : test e.of.sid ≡ true = prefix-same e.of.sid.prefix e.of.sid.prefix refl in
+      let one : test other.of.sid ≡ true = prefix_same other.of.sid.prefix e.of.sid.prefix prefixes in
+      let two : test e.of.sid ≡ true = prefix_same e.of.sid.prefix e.of.sid.prefix refl in
       let few : count_by test net.sids ≤ 1 = ltb-false 1 (count_by test net.sids) single in
       elim (cases_order m n) as (λ w. m ≡ n) [
         | inl same ↦ same
         | inr o ↦
             elim o as (λ w. m ≡ n) [
               | inl less ↦
-                  let many = count-two test net.sids m n other.of.sid e.of.sid less other.of.here e.of.here one two in
+                  let many = count_two test net.sids m n other.of.sid e.of.sid less other.of.here e.of.here one two in
                   absurd (omega (arith, few, many))
               | inr more ↦
-                  let many = count-two test net.sids n m e.of.sid other.of.sid more e.of.here other.of.here two one in
+                  let many = count_two test net.sids n m e.of.sid other.of.sid more e.of.here other.of.here two one in
                   absurd (omega (arith, few, many))
             ]
       ]
 
-  unnamed-itself : (n : ℕ) (e : Entry n) → IsTrue (v.shape n).middle → is_unnamed v e.of.sid.prefix n ≡ true
-  unnamed-itself n e middle =
+  unnamed_itself : (n : ℕ) (e : Entry n) → IsTrue (v.shape n).middle → is_unnamed v e.of.sid.prefix n ≡ true
+  unnamed_itself n e middle =
       and_from (same_prefix (v.shape n).prefix e.of.sid.prefix) (v.shape n).middle
-      (prefix-same (v.shape n).prefix e.of.sid.prefix e.of.prefix) middle
+      (prefix_same (v.shape n).prefix e.of.sid.prefix e.of.prefix) middle
 
-  named-itself : (n : ℕ) (e : Entry n) → IsTrue (v.shape n).middle → is_named net v e.of.sid.prefix e.node.name n ≡ true
-  named-itself n e middle =
-      and_from (is_unnamed v e.of.sid.prefix n) (has_name net e.node.name n) (unnamed-itself n e middle)
-      ((bytes_eq-Decides (node_of net (slice_get net.sids n)) e.node.name).1 (node-name n e))
+  named_itself : (n : ℕ) (e : Entry n) → IsTrue (v.shape n).middle → is_named net v e.of.sid.prefix e.node.name n ≡ true
+  named_itself n e middle =
+      and_from (is_unnamed v e.of.sid.prefix n) (has_name net e.node.name n) (unnamed_itself n e middle)
+      ((bytes_eq-Decides (node_of net (slice_get net.sids n)) e.node.name).1 (node_name_law n e))
 
   -- a middle SID of a position is read back
-  pub sid-read : (position n : ℕ) → position ≤ v.steps → Contains (v.sids_at position) n → IsTrue (v.shape n).middle
+  pub sid_read : (position n : ℕ) → position ≤ v.steps → Contains (v.sids_at position) n → IsTrue (v.shape n).middle
       → sid_in net v position (sid_text net n) ≡ Some n
   unfolding sid_in
-  sid-read position n within is_n middle = by (is_shared net e.of.sid.prefix) refl
+  sid_read position n within is_n middle = by (is_shared net e.of.sid.prefix) refl
     where
       e : Entry n
       e = entry n (position, within, is_n)
 
       place : (k : ℕ) × (k < length (v.sids_at position)) × (slice_get (v.sids_at position) k ≡ Some n)
-      place = place-in (v.sids_at position) n is_n
+      place = place_in (v.sids_at position) n is_n
 
       p : PrefixValue
       p = e.of.sid.prefix
 
       by : (b : Bool) → is_shared net e.of.sid.prefix ≡ b → sid_by net v position (sid_text net n) (cut_at 64 (sid_text net n)) ≡ Some n
       by true shared =
-          ap (λ (text : List ℕ). sid_by net v position text (cut_at 64 text)) (named-text n e shared)
+          ap (λ (text : List ℕ). sid_by net v position text (cut_at 64 text)) (named_text n e shared)
           ∙ ap (sid_by net v position (prefix_text p ++ 64 ∷ e.node.name))
-          (cut-first 64 (prefix_text p) e.node.name (word-at (prefix_text p) (prefix-word p e.prefix)))
+          (cut_first 64 (prefix_text p) e.node.name (word_at (prefix_text p) (prefix_word p e.prefix)))
           ∙ ap (λ (o : Option PrefixValue).
           option_and_then (λ q. cond (is_shared net q) (find (is_named net v q e.node.name) (v.sids_at position)) None) o)
-          (prefix-read p e.prefix)
+          (prefix_read p e.prefix)
           ∙ cond-true _ _ _ shared
-          ∙ find-only (is_named net v p e.node.name) (v.sids_at position) place.0 n place.2 (named-itself n e middle)
-          (λ j m at h. named-only position n m within is_n (item-in (v.sids_at position) j m at) e h)
+          ∙ find_only (is_named net v p e.node.name) (v.sids_at position) place.0 n place.2 (named_itself n e middle)
+          (λ j m at h. named_only position n m within is_n (item_in (v.sids_at position) j m at) e h)
       by false single =
-          ap (λ (text : List ℕ). sid_by net v position text (cut_at 64 text)) (plain-text n e single)
-          ∙ ap (sid_by net v position (prefix_text p)) (cut-none 64 (prefix_text p) (word-at (prefix_text p) (prefix-word p e.prefix)))
+          ap (λ (text : List ℕ). sid_by net v position text (cut_at 64 text)) (plain_text n e single)
+          ∙ ap (sid_by net v position (prefix_text p)) (cut_none 64 (prefix_text p) (word_at (prefix_text p) (prefix_word p e.prefix)))
           ∙ ap (λ (o : Option PrefixValue).
           option_and_then (λ q. cond (is_shared net q) None (find (is_unnamed v q) (v.sids_at position))) o)
-          (prefix-read p e.prefix)
+          (prefix_read p e.prefix)
           ∙ cond-false _ _ _ single
-          ∙ find-only (is_unnamed v p) (v.sids_at position) place.0 n place.2 (unnamed-itself n e middle)
-          (λ j m at h. unnamed-only position n m within (item-in (v.sids_at position) j m at) e single h)
+          ∙ find_only (is_unnamed v p) (v.sids_at position) place.0 n place.2 (unnamed_itself n e middle)
+          (λ j m at h. unnamed_only position n m within (item_in (v.sids_at position) j m at) e single h)

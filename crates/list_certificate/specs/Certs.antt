@@ -1,16 +1,8 @@
--- What the lines of a certificate say of states, and what a certificate is to its check (own rule).
-use Rattle.std.specs.Prelude.{◌≡◌, ℕ, ◌+◌, ◌<◌, Bool, true, false, ◌==◌, ◌&&◌, if◌then◌else◌, List, [], ◌∷◌, length, Option, Some, None, All, AllPairs}
+-- What the lines of a certificate say of states, and what a certificate is to its check.
+use Rattle.std.specs.Prelude.{ℕ, Bool, true, false, ◌==◌, ◌&&◌, if◌then◌else◌, List, [], ◌∷◌, Option, Some, None}
 use Rattle.list_pack.specs.declared.types.Cost.{Cost}
 use Rattle.list_pack.specs.declared.types.State.{State}
-use Rattle.list_pack.specs.declared.types.PathStep.{PathStep}
-use Rattle.list_pack.specs.declared.types.Potential.{Potential}
-use Rattle.list_pack.specs.declared.types.Solution.{Solution}
-use Rattle.list_pack.specs.Value.{LegsValue}
-use Rattle.list_pack.specs.Costs.{IsState}
-use Rattle.list_pack.specs.Least.{IsBefore}
-use Rattle.list_certificate.specs.declared.types.PotentialLine.{PotentialLine}
-use Rattle.list_certificate.specs.declared.types.PathLine.{PathLine}
-use Rattle.list_certificate.specs.declared.types.Cert.{Cert}
+use Rattle.list_certificate.specs.declared.certificate_types.PotentialLine.{PotentialLine}
 
 -- two states are the same
 abbrev pub same_via : Option ℕ → Option ℕ → Bool
@@ -26,43 +18,3 @@ same_state s t = (s.position == t.position) && (same_via s.via t.via && (s.room 
 abbrev pub potential_at : List PotentialLine → State → Option Cost
 potential_at [] s = None
 potential_at (l ∷ ls) s = if same_state l.potential.state s then Some l.potential.cost else potential_at ls s
-
--- there is a path, or a line says that there is none
-abbrev pub IsWritten : Option ℕ → List PathLine → Type 0
-IsWritten None path = 0 < length path
-IsWritten (Some line) path = path ≡ []
-
--- what a check takes: the listed states are states of the legs, each once and in order
-pub record IsCert (v : LegsValue) (c : Cert) : Type 0 where
-  pub states : All (λ (l : PotentialLine). IsState v l.potential.state) c.potentials
-  pub order : AllPairs (λ (l m : PotentialLine). IsBefore v l.potential.state m.potential.state) c.potentials
-  pub written : IsWritten c.none c.path
-
--- lines that follow one another from a number on
-abbrev pub potential_lines : ℕ → List Potential → List PotentialLine
-potential_lines line [] = []
-potential_lines line (q ∷ qs) = record { potential = q; line = line } ∷ potential_lines (line + 1) qs
-
-abbrev pub path_lines : ℕ → List PathStep → List PathLine
-path_lines line [] = []
-path_lines line (p ∷ ps) = record { step = p; line = line } ∷ path_lines (line + 1) ps
-
--- the certificate of a solution, whose head stands in a line
-abbrev pub none_line : ℕ → List PathStep → Option ℕ
-none_line line [] = Some line
-none_line line (p ∷ ps) = None
-
--- how many lines say the path, or that there is none
-abbrev pub way_count : List PathStep → ℕ
-way_count [] = 1
-way_count (p ∷ ps) = length (p ∷ ps)
-
-abbrev pub certificate_of : ℕ → Solution → Cert
-certificate_of head s =
-    record {
-      head = head;
-      potentials = potential_lines (head + 1) s.potentials;
-      path = path_lines (head + 1 + length s.potentials) s.path;
-      none = none_line (head + 1 + length s.potentials) s.path;
-      end = head + 1 + length s.potentials + way_count s.path;
-    }

@@ -1,6 +1,9 @@
 pub mod Certs
+pub mod CertsTerms
 pub mod Verdicts
 pub mod Tests
-pub mod Laws
+pub mod CertificateLaws
 pub mod Spelling
-pub mod Reading
+pub mod SpellingTerms
+pub mod CertificateReading
+pub mod CertificateReadingTerms

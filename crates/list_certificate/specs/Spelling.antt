@@ -1,13 +1,13 @@
--- The text of the certificate of a solution (own rule). Numbers are decimal; each line ends with a line feed, 10; 32 is the space, 64 is
+-- The text of the certificate of a solution. Numbers are decimal; each line ends with a line feed, 10; 32 is the space, 64 is
 -- `@`.
-use Rattle.std.specs.Prelude.{ℕ, Bool, if◌then◌else◌, count_by, nat_lt, List, [], ◌∷◌, ◌++◌, length, codes, flat_map, slice_get, Option, Some, None, ◌<◌}
+use Rattle.std.specs.Prelude.{ℕ, Bool, if◌then◌else◌, count_by, nat_lt, List, [], ◌∷◌, ◌++◌, codes, flat_map, slice_get, Option, Some, None}
 use Rattle.std.specs.Fmt.{decimal}
 use Rattle.v6_addr.specs.Address.{PrefixValue}
 use Rattle.v6_addr.specs.Text.{prefix_text}
 use Rattle.srv6_rules.specs.declared.sid.SidEntry.{SidEntry}
 use Rattle.net_model.specs.declared.parts.Node.{Node}
 use Rattle.net_model.specs.Network.{Network}
-use Rattle.net_model.specs.Rules.{same_prefix}
+use Rattle.net_model.specs.NetworkRules.{same_prefix}
 use Rattle.list_pack.specs.declared.types.State.{State}
 use Rattle.list_pack.specs.declared.types.PathStep.{PathStep}
 use Rattle.list_pack.specs.declared.types.Potential.{Potential}
@@ -78,11 +78,3 @@ end_text = codes "end" ++ 10 ∷ []
 -- from the head to the end
 abbrev pub spelled : Network → Solution → List ℕ
 spelled net s = head_text ++ flat_map (potential_text net) s.potentials ++ way_text s.path ++ end_text
-
--- the SID of a state is one of the network
-abbrev pub IsKnownBy : Network → Option ℕ → Type 0
-IsKnownBy net None = Unit {0}
-IsKnownBy net (Some n) = n < length net.sids
-
-abbrev pub IsKnown : Network → State → Type 0
-IsKnown net s = IsKnownBy net s.via

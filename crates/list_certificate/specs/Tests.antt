@@ -1,4 +1,5 @@
--- What is tested of a state on the way to a verdict (own rule).
+-- Need not be believed: helps proofs and other laws.
+-- What is tested of a state on the way to a verdict.
 use Rattle.std.specs.Prelude.{◌≡◌, ℕ, ◌<◌, ◌≤◌, Bool, true, false, List, [], ◌∷◌, ◌++◌, map, length, slice_get, Option, Some, None, Result, Ok, Err, IsSome, Contains, All, AllPairs}
 use Rattle.std.specs.Option.{option_map}
 use Rattle.list_pack.specs.declared.types.Cost.{Cost}
@@ -6,21 +7,21 @@ use Rattle.list_pack.specs.declared.types.State.{State}
 use Rattle.list_pack.specs.declared.types.Leg.{Leg}
 use Rattle.list_pack.specs.declared.types.PathStep.{PathStep}
 use Rattle.list_pack.specs.declared.types.Shape.{Shape}
-use Rattle.list_pack.specs.Order.{lex_before}
-use Rattle.list_pack.specs.Value.{LegsValue}
+use Rattle.list_pack.specs.ListOrder.{lex_before}
+use Rattle.list_pack.specs.LegsValue.{LegsValue}
 use Rattle.list_pack.specs.Rooms.{top_room}
 use Rattle.list_pack.specs.Costs.{Move, Edge, plus, edge_of, last_of, cost_of, behind, Under, start, IsState}
 use Rattle.list_pack.specs.Least.{IsGoodAt, IsBefore, step_of}
-use Rattle.list_certificate.specs.declared.types.PotentialLine.{PotentialLine}
+use Rattle.list_certificate.specs.declared.certificate_types.PotentialLine.{PotentialLine}
 use Rattle.list_certificate.specs.declared.search.StateKey.{StateKey}
-use Rattle.list_certificate.specs.declared.good.Spot.{Spot}
-use Rattle.list_certificate.specs.declared.cells.Cell.{Cell}
-use Rattle.list_certificate.specs.declared.path.Reached.{Reached}
-use Rattle.list_certificate.specs.declared.path.Spent.{Spent}
-use Rattle.list_certificate.specs.declared.types.PathLine.{PathLine}
+use Rattle.list_certificate.specs.declared.good.CostedState.{CostedState}
+use Rattle.list_certificate.specs.declared.potential_cells.Cell.{Cell}
+use Rattle.list_certificate.specs.declared.path_lines.Reached.{Reached}
+use Rattle.list_certificate.specs.declared.path_lines.Spent.{Spent}
+use Rattle.list_certificate.specs.declared.certificate_types.PathLine.{PathLine}
 use Rattle.list_certificate.specs.Certs.{potential_at}
-use Rattle.list_certificate.specs.declared.types.Cert.{Cert}
-use Rattle.list_certificate.specs.declared.types.Verdict.{Verdict}
+use Rattle.list_certificate.specs.declared.certificate_types.Cert.{Cert}
+use Rattle.list_certificate.specs.declared.certificate_types.Verdict.{Verdict}
 use Rattle.list_certificate.specs.Verdicts.{GoesAlong, Leads, BreaksAt, PathCosts, AllPass, IsVerdict}
 
 -- the lines list states of the legs in order
@@ -50,10 +51,10 @@ pub record Splits (v : LegsValue) (lines : List PotentialLine) (key : List ℕ) 
   pub behind : (i : ℕ) (l : PotentialLine) → slice_get lines i ≡ Some l → high ≤ i → IsBehind v key l false
 
 -- a state with its SID's shape and its potential
-pub record IsSpot (v : LegsValue) (lines : List PotentialLine) (spot : Spot) : Type 0 where
-  pub is_state : IsState v spot.state
-  pub from_is : spot.from ≡ option_map v.shape spot.state.via
-  pub potential_is : spot.potential ≡ potential_at lines spot.state
+pub record IsCostedState (v : LegsValue) (lines : List PotentialLine) (costed_state : CostedState) : Type 0 where
+  pub is_state : IsState v costed_state.state
+  pub from_is : costed_state.from ≡ option_map v.shape costed_state.state.via
+  pub potential_is : costed_state.potential ≡ potential_at lines costed_state.state
 
 -- the move goes along no edge, or along one of which the potential falls by at most the cost
 abbrev pub PassesMove : LegsValue → List PotentialLine → State → Move → Type 0

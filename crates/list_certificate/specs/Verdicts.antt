@@ -1,17 +1,17 @@
--- The verdict on a certificate: the first of its tests that fails, or what it shows (own rule).
+-- The verdict on a certificate: the first of its tests that fails, or what it shows.
 use Rattle.std.specs.Prelude.{◌≡◌, ℕ, ◌<◌, List, [], ◌∷◌, ◌++◌, map, slice_get, Option, Some, None, IsSome}
 use Rattle.list_pack.specs.declared.types.Cost.{Cost}
 use Rattle.list_pack.specs.declared.types.State.{State}
 use Rattle.list_pack.specs.declared.types.PathStep.{PathStep}
-use Rattle.list_pack.specs.Value.{LegsValue}
+use Rattle.list_pack.specs.LegsValue.{LegsValue}
 use Rattle.list_pack.specs.Costs.{Move, Edge, edge_of, last_of, cost_of, start, IsState}
 use Rattle.list_pack.specs.Least.{IsGoodAt, IsBefore, step_of}
-use Rattle.list_certificate.specs.declared.types.PotentialLine.{PotentialLine}
-use Rattle.list_certificate.specs.declared.types.PathLine.{PathLine}
-use Rattle.list_certificate.specs.declared.types.Cert.{Cert}
-use Rattle.list_certificate.specs.declared.types.Verdict.{Verdict}
-use Rattle.list_certificate.specs.declared.types.Verdict.TheVariants.{Least, NoList, No}
-use Rattle.list_certificate.specs.declared.types.Why.TheVariants.{Edge as BadEdge, Unlisted, Path, Tight}
+use Rattle.list_certificate.specs.declared.certificate_types.PotentialLine.{PotentialLine}
+use Rattle.list_certificate.specs.declared.certificate_types.PathLine.{PathLine}
+use Rattle.list_certificate.specs.declared.certificate_types.Cert.{Cert}
+use Rattle.list_certificate.specs.declared.certificate_types.Verdict.{Verdict}
+use Rattle.list_certificate.specs.declared.certificate_types.Verdict.TheVariants.{Least, NoList, No}
+use Rattle.list_certificate.specs.declared.certificate_types.Why.TheVariants.{Edge as BadEdge, Unlisted, Path, Tight}
 use Rattle.list_certificate.specs.Certs.{potential_at}
 
 -- a state passes: along each edge to a listed state or to the end the potential falls by at most what the edge costs, and where the

@@ -5,22 +5,22 @@ ghost use Rattle.std.specs.Prelude.{◌≡◌, ◌≤◌, IsTrue, Contains, Some
 ghost use Rattle.list_pack.specs.Rooms.{top_room};
 ghost use Rattle.list_certificate.specs.Tests as tests;
 
-use crate::cells::{Cell, cell_of, potential_in};
-use crate::firsts::spot_of;
-use crate::good::{Spot, passes, passes_last, passes_move};
-use crate::types::PotentialLine;
+use crate::certificate_types::PotentialLine;
+use crate::firsts::costed_state_of;
+use crate::good::{CostedState, passes, passes_last, passes_move};
+use crate::potential_cells::{Cell, cell_of, potential_in};
 use list_pack::{Leg, Legs, State, top_room};
 
-/// a cell's state with some room after its SID
-fn spot_in<L: Legs>(legs: &L, lines: &[PotentialLine], cell: &Cell, room: u8) -> Spot
+/// A cell's state with some room after its SID
+fn costed_state_in<L: Legs>(legs: &L, lines: &[PotentialLine], cell: &Cell, room: u8) -> CostedState
     requires sorted { tests.AreSorted (L.seen legs.now) lines.now }
     requires cell { tests.IsCell (L.seen legs.now) lines.now cell.now }
     requires middle { IsTrue cell.now.shape.middle }
     requires room { room ≤ top_room cell.now.shape }
-    ensures spot { tests.IsSpot (L.seen legs.now) lines.now result }
+    ensures costed_state { tests.IsCostedState (L.seen legs.now) lines.now result }
     ensures state { result.state ≡ tests.state_in cell.now room }
 {
-    Spot {
+    CostedState {
         state: State {
             position: cell.position,
             via: Some(cell.sid),
@@ -31,7 +31,7 @@ fn spot_in<L: Legs>(legs: &L, lines: &[PotentialLine], cell: &Cell, room: u8) ->
     }
 }
 
-/// the moves of a cell's states by a leg pass
+/// The moves of a cell's states by a leg pass
 fn pass_leg<L: Legs>(legs: &L, lines: &[PotentialLine], cell: &Cell, next: &Cell, leg: Leg) -> bool
     requires sorted { tests.AreSorted (L.seen legs.now) lines.now }
     requires cell { tests.IsCell (L.seen legs.now) lines.now cell.now }
@@ -47,18 +47,18 @@ fn pass_leg<L: Legs>(legs: &L, lines: &[PotentialLine], cell: &Cell, next: &Cell
     let barred = !legs.stays(cell.sid, next.sid);
     let top = top_room(&cell.shape);
     for room in 0..top + 1 {
-        let spot = spot_in(legs, lines, cell, room);
-        if !passes_move(legs, lines, &spot, next, leg, true, barred) {
+        let costed_state = costed_state_in(legs, lines, cell, room);
+        if !passes_move(legs, lines, &costed_state, next, leg, true, barred) {
             return false;
         }
-        if !passes_move(legs, lines, &spot, next, leg, false, barred) {
+        if !passes_move(legs, lines, &costed_state, next, leg, false, barred) {
             return false;
         }
     }
     true
 }
 
-/// the moves of a cell's states by legs to a position pass
+/// The moves of a cell's states by legs to a position pass
 fn pass_legs_to<L: Legs>(legs: &L, lines: &[PotentialLine], cell: &Cell, to: u32) -> bool
     requires sorted { tests.AreSorted (L.seen legs.now) lines.now }
     requires cell { tests.IsCell (L.seen legs.now) lines.now cell.now }
@@ -81,7 +81,7 @@ fn pass_legs_to<L: Legs>(legs: &L, lines: &[PotentialLine], cell: &Cell, to: u32
     true
 }
 
-/// the moves of a cell's states by legs pass
+/// The moves of a cell's states by legs pass
 fn pass_legs<L: Legs>(legs: &L, lines: &[PotentialLine], cell: &Cell) -> bool
     requires sorted { tests.AreSorted (L.seen legs.now) lines.now }
     requires cell { tests.IsCell (L.seen legs.now) lines.now cell.now }
@@ -97,7 +97,7 @@ fn pass_legs<L: Legs>(legs: &L, lines: &[PotentialLine], cell: &Cell) -> bool
     true
 }
 
-/// the moves of a cell's states to the end by a SID pass
+/// The moves of a cell's states to the end by a SID pass
 fn pass_finish<L: Legs>(legs: &L, lines: &[PotentialLine], cell: &Cell, n: u32, hops: u32) -> bool
     requires sorted { tests.AreSorted (L.seen legs.now) lines.now }
     requires cell { tests.IsCell (L.seen legs.now) lines.now cell.now }
@@ -109,18 +109,18 @@ fn pass_finish<L: Legs>(legs: &L, lines: &[PotentialLine], cell: &Cell, n: u32, 
     let barred = !legs.stays(cell.sid, n);
     let top = top_room(&cell.shape);
     for room in 0..top + 1 {
-        let spot = spot_in(legs, lines, cell, room);
-        if !passes_last(legs, lines, &spot, n, hops, true, barred) {
+        let costed_state = costed_state_in(legs, lines, cell, room);
+        if !passes_last(legs, lines, &costed_state, n, hops, true, barred) {
             return false;
         }
-        if !passes_last(legs, lines, &spot, n, hops, false, barred) {
+        if !passes_last(legs, lines, &costed_state, n, hops, false, barred) {
             return false;
         }
     }
     true
 }
 
-/// the moves of a cell's states to the end pass
+/// The moves of a cell's states to the end pass
 fn pass_ends<L: Legs>(legs: &L, lines: &[PotentialLine], cell: &Cell) -> bool
     requires sorted { tests.AreSorted (L.seen legs.now) lines.now }
     requires cell { tests.IsCell (L.seen legs.now) lines.now cell.now }
@@ -137,7 +137,7 @@ fn pass_ends<L: Legs>(legs: &L, lines: &[PotentialLine], cell: &Cell) -> bool
     true
 }
 
-/// the states of a SID at a position pass
+/// The states of a SID at a position pass
 fn pass_at_sid<L: Legs>(legs: &L, lines: &[PotentialLine], position: u32, n: u32) -> bool
     requires sorted { tests.AreSorted (L.seen legs.now) lines.now }
     requires within { position ≤ (L.seen legs.now).steps }
@@ -155,7 +155,7 @@ fn pass_at_sid<L: Legs>(legs: &L, lines: &[PotentialLine], position: u32, n: u32
     pass_ends(legs, lines, &cell)
 }
 
-/// the states at a position pass
+/// The states at a position pass
 fn pass_at<L: Legs>(legs: &L, lines: &[PotentialLine], position: u32) -> bool
     requires sorted { tests.AreSorted (L.seen legs.now) lines.now }
     requires within { position ≤ (L.seen legs.now).steps }
@@ -170,7 +170,7 @@ fn pass_at<L: Legs>(legs: &L, lines: &[PotentialLine], position: u32) -> bool
     true
 }
 
-/// Whether all states pass; at `false` one doesn't, or it isn't known. (own rule)
+/// Whether all states pass; at `false` one doesn't, or it isn't known.
 pub fn all_pass<L: Legs>(legs: &L, lines: &[PotentialLine]) -> bool
     requires { tests.AreSorted (L.seen legs.now) lines.now }
     ensures { tests.Assures (tests.PassAmong (L.seen legs.now) lines.now tests.OfAll) result }
@@ -181,8 +181,8 @@ pub fn all_pass<L: Legs>(legs: &L, lines: &[PotentialLine]) -> bool
         via: None,
         room: 0,
     };
-    let spot = spot_of(legs, lines, start);
-    if !passes(legs, lines, &spot) {
+    let costed_state = costed_state_of(legs, lines, start);
+    if !passes(legs, lines, &costed_state) {
         return false;
     }
     for position in 0..steps + 1 {

@@ -1,19 +1,20 @@
 //! What was read so far of a certificate.
 
 ghost use Rattle.std.specs.Prelude.{◌≡◌, Some, None, Ok, IfOk};
-ghost use Rattle.list_pack.specs.Order.{lex_before};
+ghost use Rattle.list_pack.specs.ListOrder.{lex_before};
 ghost use Rattle.list_pack.specs.Costs.{IsState};
 ghost use Rattle.list_pack.specs.Least.{state_key};
-ghost use Rattle.list_certificate.specs.Reading as reading;
+ghost use Rattle.list_certificate.specs.CertificateReading as reading;
+ghost use Rattle.list_certificate.specs.CertificateReadingTerms as reading_terms;
 
+use crate::certificate_types::{PathLine, PotentialLine};
 use crate::item::Item;
-use crate::types::{PathLine, PotentialLine};
 use base::NoMemory;
 use list_pack::{Legs, PathStep, Potential, State};
 use net_model::Net;
 use std::alloc::Global;
 
-/// What the next line may be. (own rule)
+/// What the next line may be.
 #[derive(Clone, Copy, Debug, PartialEq, Eq)]
 pub enum Progress {
     /// A comment or the head.
@@ -28,7 +29,7 @@ pub enum Progress {
     AtEnd,
 }
 
-/// What was read so far. (own rule)
+/// What was read so far.
 #[derive(Debug, Drop)]
 pub struct Draft {
     /// What the next line may be.
@@ -46,9 +47,9 @@ pub struct Draft {
 }
 
 impl Draft {
-    /// Nothing read. (own rule)
+    /// Nothing read.
     pub fn new(alloc: Global) -> Draft
-        ensures { reading.read_value result ≡ reading.nothing_read }
+        ensures { reading_terms.read_value result ≡ reading.nothing_read }
     {
         Draft {
             stage: Progress::BeforeHead,
@@ -71,12 +72,12 @@ struct Key {
     room: u8,
 }
 
-/// the key of a state at a SID
+/// The key of a state at a SID
 fn key_of<L: Legs>(net: &Net, legs: &L, state: State, n: u32) -> Key
-    requires net { reading.IsNetworkOf net.now (L.seen legs.now) }
+    requires net { reading_terms.IsNetworkOf net.now (L.seen legs.now) }
     requires state { IsState (L.seen legs.now) state }
     requires via { state.via ≡ Some n }
-    ensures { reading.key_value result ≡ state_key (L.seen legs.now) state }
+    ensures { reading_terms.key_value result ≡ state_key (L.seen legs.now) state }
 {
     let prefix = legs.shape(n).prefix;
     Key {
@@ -89,7 +90,7 @@ fn key_of<L: Legs>(net: &Net, legs: &L, state: State, n: u32) -> Key
 }
 
 fn is_key_before(a: Key, b: Key) -> bool
-    ensures { result ≡ lex_before (reading.key_value a) (reading.key_value b) }
+    ensures { result ≡ lex_before (reading_terms.key_value a) (reading_terms.key_value b) }
 {
     if a.position != b.position {
         return a.position < b.position;
@@ -106,9 +107,9 @@ fn is_key_before(a: Key, b: Key) -> bool
     a.room < b.room
 }
 
-/// a state comes before another
+/// A state comes before another
 fn is_before<L: Legs>(net: &Net, legs: &L, a: State, b: State) -> bool
-    requires net { reading.IsNetworkOf net.now (L.seen legs.now) }
+    requires net { reading_terms.IsNetworkOf net.now (L.seen legs.now) }
     requires first { IsState (L.seen legs.now) a }
     requires second { IsState (L.seen legs.now) b }
     ensures { result ≡ lex_before (state_key (L.seen legs.now) a) (state_key (L.seen legs.now) b) }
@@ -120,10 +121,10 @@ fn is_before<L: Legs>(net: &Net, legs: &L, a: State, b: State) -> bool
     }
 }
 
-/// a state comes after all lines
+/// A state comes after all lines
 fn is_next<L: Legs>(net: &Net, legs: &L, lines: &[PotentialLine], state: State) -> bool
-    requires net { reading.IsNetworkOf net.now (L.seen legs.now) }
-    requires lines { reading.AreStates (L.seen legs.now) lines.now }
+    requires net { reading_terms.IsNetworkOf net.now (L.seen legs.now) }
+    requires lines { reading_terms.AreStates (L.seen legs.now) lines.now }
     requires state { IsState (L.seen legs.now) state }
     ensures { result ≡ reading.is_next (L.seen legs.now) lines.now state }
 {
@@ -133,10 +134,10 @@ fn is_next<L: Legs>(net: &Net, legs: &L, lines: &[PotentialLine], state: State) 
     }
 }
 
-/// with a line before the head
+/// With a line before the head
 fn before_head(draft: Draft, line: u32, item: Item) -> Option<Draft>
-    ensures { reading.read_values result ≡ reading.before_head
-        (reading.read_value draft) line item }
+    ensures { reading_terms.read_values result ≡ reading.before_head
+        (reading_terms.read_value draft) line item }
 {
     match item {
         Item::Comment => Some(draft),
@@ -149,9 +150,9 @@ fn before_head(draft: Draft, line: u32, item: Item) -> Option<Draft>
     }
 }
 
-/// with the end
+/// With the end
 fn before_end(draft: Draft, line: u32, item: Item) -> Option<Draft>
-    ensures { reading.read_values result ≡ reading.before_end (reading.read_value draft) line item }
+    ensures { reading_terms.read_values result ≡ reading.before_end (reading_terms.read_value draft) line item }
 {
     match item {
         Item::End => Some(Draft {
@@ -164,29 +165,29 @@ fn before_end(draft: Draft, line: u32, item: Item) -> Option<Draft>
     }
 }
 
-/// with a step of the path
+/// With a step of the path
 fn with_step(mut draft: Draft, line: u32, step: PathStep) -> Result<Draft, NoMemory>
-    ensures { IfOk result (λ d. reading.read_value d
-        ≡ reading.with_step (reading.read_value draft) line step) }
+    ensures { IfOk result (λ d. reading_terms.read_value d
+        ≡ reading.with_step (reading_terms.read_value draft) line step) }
 {
     draft.path.push(PathLine { step, line })?;
     draft.stage = Progress::InPath;
     Ok(draft)
 }
 
-/// with a potential
+/// With a potential
 fn with_potential(mut draft: Draft, line: u32, potential: Potential) -> Result<Draft, NoMemory>
-    ensures { IfOk result (λ d. reading.read_value d
-        ≡ reading.with_potential (reading.read_value draft) line potential) }
+    ensures { IfOk result (λ d. reading_terms.read_value d
+        ≡ reading.with_potential (reading_terms.read_value draft) line potential) }
 {
     draft.potentials.push(PotentialLine { potential, line })?;
     Ok(draft)
 }
 
-/// with a line of the path
+/// With a line of the path
 fn in_path(draft: Draft, line: u32, item: Item) -> Result<Option<Draft>, NoMemory>
-    ensures { IfOk result (λ o. reading.read_values o
-        ≡ reading.in_path (reading.read_value draft) line item) }
+    ensures { IfOk result (λ o. reading_terms.read_values o
+        ≡ reading.in_path (reading_terms.read_value draft) line item) }
 {
     match item {
         Item::Step(step) => Ok(Some(with_step(draft, line, step)?)),
@@ -195,7 +196,7 @@ fn in_path(draft: Draft, line: u32, item: Item) -> Result<Option<Draft>, NoMemor
     }
 }
 
-/// with a line after the head
+/// With a line after the head
 fn after_head<L: Legs>(
     net: &Net,
     legs: &L,
@@ -203,11 +204,11 @@ fn after_head<L: Legs>(
     line: u32,
     item: Item,
 ) -> Result<Option<Draft>, NoMemory>
-    requires net { reading.IsNetworkOf net.now (L.seen legs.now) }
-    requires lines { reading.AreStates (L.seen legs.now) draft.potentials.items }
-    requires item { reading.IsItem (L.seen legs.now) item }
-    ensures { IfOk result (λ o. reading.read_values o
-        ≡ reading.after_head (L.seen legs.now) (reading.read_value draft) line item) }
+    requires net { reading_terms.IsNetworkOf net.now (L.seen legs.now) }
+    requires lines { reading_terms.AreStates (L.seen legs.now) draft.potentials.items }
+    requires item { reading_terms.IsItem (L.seen legs.now) item }
+    ensures { IfOk result (λ o. reading_terms.read_values o
+        ≡ reading.after_head (L.seen legs.now) (reading_terms.read_value draft) line item) }
 {
     match item {
         Item::Listed(potential) => {
@@ -227,8 +228,8 @@ fn after_head<L: Legs>(
     }
 }
 
-/// What was read with a line more; none where that may not stand there. (own rule)
-#[tactic(auto, unfolding(crate::specs::Reading::with_line))]
+/// What was read with a line more; none where that may not stand there.
+#[tactic(auto, unfolding(crate::specs::CertificateReading::with_line))]
 pub fn with_line<L: Legs>(
     net: &Net,
     legs: &L,
@@ -236,11 +237,11 @@ pub fn with_line<L: Legs>(
     line: u32,
     item: Item,
 ) -> Result<Option<Draft>, NoMemory>
-    requires net { reading.IsNetworkOf net.now (L.seen legs.now) }
-    requires lines { reading.AreStates (L.seen legs.now) draft.potentials.items }
-    requires item { reading.IsItem (L.seen legs.now) item }
-    ensures { IfOk result (λ o. reading.read_values o
-        ≡ reading.with_line (L.seen legs.now) (reading.read_value draft) line item) }
+    requires net { reading_terms.IsNetworkOf net.now (L.seen legs.now) }
+    requires lines { reading_terms.AreStates (L.seen legs.now) draft.potentials.items }
+    requires item { reading_terms.IsItem (L.seen legs.now) item }
+    ensures { IfOk result (λ o. reading_terms.read_values o
+        ≡ reading.with_line (L.seen legs.now) (reading_terms.read_value draft) line item) }
 {
     match draft.stage {
         Progress::BeforeHead => Ok(before_head(draft, line, item)),

@@ -4,12 +4,12 @@ ghost use Rattle.std.specs.Prelude.{◌≡◌, ◌≤◌, Contains};
 ghost use Rattle.list_pack.specs.Costs.{IsState};
 ghost use Rattle.list_certificate.specs.Tests as tests;
 
-use crate::good::{Spot, passes};
+use crate::certificate_types::PotentialLine;
+use crate::good::{CostedState, passes};
 use crate::search::potential_at;
-use crate::types::PotentialLine;
 use list_pack::{Legs, Shape, State, top_room};
 
-/// the shape of a state's SID; none at the start
+/// The shape of a state's SID; none at the start
 pub(crate) fn shape_of<L: Legs>(legs: &L, state: State) -> Option<Shape>
     requires { IsState (L.seen legs.now) state }
     ensures { tests.IsShapeOf (L.seen legs.now) state result }
@@ -20,48 +20,48 @@ pub(crate) fn shape_of<L: Legs>(legs: &L, state: State) -> Option<Shape>
     }
 }
 
-/// A state with its SID's shape and its potential. (own rule)
-pub fn spot_of<L: Legs>(legs: &L, lines: &[PotentialLine], state: State) -> Spot
+/// A state with its SID's shape and its potential.
+pub fn costed_state_of<L: Legs>(legs: &L, lines: &[PotentialLine], state: State) -> CostedState
     requires sorted { tests.AreSorted (L.seen legs.now) lines.now }
     requires state { IsState (L.seen legs.now) state }
-    ensures spot { tests.IsSpot (L.seen legs.now) lines.now result }
+    ensures costed_state { tests.IsCostedState (L.seen legs.now) lines.now result }
     ensures state { result.state ≡ state }
 {
-    Spot {
+    CostedState {
         state,
         from: shape_of(legs, state),
         potential: potential_at(legs, lines, state),
     }
 }
 
-/// The first line whose state does not pass, by its number. (own rule)
+/// The first line whose state does not pass, by its number.
 pub fn first_bad_line<L: Legs>(legs: &L, lines: &[PotentialLine]) -> Option<u32>
     requires { tests.AreSorted (L.seen legs.now) lines.now }
     ensures { tests.BadLine (L.seen legs.now) lines.now result }
 {
     for line in lines {
-        let spot = spot_of(legs, lines, line.potential.state);
-        if !passes(legs, lines, &spot) {
+        let costed_state = costed_state_of(legs, lines, line.potential.state);
+        if !passes(legs, lines, &costed_state) {
             return Some(line.line);
         }
     }
     None
 }
 
-/// a state is not listed and does not pass
+/// A state is not listed and does not pass
 fn fails<L: Legs>(legs: &L, lines: &[PotentialLine], state: State) -> bool
     requires sorted { tests.AreSorted (L.seen legs.now) lines.now }
     requires state { IsState (L.seen legs.now) state }
     ensures { tests.ShowsFailure (L.seen legs.now) lines.now state result }
 {
-    let spot = spot_of(legs, lines, state);
-    if spot.potential.is_some() {
+    let costed_state = costed_state_of(legs, lines, state);
+    if costed_state.potential.is_some() {
         return false;
     }
-    !passes(legs, lines, &spot)
+    !passes(legs, lines, &costed_state)
 }
 
-/// the first failing state of a SID at a position
+/// The first failing state of a SID at a position
 fn first_of_sid<L: Legs>(legs: &L, lines: &[PotentialLine], position: u32, n: u32) -> Option<State>
     requires sorted { tests.AreSorted (L.seen legs.now) lines.now }
     requires within { position ≤ (L.seen legs.now).steps }
@@ -87,7 +87,7 @@ fn first_of_sid<L: Legs>(legs: &L, lines: &[PotentialLine], position: u32, n: u3
     None
 }
 
-/// the first failing state of the SIDs at a position
+/// The first failing state of the SIDs at a position
 fn first_of_position<L: Legs>(legs: &L, lines: &[PotentialLine], position: u32) -> Option<State>
     requires sorted { tests.AreSorted (L.seen legs.now) lines.now }
     requires within { position ≤ (L.seen legs.now).steps }
@@ -102,7 +102,7 @@ fn first_of_position<L: Legs>(legs: &L, lines: &[PotentialLine], position: u32) 
     None
 }
 
-/// The first failing state: of those that are not listed the first that does not pass. (own rule)
+/// The first failing state: of those that are not listed the first that does not pass.
 pub fn first_failing<L: Legs>(legs: &L, lines: &[PotentialLine]) -> Option<State>
     requires { tests.AreSorted (L.seen legs.now) lines.now }
     ensures { tests.FirstFailure (L.seen legs.now) lines.now tests.OfAll result }

@@ -1,19 +1,19 @@
 //! Whether a state passes: along each of its edges the potential falls by at most the cost.
 
 ghost use Rattle.std.specs.Prelude.{◌≡◌, ◌≤◌, ◌&&◌, Some};
-ghost use Rattle.list_pack.specs.Value.{IsSid};
+ghost use Rattle.list_pack.specs.LegsValueTerms.{IsSid};
 ghost use Rattle.list_pack.specs.Costs.{IsState, Under, plus, bars};
 ghost use Rattle.list_pack.specs.Least.{IsGoodAt};
 ghost use Rattle.list_certificate.specs.Certs.{potential_at};
 ghost use Rattle.list_certificate.specs.Tests as tests;
 
-use crate::cells::{Cell, cell_of, potential_in};
-use crate::types::PotentialLine;
+use crate::certificate_types::PotentialLine;
+use crate::potential_cells::{Cell, cell_of, potential_in};
 use list_pack::{Cost, Leg, Legs, Shape, State, is_below, move_cost, room_behind};
 
-/// A state with its SID's shape and its potential. (own rule)
+/// A state with its SID's shape and its potential.
 #[derive(Debug, Drop)]
-pub struct Spot {
+pub struct CostedState {
     /// The state.
     pub state: State,
     /// The shape of its SID; none at the start.
@@ -22,7 +22,7 @@ pub struct Spot {
     pub potential: Option<Cost>,
 }
 
-/// a potential is there and at most the sum of two costs, as whole numbers
+/// A potential is there and at most the sum of two costs, as whole numbers
 fn is_under_sum(potential: Option<Cost>, edge: Cost, rest: Cost) -> bool
     ensures { tests.Tells (Under potential (Some (plus edge rest))) result }
 {
@@ -35,7 +35,7 @@ fn is_under_sum(potential: Option<Cost>, edge: Cost, rest: Cost) -> bool
     own < containers || (own == containers && u64::from(cost.hops) <= hops)
 }
 
-/// a potential is there and at most a cost
+/// A potential is there and at most a cost
 fn is_under(potential: Option<Cost>, cost: Cost) -> bool
     ensures { tests.Tells (Under potential (Some cost)) result }
 {
@@ -45,7 +45,7 @@ fn is_under(potential: Option<Cost>, cost: Cost) -> bool
     }
 }
 
-/// a SID may not stand directly after a state's, in its container
+/// A SID may not stand directly after a state's, in its container
 fn bars<L: Legs>(legs: &L, state: State, n: u32) -> bool
     requires state { IsState (L.seen legs.now) state }
     requires sid { IsSid (L.seen legs.now) n }
@@ -57,7 +57,7 @@ fn bars<L: Legs>(legs: &L, state: State, n: u32) -> bool
     }
 }
 
-/// a move to a SID is barred: it stays after a state's SID, and may not
+/// A move to a SID is barred: it stays after a state's SID, and may not
 pub(crate) fn is_barred<L: Legs>(legs: &L, state: State, stays: bool, n: u32) -> bool
     requires state { IsState (L.seen legs.now) state }
     requires sid { IsSid (L.seen legs.now) n }
@@ -67,55 +67,60 @@ pub(crate) fn is_barred<L: Legs>(legs: &L, state: State, stays: bool, n: u32) ->
 }
 
 /// A move by a leg passes, which stays in the container or doesn't; it is known whether its SID is
-/// barred from the container. (own rule)
+/// barred from the container.
 pub fn passes_move<L: Legs>(
     legs: &L,
     lines: &[PotentialLine],
-    spot: &Spot,
+    costed_state: &CostedState,
     next: &Cell,
     leg: Leg,
     stays: bool,
     barred: bool,
 ) -> bool
     requires sorted { tests.AreSorted (L.seen legs.now) lines.now }
-    requires spot { tests.IsSpot (L.seen legs.now) lines.now spot.now }
+    requires costed_state { tests.IsCostedState (L.seen legs.now) lines.now costed_state.now }
     requires next { tests.IsCell (L.seen legs.now) lines.now next.now }
-    requires leg { (L.seen legs.now).leg spot.now.state.position spot.now.state.via next.now.sid
+    requires leg { (L.seen legs.now).leg costed_state.now.state.position costed_state.now.state.via next.now.sid
         ≡ Some leg }
     requires end { leg.to ≡ next.now.position }
-    requires barred { barred ≡ bars (L.seen legs.now) spot.now.state.via next.now.sid }
-    ensures { tests.Tells (tests.PassesMove (L.seen legs.now) lines.now spot.now.state
+    requires barred { barred ≡ bars (L.seen legs.now) costed_state.now.state.via next.now.sid }
+    ensures { tests.Tells (tests.PassesMove (L.seen legs.now) lines.now costed_state.now.state
         (tests.move_of next.now.sid stays)) result }
 {
     legs.steps();
     if stays && barred {
         return true;
     }
-    let Some(room) = room_behind(stays, &spot.from, spot.state.room, &next.shape) else {
+    let Some(room) = room_behind(
+        stays,
+        &costed_state.from,
+        costed_state.state.room,
+        &next.shape,
+    ) else {
         return true;
     };
     match potential_in(legs, lines, next, room) {
         None => true,
-        Some(rest) => is_under_sum(spot.potential, move_cost(stays, leg.hops), rest),
+        Some(rest) => is_under_sum(costed_state.potential, move_cost(stays, leg.hops), rest),
     }
 }
 
 /// A move to the end passes, which stays in the container or doesn't; it is known whether its SID
-/// is barred from the container. (own rule)
+/// is barred from the container.
 pub fn passes_last<L: Legs>(
     legs: &L,
     lines: &[PotentialLine],
-    spot: &Spot,
+    costed_state: &CostedState,
     n: u32,
     hops: u32,
     stays: bool,
     barred: bool,
 ) -> bool
-    requires spot { tests.IsSpot (L.seen legs.now) lines.now spot.now }
-    requires finish { (L.seen legs.now).finish spot.now.state.position spot.now.state.via n
+    requires costed_state { tests.IsCostedState (L.seen legs.now) lines.now costed_state.now }
+    requires finish { (L.seen legs.now).finish costed_state.now.state.position costed_state.now.state.via n
         ≡ Some hops }
-    requires barred { barred ≡ bars (L.seen legs.now) spot.now.state.via n }
-    ensures { tests.Tells (tests.PassesLast (L.seen legs.now) lines.now spot.now.state
+    requires barred { barred ≡ bars (L.seen legs.now) costed_state.now.state.via n }
+    ensures { tests.Tells (tests.PassesLast (L.seen legs.now) lines.now costed_state.now.state
         (tests.move_of n stays)) result }
 {
     legs.steps();
@@ -123,29 +128,34 @@ pub fn passes_last<L: Legs>(
         return true;
     }
     let next = legs.shape(n);
-    if room_behind(stays, &spot.from, spot.state.room, &next).is_none() {
+    if room_behind(stays, &costed_state.from, costed_state.state.room, &next).is_none() {
         return true;
     }
-    is_under(spot.potential, move_cost(stays, hops))
+    is_under(costed_state.potential, move_cost(stays, hops))
 }
 
-/// all moves by legs to a position pass
-fn passes_legs_to<L: Legs>(legs: &L, lines: &[PotentialLine], spot: &Spot, to: u32) -> bool
+/// All moves by legs to a position pass
+fn passes_legs_to<L: Legs>(
+    legs: &L,
+    lines: &[PotentialLine],
+    costed_state: &CostedState,
+    to: u32,
+) -> bool
     requires sorted { tests.AreSorted (L.seen legs.now) lines.now }
-    requires spot { tests.IsSpot (L.seen legs.now) lines.now spot.now }
+    requires costed_state { tests.IsCostedState (L.seen legs.now) lines.now costed_state.now }
     requires within { to ≤ (L.seen legs.now).steps }
-    ensures { tests.ShowsLegsTo (L.seen legs.now) lines.now spot.now.state to result }
+    ensures { tests.ShowsLegsTo (L.seen legs.now) lines.now costed_state.now.state to result }
 {
     legs.steps();
     for n in legs.sids_at(to) {
-        if let Some(leg) = legs.leg(spot.state.position, spot.state.via, *n) {
+        if let Some(leg) = legs.leg(costed_state.state.position, costed_state.state.via, *n) {
             if leg.to == to {
                 let next = cell_of(legs, lines, to, *n);
-                let barred = bars(legs, spot.state, *n);
-                if !passes_move(legs, lines, spot, &next, leg, true, barred) {
+                let barred = bars(legs, costed_state.state, *n);
+                if !passes_move(legs, lines, costed_state, &next, leg, true, barred) {
                     return false;
                 }
-                if !passes_move(legs, lines, spot, &next, leg, false, barred) {
+                if !passes_move(legs, lines, costed_state, &next, leg, false, barred) {
                     return false;
                 }
             }
@@ -154,33 +164,33 @@ fn passes_legs_to<L: Legs>(legs: &L, lines: &[PotentialLine], spot: &Spot, to: u
     true
 }
 
-/// all moves by legs pass
-fn passes_legs<L: Legs>(legs: &L, lines: &[PotentialLine], spot: &Spot) -> bool
+/// All moves by legs pass
+fn passes_legs<L: Legs>(legs: &L, lines: &[PotentialLine], costed_state: &CostedState) -> bool
     requires sorted { tests.AreSorted (L.seen legs.now) lines.now }
-    requires spot { tests.IsSpot (L.seen legs.now) lines.now spot.now }
-    ensures { tests.ShowsLegs (L.seen legs.now) lines.now spot.now.state result }
+    requires costed_state { tests.IsCostedState (L.seen legs.now) lines.now costed_state.now }
+    ensures { tests.ShowsLegs (L.seen legs.now) lines.now costed_state.now.state result }
 {
     let steps = legs.steps();
-    for to in spot.state.position..steps + 1 {
-        if !passes_legs_to(legs, lines, spot, to) {
+    for to in costed_state.state.position..steps + 1 {
+        if !passes_legs_to(legs, lines, costed_state, to) {
             return false;
         }
     }
     true
 }
 
-/// all moves to the end pass
-fn passes_ends<L: Legs>(legs: &L, lines: &[PotentialLine], spot: &Spot) -> bool
-    requires spot { tests.IsSpot (L.seen legs.now) lines.now spot.now }
-    ensures { tests.ShowsEnds (L.seen legs.now) lines.now spot.now.state result }
+/// All moves to the end pass
+fn passes_ends<L: Legs>(legs: &L, lines: &[PotentialLine], costed_state: &CostedState) -> bool
+    requires costed_state { tests.IsCostedState (L.seen legs.now) lines.now costed_state.now }
+    ensures { tests.ShowsEnds (L.seen legs.now) lines.now costed_state.now.state result }
 {
     for n in legs.sids_at(legs.steps()) {
-        if let Some(hops) = legs.finish(spot.state.position, spot.state.via, *n) {
-            let barred = bars(legs, spot.state, *n);
-            if !passes_last(legs, lines, spot, *n, hops, true, barred) {
+        if let Some(hops) = legs.finish(costed_state.state.position, costed_state.state.via, *n) {
+            let barred = bars(legs, costed_state.state, *n);
+            if !passes_last(legs, lines, costed_state, *n, hops, true, barred) {
                 return false;
             }
-            if !passes_last(legs, lines, spot, *n, hops, false, barred) {
+            if !passes_last(legs, lines, costed_state, *n, hops, false, barred) {
                 return false;
             }
         }
@@ -189,16 +199,16 @@ fn passes_ends<L: Legs>(legs: &L, lines: &[PotentialLine], spot: &Spot) -> bool
 }
 
 /// Whether a state passes: along each edge to a listed state, and along each to the end, its
-/// potential is there and falls by at most the cost. (own rule)
-pub fn passes<L: Legs>(legs: &L, lines: &[PotentialLine], spot: &Spot) -> bool
+/// potential is there and falls by at most the cost.
+pub fn passes<L: Legs>(legs: &L, lines: &[PotentialLine], costed_state: &CostedState) -> bool
     requires sorted { tests.AreSorted (L.seen legs.now) lines.now }
-    requires spot { tests.IsSpot (L.seen legs.now) lines.now spot.now }
-    ensures { tests.Tells (IsGoodAt (L.seen legs.now) (potential_at lines.now) spot.now.state)
+    requires costed_state { tests.IsCostedState (L.seen legs.now) lines.now costed_state.now }
+    ensures { tests.Tells (IsGoodAt (L.seen legs.now) (potential_at lines.now) costed_state.now.state)
         result }
 {
     legs.steps();
-    if !passes_legs(legs, lines, spot) {
+    if !passes_legs(legs, lines, costed_state) {
         return false;
     }
-    passes_ends(legs, lines, spot)
+    passes_ends(legs, lines, costed_state)
 }

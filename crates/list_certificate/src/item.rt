@@ -2,18 +2,19 @@
 
 ghost use Rattle.std.specs.Prelude.{◌≡◌, ◌≤◌, ◌<◌, length, slice_index, ◌==◌, find, Some, IfSome, bytes_eq};
 ghost use Rattle.v6_addr.specs.Text.{prefix_of_text};
-ghost use Rattle.list_pack.specs.Value.{IsSid};
+ghost use Rattle.list_pack.specs.LegsValueTerms.{IsSid};
 ghost use Rattle.list_pack.specs.Costs.{IsState};
 ghost use Rattle.list_certificate.specs.Spelling.{is_shared};
-ghost use Rattle.list_certificate.specs.Reading as reading;
+ghost use Rattle.list_certificate.specs.CertificateReading as reading;
+ghost use Rattle.list_certificate.specs.CertificateReadingTerms as reading_terms;
 
+use crate::line_words::{Row, cut, row_of};
 use crate::spelling::{is_same_prefix, is_shared};
-use crate::words::{Row, cut, row_of};
 use list_pack::{Legs, PathStep, Potential, State, top_room};
 use net_model::Net;
 use v6_addr::{Prefix, parse_prefix};
 
-/// A line of a certificate. (own rule)
+/// A line of a certificate.
 #[derive(Clone, Copy, Debug)]
 pub enum Item {
     /// It begins with `#`.
@@ -47,7 +48,7 @@ fn prefix_of(text: &[u8]) -> Option<Prefix>
     }
 }
 
-/// a middle SID has a prefix
+/// A middle SID has a prefix
 fn is_unnamed<L: Legs>(legs: &L, prefix: &Prefix, n: u32) -> bool
     requires { IsSid (L.seen legs.now) n }
     ensures { result ≡ reading.is_unnamed (L.seen legs.now) prefix.now n }
@@ -56,7 +57,7 @@ fn is_unnamed<L: Legs>(legs: &L, prefix: &Prefix, n: u32) -> bool
     is_same_prefix(&shape.prefix, prefix) && shape.middle
 }
 
-/// a SID's node has a name
+/// A SID's node has a name
 fn has_name(net: &Net, name: &[u8], n: u32) -> bool
     requires { n < length net.now.sids }
     ensures { result ≡ reading.has_name net.now name.now n }
@@ -66,7 +67,7 @@ fn has_name(net: &Net, name: &[u8], n: u32) -> bool
     is_word(net.node(sid.node).name.as_bytes(), name)
 }
 
-/// the middle SID of a position with a prefix
+/// The middle SID of a position with a prefix
 fn unnamed_sid<L: Legs>(legs: &L, position: u32, prefix: &Prefix) -> Option<u32>
     requires { position ≤ (L.seen legs.now).steps }
     ensures { result ≡ find (reading.is_unnamed (L.seen legs.now) prefix.now)
@@ -80,7 +81,7 @@ fn unnamed_sid<L: Legs>(legs: &L, position: u32, prefix: &Prefix) -> Option<u32>
     None
 }
 
-/// the middle SID of a position with a prefix, at the node with a name
+/// The middle SID of a position with a prefix, at the node with a name
 fn named_sid<L: Legs>(
     net: &Net,
     legs: &L,
@@ -88,7 +89,7 @@ fn named_sid<L: Legs>(
     prefix: &Prefix,
     name: &[u8],
 ) -> Option<u32>
-    requires net { reading.IsNetworkOf net.now (L.seen legs.now) }
+    requires net { reading_terms.IsNetworkOf net.now (L.seen legs.now) }
     requires within { position ≤ (L.seen legs.now).steps }
     ensures { result ≡ find (reading.is_named net.now (L.seen legs.now) prefix.now name.now)
         ((L.seen legs.now).sids_at position) }
@@ -101,10 +102,10 @@ fn named_sid<L: Legs>(
     None
 }
 
-/// the SID of a position that a text names
-#[tactic(auto, unfolding(crate::specs::Reading::sid_in))]
+/// The SID of a position that a text names
+#[tactic(auto, unfolding(crate::specs::CertificateReading::sid_in))]
 fn sid_of<L: Legs>(net: &Net, legs: &L, position: u32, text: &[u8]) -> Option<u32>
-    requires net { reading.IsNetworkOf net.now (L.seen legs.now) }
+    requires net { reading_terms.IsNetworkOf net.now (L.seen legs.now) }
     requires within { position ≤ (L.seen legs.now).steps }
     ensures { result ≡ reading.sid_in net.now (L.seen legs.now) position text.now }
 {
@@ -128,11 +129,11 @@ fn sid_of<L: Legs>(net: &Net, legs: &L, position: u32, text: &[u8]) -> Option<u3
     }
 }
 
-/// the state of a row that is not the start
+/// The state of a row that is not the start
 fn placed_of<L: Legs>(net: &Net, legs: &L, row: &Row<'_>) -> Option<State>
-    requires net { reading.IsNetworkOf net.now (L.seen legs.now) }
+    requires net { reading_terms.IsNetworkOf net.now (L.seen legs.now) }
     ensures value { result ≡ reading.placed_state net.now (L.seen legs.now)
-        (reading.row_value row.now) }
+        (reading_terms.row_value row.now) }
     ensures state { IfSome result (IsState (L.seen legs.now)) }
 {
     if row.position > legs.steps() {
@@ -150,12 +151,12 @@ fn placed_of<L: Legs>(net: &Net, legs: &L, row: &Row<'_>) -> Option<State>
     })
 }
 
-/// the state of a row
-#[tactic(auto, unfolding(crate::specs::Reading::state_in))]
+/// The state of a row
+#[tactic(auto, unfolding(crate::specs::CertificateReading::state_in))]
 fn state_of<L: Legs>(net: &Net, legs: &L, row: &Row<'_>) -> Option<State>
-    requires net { reading.IsNetworkOf net.now (L.seen legs.now) }
+    requires net { reading_terms.IsNetworkOf net.now (L.seen legs.now) }
     ensures value { result ≡ reading.state_in net.now (L.seen legs.now)
-        (reading.row_value row.now) }
+        (reading_terms.row_value row.now) }
     ensures state { IfSome result (IsState (L.seen legs.now)) }
 {
     if !is_word(row.sid, b"-") {
@@ -172,9 +173,9 @@ fn state_of<L: Legs>(net: &Net, legs: &L, row: &Row<'_>) -> Option<State>
     }
 }
 
-#[tactic(auto, unfolding(crate::specs::Reading::potential_in))]
+#[tactic(auto, unfolding(crate::specs::CertificateReading::potential_in))]
 fn potential_of<L: Legs>(net: &Net, legs: &L, text: &[u8]) -> Option<Potential>
-    requires net { reading.IsNetworkOf net.now (L.seen legs.now) }
+    requires net { reading_terms.IsNetworkOf net.now (L.seen legs.now) }
     ensures value { result ≡ reading.potential_in net.now (L.seen legs.now) text.now }
     ensures state { IfSome result (λ q. IsState (L.seen legs.now) q.state) }
 {
@@ -186,7 +187,7 @@ fn potential_of<L: Legs>(net: &Net, legs: &L, text: &[u8]) -> Option<Potential>
     })
 }
 
-#[tactic(auto, unfolding(crate::specs::Reading::step_in))]
+#[tactic(auto, unfolding(crate::specs::CertificateReading::step_in))]
 fn step_of(text: &[u8]) -> Option<PathStep>
     ensures { result ≡ reading.step_in text.now }
 {
@@ -207,12 +208,12 @@ fn step_of(text: &[u8]) -> Option<PathStep>
     None
 }
 
-/// a line of more than one word, but for the head
+/// A line of more than one word, but for the head
 fn item_by<L: Legs>(net: &Net, legs: &L, line: &[u8]) -> Item
-    requires { reading.IsNetworkOf net.now (L.seen legs.now) }
+    requires { reading_terms.IsNetworkOf net.now (L.seen legs.now) }
     ensures value { result ≡ reading.item_by net.now (L.seen legs.now)
         (reading.cut_at 32 line.now) }
-    ensures state { reading.IsItem (L.seen legs.now) result }
+    ensures state { reading_terms.IsItem (L.seen legs.now) result }
 {
     let Some(parts) = cut(line, b' ') else {
         return Item::Other;
@@ -241,12 +242,12 @@ fn is_comment(line: &[u8]) -> bool
     }
 }
 
-/// What a line says. (own rule)
-#[tactic(auto, unfolding(crate::specs::Reading::item_in))]
+/// What a line says.
+#[tactic(auto, unfolding(crate::specs::CertificateReading::item_in))]
 pub fn item_of<L: Legs>(net: &Net, legs: &L, line: &[u8]) -> Item
-    requires { reading.IsNetworkOf net.now (L.seen legs.now) }
+    requires { reading_terms.IsNetworkOf net.now (L.seen legs.now) }
     ensures value { result ≡ reading.item_in net.now (L.seen legs.now) line.now }
-    ensures state { reading.IsItem (L.seen legs.now) result }
+    ensures state { reading_terms.IsItem (L.seen legs.now) result }
 {
     if is_comment(line) {
         return Item::Comment;

@@ -8,31 +8,31 @@
 //! a solution, and `read` reads a text for the legs of a network.
 //!
 //! `specs/Certs.antt` has what lines say of states, `specs/Verdicts.antt` the tests and verdicts in
-//! their order, `specs/Laws.antt` what a verdict shows, `specs/Spelling.antt` the text of a
-//! solution, and `specs/Reading.antt` what a text says, line by line. The functions of `laws` do
+//! their order, `specs/CertificateLaws.antt` what a verdict shows, `specs/Spelling.antt` the text of a
+//! solution, and `specs/CertificateReading.antt` what a text says, line by line. The functions of `laws` do
 //! nothing: their contracts are the laws of verdicts, and that what is printed is read back.
 #![tactic(auto)]
 
 mod all_pass;
-mod cells;
+mod certificate_judge;
+mod certificate_types;
 mod draft;
 mod firsts;
 mod good;
 mod item;
-mod judge;
 mod laws;
-mod path;
+mod line_words;
+mod path_lines;
+mod potential_cells;
 mod reader;
 mod search;
 mod spelling;
-mod types;
-mod words;
 
-pub use judge::check;
+pub use certificate_judge::check;
+pub use certificate_types::{Cert, CertFault, PathLine, PotentialLine, Verdict, Why};
 pub use laws::{
     a_certificate_has_one_verdict, a_certificate_that_is_least_is_least, a_solution_is_good,
     what_is_printed_is_read_back,
 };
 pub use reader::read;
 pub use spelling::{append_state, print};
-pub use types::{Cert, CertFault, PathLine, PotentialLine, Verdict, Why};

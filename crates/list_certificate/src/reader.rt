@@ -1,22 +1,23 @@
 //! The reading of a certificate.
 
 ghost use Rattle.std.specs.Prelude.{◌≤◌, length, IfOk};
-ghost use Rattle.list_certificate.specs.Certs.{IsCert};
-ghost use Rattle.list_certificate.specs.Reading as reading;
+ghost use Rattle.list_certificate.specs.CertsTerms.{IsCert};
+ghost use Rattle.list_certificate.specs.CertificateReading as reading;
+ghost use Rattle.list_certificate.specs.CertificateReadingTerms as reading_terms;
 
+use crate::certificate_types::{Cert, CertFault};
 use crate::draft::{Draft, Progress, with_line};
 use crate::item::item_of;
-use crate::types::{Cert, CertFault};
-use crate::words::cut;
+use crate::line_words::cut;
 use base::Seq;
 use list_pack::Legs;
 use net_model::{MAX_TEXT_BYTES, Net};
 use std::alloc::Global;
 
-/// the certificate of what was read, where nothing follows its end
+/// The certificate of what was read, where nothing follows its end
 fn finished(draft: Draft, line: u32, last: &[u8]) -> Result<Cert, CertFault>
-    ensures { reading.GivesCertificate result (reading.ended
-        (reading.read_value draft) line last.now) }
+    ensures { reading_terms.GivesCertificate result (reading.ended
+        (reading_terms.read_value draft) line last.now) }
 {
     match draft.stage {
         Progress::AtEnd if last.is_empty() => Ok(Cert {
@@ -40,11 +41,11 @@ fn finished(draft: Draft, line: u32, last: &[u8]) -> Result<Cert, CertFault>
 /// its prefix, and where another SID of the network has that prefix too, by `@` and the name of its
 /// node after it. `BadCert` has the first line that is outside the grammar or names no state of
 /// the legs, counted from 1; where there is none and the text ends too early, the line after the
-/// last. `NoMemory` says nothing about the text. (own rule)
+/// last. `NoMemory` says nothing about the text.
 pub fn read<L: Legs>(alloc: Global, net: &Net, legs: &L, text: &[u8]) -> Result<Cert, CertFault>
-    requires net { reading.IsNetworkOf net.now (L.seen legs.now) }
+    requires net { reading_terms.IsNetworkOf net.now (L.seen legs.now) }
     requires few { length text.now ≤ MAX_TEXT_BYTES }
-    ensures value { reading.GivesCertificate result
+    ensures value { reading_terms.GivesCertificate result
         (reading.read_of net.now (L.seen legs.now) text.now) }
     ensures cert { IfOk result (IsCert (L.seen legs.now)) }
 {

@@ -1,15 +1,15 @@
 //! The potential of a state, by halves.
 
 ghost use Rattle.std.specs.Prelude.{◌≡◌, ◌≤◌, ◌∷◌, [], length};
-ghost use Rattle.list_pack.specs.Order.{lex_before};
+ghost use Rattle.list_pack.specs.ListOrder.{lex_before};
 ghost use Rattle.list_pack.specs.Costs.{IsState};
 ghost use Rattle.list_certificate.specs.Certs.{same_via, same_state, potential_at};
 ghost use Rattle.list_certificate.specs.Tests.{AreSorted, place_key, key_of, Splits};
 
-use crate::types::PotentialLine;
+use crate::certificate_types::PotentialLine;
 use list_pack::{Cost, Legs, Shape, State};
 
-/// What the order of states goes by first: the position and the prefix of the SID. (own rule)
+/// What the order of states goes by first: the position and the prefix of the SID.
 #[derive(Clone, Copy, Debug)]
 pub struct StateKey {
     /// How many steps of the intent are done.
@@ -20,7 +20,7 @@ pub struct StateKey {
     pub len: u8,
 }
 
-/// The place of the states of a SID at a position. (own rule)
+/// The place of the states of a SID at a position.
 pub fn place_at(position: u32, shape: &Shape) -> Option<StateKey>
     ensures { key_of result ≡ position ∷ shape.now.prefix.value ∷ shape.now.prefix.len ∷ [] }
 {
@@ -31,7 +31,7 @@ pub fn place_at(position: u32, shape: &Shape) -> Option<StateKey>
     })
 }
 
-/// the place of a state; none at the start
+/// The place of a state; none at the start
 fn place_of<L: Legs>(legs: &L, state: State) -> Option<StateKey>
     requires { IsState (L.seen legs.now) state }
     ensures { key_of result ≡ place_key (L.seen legs.now) state }
@@ -45,7 +45,7 @@ fn place_of<L: Legs>(legs: &L, state: State) -> Option<StateKey>
     }
 }
 
-/// a place comes before another; that of the start comes before all others
+/// A place comes before another; that of the start comes before all others
 fn is_before(a: Option<StateKey>, b: Option<StateKey>) -> bool
     ensures { result ≡ lex_before (key_of a) (key_of b) }
 {
@@ -64,7 +64,7 @@ fn is_before(a: Option<StateKey>, b: Option<StateKey>) -> bool
     }
 }
 
-/// How many lines stand before a place. (own rule)
+/// How many lines stand before a place.
 pub fn first_at<L: Legs>(legs: &L, lines: &[PotentialLine], place: Option<StateKey>) -> usize
     requires { AreSorted (L.seen legs.now) lines.now }
     ensures splits { Splits (L.seen legs.now) lines.now (key_of place) result result }
@@ -83,7 +83,7 @@ pub fn first_at<L: Legs>(legs: &L, lines: &[PotentialLine], place: Option<StateK
     low
 }
 
-/// two SIDs are one, or none is there
+/// Two SIDs are one, or none is there
 fn is_same_via(a: Option<u32>, b: Option<u32>) -> bool
     ensures { result ≡ same_via a b }
 {
@@ -94,14 +94,14 @@ fn is_same_via(a: Option<u32>, b: Option<u32>) -> bool
     }
 }
 
-/// two states are one
+/// Two states are one
 fn is_same(a: State, b: State) -> bool
     ensures { result ≡ same_state a b }
 {
     a.position == b.position && (is_same_via(a.via, b.via) && a.room == b.room)
 }
 
-/// The potential of a state by the lines from the first of its place on. (own rule)
+/// The potential of a state by the lines from the first of its place on.
 pub fn potential_from<L: Legs>(
     legs: &L,
     lines: &[PotentialLine],
@@ -131,7 +131,7 @@ pub fn potential_from<L: Legs>(
     None
 }
 
-/// The potential of a state by the line that lists it; none where it is not listed. (own rule)
+/// The potential of a state by the line that lists it; none where it is not listed.
 pub fn potential_at<L: Legs>(legs: &L, lines: &[PotentialLine], state: State) -> Option<Cost>
     requires sorted { AreSorted (L.seen legs.now) lines.now }
     requires state { IsState (L.seen legs.now) state }

@@ -1,9 +1,10 @@
 //! The text of a certificate.
 
 ghost use Rattle.std.specs.Prelude.{◌≡◌, ◌++◌, ◌<◌, length, flat_map, All, OnOk, OnErr, IfOk, string_bytes};
-ghost use Rattle.net_model.specs.Rules.{same_prefix};
+ghost use Rattle.net_model.specs.NetworkRules.{same_prefix};
 ghost use Rattle.list_pack.specs.declared.types.Potential.{Potential};
-ghost use Rattle.list_certificate.specs.Spelling.{is_shared, sid_text, state_text, potential_text, potential_of_text, placed_text, start_text, step_text, way_text, head_text, end_text, none_text, spelled, IsKnown};
+ghost use Rattle.list_certificate.specs.Spelling.{is_shared, sid_text, state_text, potential_text, potential_of_text, placed_text, start_text, step_text, way_text, head_text, end_text, none_text, spelled};
+ghost use Rattle.list_certificate.specs.SpellingTerms.{IsKnown};
 
 use base::NoMemory;
 use list_pack::{Cost, PathStep, Potential, Solution, State};
@@ -11,14 +12,14 @@ use net_model::Net;
 use std::alloc::{AllocError, Global};
 use v6_addr::Prefix;
 
-/// two prefixes are one
+/// Two prefixes are one
 pub(crate) fn is_same_prefix(a: &Prefix, b: &Prefix) -> bool
     ensures { result ≡ same_prefix a.now b.now }
 {
     a.value().value == b.value().value && a.len() == b.len()
 }
 
-/// two SIDs of the network or more have the prefix
+/// Two SIDs of the network or more have the prefix
 pub(crate) fn is_shared(net: &Net, prefix: &Prefix) -> bool
     ensures { result ≡ is_shared net.now prefix.now }
 {
@@ -31,7 +32,7 @@ pub(crate) fn is_shared(net: &Net, prefix: &Prefix) -> bool
     count > 1
 }
 
-/// the text of a SID is put after the others
+/// The text of a SID is put after the others
 fn append_sid(net: &Net, n: u32, out: &mut String) -> Result<(), AllocError>
     requires { n < length net.now.sids }
     ensures { OnOk result (string_bytes out.new ≡ string_bytes out.old ++ sid_text net.now n) }
@@ -54,7 +55,7 @@ fn append_start(out: &mut String) -> Result<(), AllocError>
     write!(out, "0 - 0")
 }
 
-/// the text of a state at a SID
+/// The text of a state at a SID
 #[tactic(auto, unfolding(crate::specs::Spelling::placed_text))]
 fn append_placed(
     net: &Net,
@@ -74,7 +75,7 @@ fn append_placed(
 
 /// Appends the text of a state: its position, its SID and its room, or `0 - 0` for the start. A SID
 /// is written by its prefix, and where another SID of the network has that prefix too, by `@` and
-/// the name of its node after it. Only want of memory is an error. (own rule)
+/// the name of its node after it. Only want of memory is an error.
 pub fn append_state(net: &Net, state: State, out: &mut String) -> Result<(), AllocError>
     requires { IsKnown net.now state }
     ensures { OnOk result (string_bytes out.new
@@ -86,7 +87,7 @@ pub fn append_state(net: &Net, state: State, out: &mut String) -> Result<(), All
     }
 }
 
-/// the line of a potential
+/// The line of a potential
 #[tactic(auto, unfolding(crate::specs::Spelling::potential_of_text))]
 fn append_potential(net: &Net, state: State, cost: Cost, out: &mut String) -> Result<(), AllocError>
     requires { IsKnown net.now state }
@@ -100,7 +101,7 @@ fn append_potential(net: &Net, state: State, cost: Cost, out: &mut String) -> Re
     writeln!(out, " {containers} {hops}")
 }
 
-/// the lines of potentials
+/// The lines of potentials
 fn append_potentials(
     net: &Net,
     potentials: &[Potential],
@@ -116,7 +117,7 @@ fn append_potentials(
     Ok(())
 }
 
-/// the line of a step of the path
+/// The line of a step of the path
 #[tactic(auto, unfolding(crate::specs::Spelling::stay_text, crate::specs::Spelling::new_text))]
 fn append_step(step: &PathStep, out: &mut String) -> Result<(), AllocError>
     ensures { OnOk result (string_bytes out.new ≡ string_bytes out.old ++ step_text step.now) }
@@ -146,7 +147,7 @@ fn append_steps(path: &[PathStep], out: &mut String) -> Result<(), AllocError>
     Ok(())
 }
 
-/// the lines of the path, or the one that says that there is none
+/// The lines of the path, or the one that says that there is none
 fn append_way(path: &[PathStep], out: &mut String) -> Result<(), AllocError>
     ensures { OnOk result (string_bytes out.new ≡ string_bytes out.old ++ way_text path.now) }
 {
@@ -171,7 +172,7 @@ fn append_end(out: &mut String) -> Result<(), AllocError>
     writeln!(out, "end")
 }
 
-/// the text of a solution's certificate
+/// The text of a solution's certificate
 fn text_of(alloc: Global, net: &Net, solution: &Solution) -> Result<String, AllocError>
     requires { All (λ (q : Potential). IsKnown net.now q.state) solution.now.potentials }
     ensures { IfOk result (λ text. string_bytes text ≡ spelled net.now solution.now) }
@@ -187,7 +188,7 @@ fn text_of(alloc: Global, net: &Net, solution: &Solution) -> Result<String, Allo
 /// Appends the text of a solution's certificate: the head `srv6 certificate 1`, a line
 /// `potential POSITION PREFIX ROOM CONTAINERS HOPS` for each potential, lines `path new PREFIX` and
 /// `path stay PREFIX` for the path or the line `none`, and `end`. `NoMemory` leaves the bytes as
-/// they were. (own rule)
+/// they were.
 pub fn print(
     alloc: Global,
     net: &Net,

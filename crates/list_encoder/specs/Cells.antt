@@ -1,9 +1,10 @@
--- Cells: the start, and the SIDs of all positions (own rule).
+-- Need not be believed: helps proofs and other laws.
+-- Cells: the start, and the SIDs of all positions.
 use Rattle.std.specs.Prelude.{◌≡◌, ℕ, ◌<◌, ◌≤◌, List, length, slice_get, Option, Some, None, Contains}
 use Rattle.list_encoder.specs.declared.cells.Cell.{Cell}
 use Rattle.list_encoder.specs.declared.cells.TheConstants.{MAX_CELLS}
 use Rattle.list_pack.specs.declared.types.State.{State}
-use Rattle.list_pack.specs.Value.{LegsValue}
+use Rattle.list_pack.specs.LegsValue.{LegsValue}
 use Rattle.list_pack.specs.Rooms.{top_room}
 use Rattle.list_pack.specs.Least.{IsBefore}
 

@@ -1,7 +1,8 @@
--- The edges within a position by the cell that they lead to (own rule).
+-- Need not be believed: helps proofs and other laws.
+-- The edges within a position by the cell that they lead to.
 use Rattle.std.specs.Prelude.{◌≡◌, ℕ, ◌<◌, ◌⊎◌, List, length, slice_get, Some, Contains, Vec}
 use Rattle.std.specs.Global.{Global}
-use Rattle.list_encoder.specs.declared.table.CellEdge.{CellEdge}
+use Rattle.list_encoder.specs.declared.cell_table.CellEdge.{CellEdge}
 
 abbrev pub Groups : Type 0
 Groups = List (Vec CellEdge Global)

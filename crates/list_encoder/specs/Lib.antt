@@ -1,5 +1,5 @@
 pub mod Cells
-pub mod Table
+pub mod CellTable
 pub mod Waiting
 pub mod Offers
 pub mod Grouped

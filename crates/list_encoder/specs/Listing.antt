@@ -1,13 +1,14 @@
--- The listing of a table's costs, up to a place of the table (own rule).
+-- Need not be believed: helps proofs and other laws.
+-- The listing of a table's costs, up to a place of the table.
 use Rattle.std.specs.Prelude.{◌≡◌, ℕ, ◌+◌, ◌*◌, ◌<◌, ◌≤◌, List, slice_get, Some, All, Contains, AllPairs}
 use Rattle.list_pack.specs.declared.types.Cost.{Cost}
 use Rattle.list_pack.specs.declared.types.Potential.{Potential}
-use Rattle.list_pack.specs.Value.{LegsValue}
+use Rattle.list_pack.specs.LegsValue.{LegsValue}
 use Rattle.list_pack.specs.Least.{IsBefore}
 use Rattle.list_encoder.specs.declared.cells.Cell.{Cell}
-use Rattle.list_encoder.specs.declared.table.TheConstants.{MAX_PATH_CONTAINERS}
+use Rattle.list_encoder.specs.declared.cell_table.TheConstants.{MAX_PATH_CONTAINERS}
 use Rattle.list_encoder.specs.Cells.{state_at, top_at}
-use Rattle.list_encoder.specs.Table.{Costs, entry}
+use Rattle.list_encoder.specs.CellTable.{Costs, entry}
 
 -- a potential is that of a place before another
 pub record IsOfPlace (v : LegsValue) (cells : List Cell) (t : Costs) (n : ℕ) (q : Potential) : Type 0 where

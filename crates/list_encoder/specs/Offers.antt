@@ -1,14 +1,15 @@
--- What a settled state offers to those in front of it (own rule).
+-- Need not be believed: helps proofs and other laws.
+-- What a settled state offers to those in front of it.
 use Rattle.std.specs.Prelude.{◌≡◌, ℕ, ◌+◌, ◌*◌, ◌<◌, ◌≤◌, Bool, true, false, List, length, slice_get, Option, Some, None, Contains}
 use Rattle.std.specs.BTreeSet.{BTreeSet}
 use Rattle.list_pack.specs.declared.types.Cost.{Cost}
-use Rattle.list_pack.specs.Value.{LegsValue}
+use Rattle.list_pack.specs.LegsValue.{LegsValue}
 use Rattle.list_pack.specs.Costs.{plus, move_cost, room_to, Under}
 use Rattle.list_encoder.specs.declared.cells.Cell.{Cell}
-use Rattle.list_encoder.specs.declared.table.CellEdge.{CellEdge}
+use Rattle.list_encoder.specs.declared.cell_table.CellEdge.{CellEdge}
 use Rattle.list_encoder.specs.declared.waiting.Waiting.{Waiting}
 use Rattle.list_encoder.specs.declared.offers.Offer.{Offer}
-use Rattle.list_encoder.specs.Table.{Costs, at, entry, rest_at, IsCellEdge, move_by, IsSound}
+use Rattle.list_encoder.specs.CellTable.{Costs, at, entry, rest_at, IsCellEdge, move_by, IsSound}
 use Rattle.list_encoder.specs.Waiting.{is_done, IsFront}
 
 -- the state that an edge leads to, with so much room, is settled; the end always is

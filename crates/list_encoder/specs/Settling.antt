@@ -1,13 +1,14 @@
--- The states that wait are settled, from the least cost up (own rule).
+-- Need not be believed: helps proofs and other laws.
+-- The states that wait are settled, from the least cost up.
 use Rattle.std.specs.Prelude.{◌≡◌, ℕ, ◌+◌, ◌*◌, ◌<◌, ◌≤◌, Bool, true, List, length, slice_get, Some}
 use Rattle.std.specs.BTreeSet.{BTreeSet}
 use Rattle.list_pack.specs.declared.types.Cost.{Cost}
-use Rattle.list_pack.specs.Value.{LegsValue}
+use Rattle.list_pack.specs.LegsValue.{LegsValue}
 use Rattle.list_pack.specs.Costs.{room_to, Under}
 use Rattle.list_encoder.specs.declared.cells.Cell.{Cell}
-use Rattle.list_encoder.specs.declared.table.CellEdge.{CellEdge}
+use Rattle.list_encoder.specs.declared.cell_table.CellEdge.{CellEdge}
 use Rattle.list_encoder.specs.declared.waiting.Waiting.{Waiting}
-use Rattle.list_encoder.specs.Table.{Costs, at, entry, offer, IsCellEdge, move_by, IsSound, Holds}
+use Rattle.list_encoder.specs.CellTable.{Costs, at, entry, offer, IsCellEdge, move_by, IsSound, Holds}
 use Rattle.list_encoder.specs.Waiting.{is_done, IsFront}
 use Rattle.list_encoder.specs.Grouped.{Groups, IsIn}
 

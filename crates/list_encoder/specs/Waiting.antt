@@ -1,4 +1,5 @@
--- The states that wait, by cost, and those that are settled (own rule).
+-- Need not be believed: helps proofs and other laws.
+-- The states that wait, by cost, and those that are settled.
 use Rattle.std.specs.Prelude.{◌≡◌, ℕ, ◌<◌, Bool, true, false, List, length, slice_index_or, slice_set, Some, IsTrue}
 use Rattle.std.specs.declared.cmp.Ordering.{Ordering}
 use Rattle.std.specs.Ordering.{nat_cmp, ordering_then}
@@ -7,7 +8,7 @@ use Rattle.std.specs.BTreeSet as set
 use Rattle.list_pack.specs.declared.types.Cost.{Cost}
 use Rattle.list_pack.specs.Costs.{AtMost, Under}
 use Rattle.list_encoder.specs.declared.waiting.Waiting.{Waiting}
-use Rattle.list_encoder.specs.Table.{Costs, at, Lowers}
+use Rattle.list_encoder.specs.CellTable.{Costs, at, Lowers}
 
 -- by containers, then by hops, then by place
 abbrev pub waiting_cmp : Waiting → Waiting → Ordering

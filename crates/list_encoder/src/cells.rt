@@ -2,7 +2,7 @@
 
 ghost use Rattle.std.specs.Prelude.{◌≡◌, ◌+◌, ◌++◌, ◌≤◌, ◌&&◌, map, Some, OnOk, IfOk};
 ghost use Rattle.std.specs.Option.{option_map};
-ghost use Rattle.list_pack.specs.Value.{IsSid};
+ghost use Rattle.list_pack.specs.LegsValueTerms.{IsSid};
 ghost use Rattle.list_pack.specs.Costs.{bars};
 ghost use Rattle.list_encoder.specs.Cells.{AreCells, IsFirst, IsCell, cell_at, top_at};
 
@@ -10,11 +10,10 @@ use base::NoMemory;
 use list_pack::{Legs, Shape, top_room};
 use std::alloc::Global;
 
-/// The most cells that there are: the start's, and those of 128 SIDs at each of 49 positions. (own
-/// rule)
+/// The most cells that there are: the start's, and those of 128 SIDs at each of 49 positions.
 pub const MAX_CELLS: u32 = 6_273;
 
-/// The states of one SID at one position, or the start's. (own rule)
+/// The states of one SID at one position, or the start's.
 #[derive(Clone, Copy, Debug, PartialEq, Eq)]
 pub struct Cell {
     /// How many steps of the intent are done.
@@ -23,7 +22,7 @@ pub struct Cell {
     pub via: Option<u32>,
 }
 
-/// the cells of a position are put after the others
+/// The cells of a position are put after the others
 fn add_cells(cells: &mut Vec<Cell>, position: u32, sids: &[u32]) -> Result<(), NoMemory>
     ensures { OnOk result (cells.new.items ≡ cells.old.items ++ map (cell_at position) sids.now) }
 {
@@ -36,8 +35,7 @@ fn add_cells(cells: &mut Vec<Cell>, position: u32, sids: &[u32]) -> Result<(), N
     Ok(())
 }
 
-/// The start's cell, and then a cell for each SID of each position, in the order of states. (own
-/// rule)
+/// The start's cell, and then a cell for each SID of each position, in the order of states.
 pub fn cells_of<L: Legs>(alloc: Global, legs: &L) -> Result<Vec<Cell>, NoMemory>
     ensures { IfOk result (λ cells. AreCells (L.seen legs.now) cells.items) }
 {
@@ -54,7 +52,6 @@ pub fn cells_of<L: Legs>(alloc: Global, legs: &L) -> Result<Vec<Cell>, NoMemory>
 }
 
 /// The place of the first cell of a position or of a later one; their number where there is none.
-/// (own rule)
 pub fn first_of<L: Legs>(legs: &L, cells: &[Cell], position: u32) -> usize
     requires { AreCells (L.seen legs.now) cells.now }
     ensures { IsFirst cells.now position result }
@@ -68,7 +65,7 @@ pub fn first_of<L: Legs>(legs: &L, cells: &[Cell], position: u32) -> usize
     cells.len()
 }
 
-/// The shape of a cell's SID; none at the start. (own rule)
+/// The shape of a cell's SID; none at the start.
 pub fn shape_of<L: Legs>(legs: &L, cell: Cell) -> Option<Shape>
     requires { IsCell (L.seen legs.now) cell }
     ensures { result ≡ option_map (L.seen legs.now).shape cell.via }
@@ -80,7 +77,7 @@ pub fn shape_of<L: Legs>(legs: &L, cell: Cell) -> Option<Shape>
 }
 
 /// Whether a move is barred: it would stay in the container of a cell's SID, directly after which
-/// its own may not stand there. (own rule)
+/// its own may not stand there.
 pub fn is_barred<L: Legs>(legs: &L, cell: Cell, stays: bool, sid: u32) -> bool
     requires cell { IsCell (L.seen legs.now) cell }
     requires sid { IsSid (L.seen legs.now) sid }
@@ -92,7 +89,7 @@ pub fn is_barred<L: Legs>(legs: &L, cell: Cell, stays: bool, sid: u32) -> bool
     }
 }
 
-/// The most room after a cell's SID; 0 at the start. (own rule)
+/// The most room after a cell's SID; 0 at the start.
 pub fn top_of<L: Legs>(legs: &L, cell: Cell) -> u8
     requires { IsCell (L.seen legs.now) cell }
     ensures value { result ≡ top_at (L.seen legs.now) cell }

@@ -3,11 +3,11 @@
 ghost use Rattle.std.specs.Prelude.{OnOk, IfOk};
 ghost use Rattle.list_encoder.specs.Grouped.{AreEmpty, PutsEdge, PutsEdges, AreGrouped};
 
-use crate::table::CellEdge;
+use crate::cell_table::CellEdge;
 use base::NoMemory;
 use std::alloc::Global;
 
-/// an edge is put to those that lead to its cell
+/// An edge is put to those that lead to its cell
 fn put_edge(groups: &mut [Vec<CellEdge>], edge: CellEdge) -> Result<(), NoMemory>
     ensures { OnOk result (PutsEdge groups.old groups.new edge) }
 {
@@ -21,7 +21,7 @@ fn put_edge(groups: &mut [Vec<CellEdge>], edge: CellEdge) -> Result<(), NoMemory
     Ok(())
 }
 
-/// each edge is put to those that lead to its cell
+/// Each edge is put to those that lead to its cell
 fn put_edges(groups: &mut [Vec<CellEdge>], edges: &[CellEdge]) -> Result<(), NoMemory>
     ensures { OnOk result (PutsEdges groups.old edges.now groups.new) }
 {
@@ -31,7 +31,7 @@ fn put_edges(groups: &mut [Vec<CellEdge>], edges: &[CellEdge]) -> Result<(), NoM
     Ok(())
 }
 
-/// so many groups without edges
+/// So many groups without edges
 fn no_groups(alloc: Global, count: usize) -> Result<Vec<Vec<CellEdge>>, NoMemory>
     ensures { IfOk result (λ groups. AreEmpty count groups.items) }
 {
@@ -42,7 +42,7 @@ fn no_groups(alloc: Global, count: usize) -> Result<Vec<Vec<CellEdge>>, NoMemory
     Ok(groups)
 }
 
-/// The edges into each of the first cells. (own rule)
+/// The edges into each of the first cells.
 pub fn grouped(
     alloc: Global,
     edges: &[CellEdge],

@@ -7,18 +7,18 @@
 //! in front of it are lowered by the legs within the position.
 #![tactic(auto)]
 
+mod cell_table;
 mod cells;
 pub mod figures;
 mod grouped;
+mod least_costs;
 mod listing;
 mod lowering;
 mod offers;
-mod path;
 mod picks;
-mod solver;
-mod solving;
-mod table;
+mod search;
+mod search_path;
 mod waiting;
 
-pub use solver::solve;
-pub use table::MAX_PATH_CONTAINERS;
+pub use cell_table::MAX_PATH_CONTAINERS;
+pub use search::solve;

@@ -4,16 +4,16 @@ ghost use Rattle.std.specs.Prelude.{◌≡◌, ◌+◌, ◌*◌, ◌≤◌, ◌<
 ghost use Rattle.list_pack.specs.Least.{IsListing};
 ghost use Rattle.list_encoder.specs.Listing.{ListsFewContainers};
 ghost use Rattle.list_encoder.specs.Cells.{AreCells};
-ghost use Rattle.list_encoder.specs.Table.{AreLeast, HasFewContainers};
+ghost use Rattle.list_encoder.specs.CellTable.{AreLeast, HasFewContainers};
 ghost use Rattle.list_encoder.specs.Listing as listings;
 
+use crate::cell_table::entry;
 use crate::cells::{Cell, top_of};
-use crate::table::entry;
 use base::NoMemory;
 use list_pack::{Cost, Legs, Potential, State};
 use std::alloc::Global;
 
-/// the costs of a cell are put after the others
+/// The costs of a cell are put after the others
 fn list_cell<L: Legs>(
     legs: &L,
     cells: &[Cell],
@@ -49,7 +49,7 @@ fn list_cell<L: Legs>(
     Ok(())
 }
 
-/// The least costs of a table whose entries are the least, in the order of states. (own rule)
+/// The least costs of a table whose entries are the least, in the order of states.
 pub fn listing_of<L: Legs>(
     alloc: Global,
     legs: &L,

@@ -1,17 +1,17 @@
 //! The costs of a position, lowered by the finishes and by the legs to later positions.
 
 ghost use Rattle.std.specs.Prelude.{◌≡◌, ◌+◌, ◌*◌, ◌≤◌, ◌<◌, true, false, length, Some, None, IfOk};
-ghost use Rattle.list_pack.specs.Value.{KeepsLaws};
+ghost use Rattle.list_pack.specs.LegsValueTerms.{KeepsLaws};
 ghost use Rattle.list_encoder.specs.Cells.{AreCells};
-ghost use Rattle.list_encoder.specs.Table as tables;
+ghost use Rattle.list_encoder.specs.CellTable as tables;
 
+use crate::cell_table::{CellEdge, either, lower, rest_at};
 use crate::cells::{Cell, is_barred, shape_of};
-use crate::table::{CellEdge, either, lower, rest_at};
 use base::NoMemory;
 use list_pack::{Cost, Legs, Shape, move_cost, plus, room_behind};
 use std::alloc::Global;
 
-/// The cells of a position: from one on and before another. (own rule)
+/// The cells of a position: from one on and before another.
 #[derive(Clone, Copy, Debug)]
 pub struct Span {
     /// The place of the first.
@@ -20,7 +20,7 @@ pub struct Span {
     pub later: usize,
 }
 
-/// one room of an edge's first cell is lowered by the edge, where a room is left after it
+/// One room of an edge's first cell is lowered by the edge, where a room is left after it
 fn relax_room<L: Legs>(
     legs: &L,
     cells: &[Cell],
@@ -49,7 +49,7 @@ fn relax_room<L: Legs>(
     lower(table, 8 * edge.from + room as usize, cost)
 }
 
-/// the rooms of an edge's first cell are lowered by the edge where it stays in the container and is
+/// The rooms of an edge's first cell are lowered by the edge where it stays in the container and is
 /// not barred; where it can't stay with the most room that there may be, it can't with less
 fn relax_stays<L: Legs>(
     legs: &L,
@@ -83,7 +83,7 @@ fn relax_stays<L: Legs>(
     changed
 }
 
-/// the rooms of an edge's first cell above 0 are lowered by the edge where it opens a container,
+/// The rooms of an edge's first cell above 0 are lowered by the edge where it opens a container,
 /// which with some room in front is the same for all
 fn relax_opens<L: Legs>(
     legs: &L,
@@ -111,7 +111,7 @@ fn relax_opens<L: Legs>(
     changed
 }
 
-/// the rooms of an edge's first cell, whose SID's shape is given, are lowered by the edge
+/// The rooms of an edge's first cell, whose SID's shape is given, are lowered by the edge
 fn relax<L: Legs>(
     legs: &L,
     cells: &[Cell],
@@ -135,7 +135,7 @@ fn relax<L: Legs>(
     either(opens, stays)
 }
 
-/// the costs of a cell are lowered by the finishes from it
+/// The costs of a cell are lowered by the finishes from it
 fn relax_ends<L: Legs>(
     legs: &L,
     cells: &[Cell],
@@ -166,7 +166,7 @@ fn relax_ends<L: Legs>(
     changed
 }
 
-/// The leg from a cell into another, where there is one. (own rule)
+/// The leg from a cell into another, where there is one.
 pub fn edge_into<L: Legs>(legs: &L, cells: &[Cell], from: usize, to: usize) -> Option<CellEdge>
     requires from { from < length cells.now }
     requires to { to < length cells.now }
@@ -187,7 +187,7 @@ pub fn edge_into<L: Legs>(legs: &L, cells: &[Cell], from: usize, to: usize) -> O
     })
 }
 
-/// the costs of a cell are lowered by the legs from it to later positions; those within its
+/// The costs of a cell are lowered by the legs from it to later positions; those within its
 /// position are put after the others in the list
 fn relax_legs<L: Legs>(
     legs: &L,
@@ -222,7 +222,7 @@ fn relax_legs<L: Legs>(
 }
 
 /// The costs of the cells of a position are lowered by the finishes and by the legs to later
-/// positions. Gives the legs within the position. (own rule)
+/// positions. Gives the legs within the position.
 pub fn gather<L: Legs>(
     alloc: Global,
     legs: &L,

@@ -1,20 +1,19 @@
 //! What a settled state offers to those in front of it.
 
 ghost use Rattle.std.specs.Prelude.{◌≡◌, ℕ, ◌+◌, ◌*◌, ◌<◌, ◌↔◌, IsTrue, length, Some, OnOk};
-ghost use Rattle.list_pack.specs.Value.{KeepsLaws, IsShape};
+ghost use Rattle.list_pack.specs.LegsValueTerms.{KeepsLaws, IsShape};
 ghost use Rattle.list_pack.specs.Rooms.{room_behind};
 ghost use Rattle.list_encoder.specs.Cells.{AreCells};
-ghost use Rattle.list_encoder.specs.Table.{LeavesRoom, IsShapeOf};
+ghost use Rattle.list_encoder.specs.CellTable.{LeavesRoom, IsShapeOf};
 ghost use Rattle.list_encoder.specs.Offers.{IsOffer, OffersRoom, OffersWay, OffersEdge, OffersAll, LeadInto};
 
+use crate::cell_table::CellEdge;
 use crate::cells::{Cell, is_barred, shape_of};
-use crate::table::CellEdge;
 use crate::waiting::{Queue, lower_open};
 use base::NoMemory;
 use list_pack::{Cost, Legs, Shape, move_cost, plus, room_behind};
 
-/// What is left to the end from a settled state, to the states from which an edge leads to it. (own
-/// rule)
+/// What is left to the end from a settled state, to the states from which an edge leads to it.
 #[derive(Clone, Copy, Debug)]
 pub struct Offer {
     /// The edge into the state's cell.
@@ -27,7 +26,7 @@ pub struct Offer {
     pub rest: Cost,
 }
 
-/// one room of an edge's first cell is lowered by an offer, where it is the offer's room that is
+/// One room of an edge's first cell is lowered by an offer, where it is the offer's room that is
 /// left after it
 fn offer_room<L: Legs>(
     legs: &L,
@@ -58,7 +57,7 @@ fn offer_room<L: Legs>(
     Ok(())
 }
 
-/// some room of an edge's first cell may leave the offer's room; where it can't stay in the
+/// Some room of an edge's first cell may leave the offer's room; where it can't stay in the
 /// container with the most room that there may be, it can't with less, and it opens a container
 /// with some room in front as it does with any other
 fn may_lead(offer: &Offer, from: &Option<Shape>, next: &Shape) -> bool
@@ -73,7 +72,7 @@ fn may_lead(offer: &Offer, from: &Option<Shape>, next: &Shape) -> bool
         || is_room(room_behind(false, from, 1, next), offer.left)
 }
 
-/// the room is there and is the other
+/// The room is there and is the other
 fn is_room(room: Option<u8>, other: u8) -> bool
     ensures { IsTrue result ↔ (room ≡ Some other) }
 {
@@ -83,7 +82,7 @@ fn is_room(room: Option<u8>, other: u8) -> bool
     }
 }
 
-/// all rooms of an edge's first cell are lowered by an offer that is not barred
+/// All rooms of an edge's first cell are lowered by an offer that is not barred
 fn offer_way<L: Legs>(
     legs: &L,
     cells: &[Cell],
@@ -115,7 +114,7 @@ fn offer_way<L: Legs>(
     Ok(())
 }
 
-/// the states of an edge's first cell are lowered by an offer, in the container and by a new one
+/// The states of an edge's first cell are lowered by an offer, in the container and by a new one
 fn offer_edge<L: Legs>(
     legs: &L,
     cells: &[Cell],
@@ -146,7 +145,7 @@ fn offer_edge<L: Legs>(
 }
 
 /// The states in front of one that is settled are lowered by what it offers, by each edge into its
-/// cell. (own rule)
+/// cell.
 pub fn offer_all<L: Legs>(
     legs: &L,
     cells: &[Cell],

@@ -3,8 +3,9 @@
 ghost use Rattle.std.specs.Prelude.{◌≡◌, ◌<◌, ◌≤◌, [], true, false, length, replicate, slice_set, Some, MatchBool, MatchOption, OnOk, IfOk};
 ghost use Rattle.std.specs.BTreeSet as set;
 ghost use Rattle.list_pack.specs.declared.types.Cost.{Cost};
-ghost use Rattle.list_pack.specs.Costs.{Under, AtMost, nothing};
-ghost use Rattle.list_encoder.specs.Table.{Improves};
+ghost use Rattle.list_pack.specs.Costs.{Under, AtMost};
+ghost use Rattle.list_pack.specs.CostsTerms.{nothing};
+ghost use Rattle.list_encoder.specs.CellTable.{Improves};
 ghost use Rattle.list_encoder.specs.Waiting.{waiting_cmp, waiting_at, cost_of, Waits, IsFront, AreBefore, IsLoweredAt, TakesFirst};
 ghost use Rattle.list_encoder.specs.declared.waiting.Waiting.{Waiting};
 
@@ -14,7 +15,7 @@ use std::alloc::Global;
 use std::collections::BTreeSet;
 
 /// A state that waits with its cost, and the place of its entry. The order is by containers, then
-/// by hops, then by place. (own rule)
+/// by hops, then by place.
 #[derive(Clone, Copy, Debug, PartialEq, Eq, PartialOrd, Ord)]
 pub struct Waiting {
     /// The containers of its cost.
@@ -26,7 +27,7 @@ pub struct Waiting {
 }
 
 /// The states that have a cost and are not settled, and for each state of a table's first cells
-/// whether it is. (own rule)
+/// whether it is.
 #[derive(Debug, Drop)]
 pub struct Queue {
     /// The states that wait, each once.
@@ -35,7 +36,7 @@ pub struct Queue {
     pub done: Vec<bool>,
 }
 
-/// a state that waits with a cost
+/// A state that waits with a cost
 fn waiting_at(cost: Cost, place: usize) -> Waiting
     ensures { result ≡ waiting_at cost place }
 {
@@ -46,7 +47,7 @@ fn waiting_at(cost: Cost, place: usize) -> Waiting
     }
 }
 
-/// The cost of a state that waits. (own rule)
+/// The cost of a state that waits.
 pub fn cost_of(next: Waiting) -> Cost
     ensures { result ≡ cost_of next }
 {
@@ -56,7 +57,7 @@ pub fn cost_of(next: Waiting) -> Cost
     }
 }
 
-/// a cost is below what an entry has
+/// A cost is below what an entry has
 fn is_lower(was: Option<Cost>, cost: Cost) -> bool
     ensures { MatchBool result (Improves was cost) (Under was (Some cost)) }
 {
@@ -66,7 +67,7 @@ fn is_lower(was: Option<Cost>, cost: Cost) -> bool
     }
 }
 
-/// a state that waits with a cost no longer waits with it
+/// A state that waits with a cost no longer waits with it
 fn take_out(waiting: &mut BTreeSet<Waiting>, was: Option<Cost>, place: usize)
     ensures { MatchOption was (waiting.new ≡ waiting.old)
         (λ old. set.Updates waiting_cmp waiting.old waiting.new (waiting_at old place) false) }
@@ -76,7 +77,7 @@ fn take_out(waiting: &mut BTreeSet<Waiting>, was: Option<Cost>, place: usize)
     }
 }
 
-/// the state of a place is settled
+/// The state of a place is settled
 fn mark(done: &mut Vec<bool>, place: usize)
     requires { place < length done.old.items }
     ensures { done.new.items ≡ slice_set done.old.items place true }
@@ -84,8 +85,7 @@ fn mark(done: &mut Vec<bool>, place: usize)
     done[place] = true;
 }
 
-/// Of the states that wait the one with the least cost is settled; none where none waits. (own
-/// rule)
+/// Of the states that wait the one with the least cost is settled; none where none waits.
 pub fn settle_first(queue: &mut Queue) -> Option<Waiting>
     requires { (k : Waiting) → Waits queue.old.waiting k
         → k.place < length queue.old.done.items }
@@ -103,7 +103,7 @@ pub fn settle_first(queue: &mut Queue) -> Option<Waiting>
 }
 
 /// An entry that is not settled is lowered to a cost where that is below it, and then waits with
-/// it. (own rule)
+/// it.
 pub fn lower_open(
     table: &mut [Option<Cost>],
     queue: &mut Queue,
@@ -130,7 +130,7 @@ pub fn lower_open(
     Ok(true)
 }
 
-/// a state waits with the cost that it has
+/// A state waits with the cost that it has
 fn put_in(waiting: &mut BTreeSet<Waiting>, has: Option<Cost>, place: usize) -> Result<(), NoMemory>
     ensures { OnOk result (MatchOption has (waiting.new ≡ waiting.old)
         (λ cost. set.Updates waiting_cmp waiting.old waiting.new (waiting_at cost place) true)) }
@@ -142,7 +142,7 @@ fn put_in(waiting: &mut BTreeSet<Waiting>, has: Option<Cost>, place: usize) -> R
     Ok(())
 }
 
-/// the states of a table's first places that have a cost
+/// The states of a table's first places that have a cost
 fn waiting_of(
     alloc: Global,
     table: &[Option<Cost>],
@@ -158,7 +158,7 @@ fn waiting_of(
     Ok(waiting)
 }
 
-/// so many states that are not settled
+/// So many states that are not settled
 fn none_done(alloc: Global, count: usize) -> Result<Vec<bool>, NoMemory>
     ensures { IfOk result (λ done. done.items ≡ replicate count false) }
 {
@@ -166,7 +166,7 @@ fn none_done(alloc: Global, count: usize) -> Result<Vec<bool>, NoMemory>
     Ok(done)
 }
 
-/// The queue of a table's first places, of which none is settled. (own rule)
+/// The queue of a table's first places, of which none is settled.
 pub fn queue_of(alloc: Global, table: &[Option<Cost>], count: usize) -> Result<Queue, NoMemory>
     requires { count ≤ length table.now }
     ensures front { IfOk result

@@ -4,51 +4,52 @@ use Rattle.std.specs.Option.{option_map, option_and_then}
 use Rattle.list_pack.specs.declared.types.Cost.{Cost}
 use Rattle.list_pack.specs.declared.types.State.{State}
 use Rattle.list_pack.specs.declared.types.Leg.{Leg}
-use Rattle.list_pack.specs.Value.{LegsValue}
+use Rattle.list_pack.specs.LegsValue.{LegsValue}
 use Rattle.list_pack.specs.Costs.{Move, plus, move_cost, edge_by, behind, cost_of, room_of}
-use Rattle.list_pack.specs.Paths.{with_hops, hops_of, sids_of_moves, with_room, may_move, opened, cost_with, split_cost}
+use Rattle.list_pack.specs.Paths.{cost_with}
+use Rattle.list_pack.specs.PathsTerms.{with_hops, hops_of, sids_of_moves, with_room, may_move, opened, split_cost}
 
 -- nothing comes of no leg, whether the rooms suffice or not
-no-leg : (b : Bool) (k : ℕ) → None ≡ (if b then option_map (cost_with k) None else None)
-no-leg true k = refl
-no-leg false k = refl
+no_leg : (b : Bool) (k : ℕ) → None ≡ (if b then option_map (cost_with k) None else None)
+no_leg true k = refl
+no_leg false k = refl
 
-more-hops : (b : Bool) (o : Option ℕ) (k n hops : ℕ)
+more_hops : (b : Bool) (o : Option ℕ) (k n hops : ℕ)
     → option_map (plus (cost_with k hops)) (if b then option_map (cost_with n) o else None)
     ≡ (if b then option_map (cost_with (k + n)) (option_map (λ m. hops + m) o) else None)
-more-hops true None k n hops = refl
-more-hops true (Some x) k n hops = refl
-more-hops false o k n hops = refl
+more_hops true None k n hops = refl
+more_hops true (Some x) k n hops = refl
+more_hops false o k n hops = refl
 
-split-last : (o : Option ℕ) (l : Option ℕ) (stays : Bool) (k : ℕ) → (if stays then 0 else 1) ≡ k
+split_last : (o : Option ℕ) (l : Option ℕ) (stays : Bool) (k : ℕ) → (if stays then 0 else 1) ≡ k
     → option_and_then (λ (room : ℕ). option_map (move_cost stays) l) o
     ≡ (if with_room o (λ left. true) then option_map (cost_with k) l else None)
-split-last None l stays k e = refl
-split-last (Some room) l stays k e = ap (λ (n : ℕ). option_map (cost_with n) l) e
+split_last None l stays k e = refl
+split_last (Some room) l stays k e = ap (λ (n : ℕ). option_map (cost_with n) l) e
 
-split-step : (o : Option ℕ) (l : Option Leg) (m : Move) (n : ℕ) (later : State → Option Cost) (may : ℕ → Bool) (hops : ℕ → Option ℕ)
+split_step : (o : Option ℕ) (l : Option Leg) (m : Move) (n : ℕ) (later : State → Option Cost) (may : ℕ → Bool) (hops : ℕ → Option ℕ)
     → ((room : ℕ) (leg : Leg)
     → later (edge_by m room leg).to ≡ (if may room then option_map (cost_with n) (hops leg.to) else None))
     → behind (option_and_then (λ (room : ℕ). option_map (edge_by m room) l) o) later
     ≡ (if with_room o may then option_map (cost_with ((if m.stays then 0 else 1) + n)) (with_hops l hops) else None)
-split-step None l m n later may hops h = refl
-split-step (Some room) None m n later may hops h = no-leg (may room) ((if m.stays then 0 else 1) + n)
-split-step (Some room) (Some leg) m n later may hops h =
+split_step None l m n later may hops h = refl
+split_step (Some room) None m n later may hops h = no_leg (may room) ((if m.stays then 0 else 1) + n)
+split_step (Some room) (Some leg) m n later may hops h =
     ap (λ (o : Option Cost). option_map (plus (move_cost m.stays leg.hops)) o) (h room leg)
-    ∙ more-hops (may room) (hops leg.to) (if m.stays then 0 else 1) n leg.hops
+    ∙ more_hops (may room) (hops leg.to) (if m.stays then 0 else 1) n leg.hops
 
-plus-none : (n : ℕ) → n ≡ n + 0
-plus-none n = omega arith
+plus_none : (n : ℕ) → n ≡ n + 0
+plus_none n = omega arith
 
-pub cost-splits : (v : LegsValue) (s : State) (moves : List Move) → cost_of v s moves ≡ split_cost v s.position s.via s.room moves
-cost-splits v s [] = refl
-cost-splits v s (m ∷ []) =
-    split-last (room_of v s m) (v.finish s.position s.via m.sid) m.stays ((if m.stays then 0 else 1) + 0)
-    (plus-none (if m.stays then 0 else 1))
-cost-splits v s (m ∷ n ∷ more) =
-    split-step (room_of v s m) (v.leg s.position s.via m.sid) m (opened (n ∷ more)) (λ t. cost_of v t (n ∷ more))
+pub cost_splits : (v : LegsValue) (s : State) (moves : List Move) → cost_of v s moves ≡ split_cost v s.position s.via s.room moves
+cost_splits v s [] = refl
+cost_splits v s (m ∷ []) =
+    split_last (room_of v s m) (v.finish s.position s.via m.sid) m.stays ((if m.stays then 0 else 1) + 0)
+    (plus_none (if m.stays then 0 else 1))
+cost_splits v s (m ∷ n ∷ more) =
+    split_step (room_of v s m) (v.leg s.position s.via m.sid) m (opened (n ∷ more)) (λ t. cost_of v t (n ∷ more))
     (λ left. may_move v (Some m.sid) left (n ∷ more)) (λ to. hops_of v to (Some m.sid) (sids_of_moves (n ∷ more)))
-    (λ room leg. cost-splits v (edge_by m room leg).to (n ∷ more))
+    (λ room leg. cost_splits v (edge_by m room leg).to (n ∷ more))
 
 -- ---- the two ways
 
@@ -57,24 +58,24 @@ pub record Split (v : LegsValue) (position : ℕ) (via : Option ℕ) (room : ℕ
   pub hops : hops_of v position via (sids_of_moves moves) ≡ Some c.hops
   pub containers : c.containers ≡ opened moves
 
-split-in : (b : Bool) (o : Option ℕ) (k : ℕ) (c : Cost) → (if b then option_map (cost_with k) o else None) ≡ Some c
+split_in : (b : Bool) (o : Option ℕ) (k : ℕ) (c : Cost) → (if b then option_map (cost_with k) o else None) ≡ Some c
     → (b ≡ true) × (o ≡ Some c.hops) × (c.containers ≡ k)
-split-in true None k c e = absurd (cc)
-split-in true (Some x) k c e =
+split_in true None k c e = absurd (cc)
+split_in true (Some x) k c e =
     let same : cost_with k x ≡ c = cc in
     (refl, ap (λ (d : Cost). Some d.hops) same, sym (ap (λ (d : Cost). d.containers) same))
-split-in false o k c e = absurd (cc)
+split_in false o k c e = absurd (cc)
 
-pub split-of : (v : LegsValue) (s : State) (moves : List Move) (c : Cost) → cost_of v s moves ≡ Some c
+pub split_of : (v : LegsValue) (s : State) (moves : List Move) (c : Cost) → cost_of v s moves ≡ Some c
     → Split v s.position s.via s.room moves c
-split-of v s moves c e =
-    let parts = split-in (may_move v s.via s.room moves) (hops_of v s.position s.via (sids_of_moves moves)) (opened moves) c
-    (sym (cost-splits v s moves) ∙ e) in
+split_of v s moves c e =
+    let parts = split_in (may_move v s.via s.room moves) (hops_of v s.position s.via (sids_of_moves moves)) (opened moves) c
+    (sym (cost_splits v s moves) ∙ e) in
     record { may = parts.0; hops = parts.1; containers = parts.2 }
 
-pub cost-made : (v : LegsValue) (s : State) (moves : List Move) (hops : ℕ) → may_move v s.via s.room moves ≡ true
+pub cost_made : (v : LegsValue) (s : State) (moves : List Move) (hops : ℕ) → may_move v s.via s.room moves ≡ true
     → hops_of v s.position s.via (sids_of_moves moves) ≡ Some hops → cost_of v s moves ≡ Some (cost_with (opened moves) hops)
-cost-made v s moves hops may h =
-    cost-splits v s moves
+cost_made v s moves hops may h =
+    cost_splits v s moves
     ∙ ap (λ (b : Bool). if b then option_map (cost_with (opened moves)) (hops_of v s.position s.via (sids_of_moves moves)) else None) may
     ∙ ap (λ (o : Option ℕ). option_map (cost_with (opened moves)) o) h

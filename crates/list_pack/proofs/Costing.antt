@@ -5,47 +5,48 @@ use Rattle.std.proofs.lemmas.Option.{none-some}
 use Rattle.list_pack.specs.declared.types.Cost.{Cost}
 use Rattle.list_pack.specs.declared.types.State.{State}
 use Rattle.list_pack.specs.declared.types.Leg.{Leg}
-use Rattle.list_pack.specs.Value.{LegsValue, KeepsLaws, IsSid}
+use Rattle.list_pack.specs.LegsValue.{LegsValue}
+use Rattle.list_pack.specs.LegsValueTerms.{KeepsLaws, IsSid}
 use Rattle.list_pack.specs.Rooms.{room_behind, top_room}
 use Rattle.list_pack.specs.Costs.{Move, Edge, AtMost, plus, move_cost, room_of, edge_by, edge_of, last_of, Under, IsState, IsStateBy}
-use Rattle.list_pack.proofs.Rooming.{behind-top, begin-top}
-use Rattle.list_pack.proofs.Barring.{room-kept}
+use Rattle.list_pack.proofs.Rooming.{behind_top, begin_top}
+use Rattle.list_pack.proofs.Barring.{room_kept}
 
-pub at_most-itself : (a : Cost) → AtMost a a
-at_most-itself a = record { containers = omega arith; hops = λ e. omega arith }
+pub at_most_itself : (a : Cost) → AtMost a a
+at_most_itself a = record { containers = omega arith; hops = λ e. omega arith }
 
-pub at_most-trans : (a b c : Cost) → AtMost a b → AtMost b c → AtMost a c
-at_most-trans a b c h k =
+pub at_most_trans : (a b c : Cost) → AtMost a b → AtMost b c → AtMost a c
+at_most_trans a b c h k =
     record { containers = omega (arith, h.containers, k.containers); hops = λ e. omega (arith, h.containers, k.containers, h.hops, k.hops) }
 
-pub at_most-plus : (k a b : Cost) → AtMost a b → AtMost (plus k a) (plus k b)
-at_most-plus k a b h = record { containers = omega (arith, h.containers); hops = λ e. omega (arith, h.containers, h.hops) }
+pub at_most_plus : (k a b : Cost) → AtMost a b → AtMost (plus k a) (plus k b)
+at_most_plus k a b h = record { containers = omega (arith, h.containers); hops = λ e. omega (arith, h.containers, h.hops) }
 
-pub at_most-both : (a b : Cost) → AtMost a b → AtMost b a → a ≡ b
-at_most-both a b h k =
+pub at_most_both : (a b : Cost) → AtMost a b → AtMost b a → a ≡ b
+at_most_both a b h k =
     let e : a.containers ≡ b.containers = omega (arith, h.containers, k.containers) in
     let f : a.hops ≡ b.hops = omega (arith, h.hops e, k.hops (sym e)) in
     let step : (x : ℕ) → Cost = λ x. record { containers = x; hops = a.hops } in
     ap step e ∙ ap (λ (y : ℕ). record { containers = b.containers; hops = y }) f
 
-pub under-none : (o : Option Cost) → Under o None
-under-none None = tt
-under-none (Some c) = tt
+pub under_none : (o : Option Cost) → Under o None
+under_none None = tt
+under_none (Some c) = tt
 
-pub under-itself : (o : Option Cost) → Under o o
-under-itself None = tt
-under-itself (Some c) = at_most-itself c
+pub under_itself : (o : Option Cost) → Under o o
+under_itself None = tt
+under_itself (Some c) = at_most_itself c
 
-pub under-trans : (a b c : Option Cost) → Under a b → Under b c → Under a c
-under-trans a b None h k = under-none a
-under-trans a None (Some z) h k = absurd k
-under-trans None (Some y) (Some z) h k = absurd h
-under-trans (Some x) (Some y) (Some z) h k = at_most-trans x y z h k
+pub under_trans : (a b c : Option Cost) → Under a b → Under b c → Under a c
+under_trans a b None h k = under_none a
+under_trans a None (Some z) h k = absurd k
+under_trans None (Some y) (Some z) h k = absurd h
+under_trans (Some x) (Some y) (Some z) h k = at_most_trans x y z h k
 
-pub under-plus : (k : Cost) (a b : Option Cost) → Under a b → Under (option_map (plus k) a) (option_map (plus k) b)
-under-plus k a None h = under-none (option_map (plus k) a)
-under-plus k None (Some y) h = absurd h
-under-plus k (Some x) (Some y) h = at_most-plus k x y h
+pub under_plus : (k : Cost) (a b : Option Cost) → Under a b → Under (option_map (plus k) a) (option_map (plus k) b)
+under_plus k a None h = under_none (option_map (plus k) a)
+under_plus k None (Some y) h = absurd h
+under_plus k (Some x) (Some y) h = at_most_plus k x y h
 
 -- what an edge is made of
 pub record EdgeParts (v : LegsValue) (s : State) (m : Move) (e : Edge) : Type 0 where
@@ -55,21 +56,21 @@ pub record EdgeParts (v : LegsValue) (s : State) (m : Move) (e : Edge) : Type 0 
   pub leg_is : v.leg s.position s.via m.sid ≡ Some leg
   pub is : edge_by m room leg ≡ e
 
-edge-in : (v : LegsValue) (s : State) (m : Move) (e : Edge) (o : Option ℕ) (l : Option Leg) → room_of v s m ≡ o
+edge_in : (v : LegsValue) (s : State) (m : Move) (e : Edge) (o : Option ℕ) (l : Option Leg) → room_of v s m ≡ o
     → v.leg s.position s.via m.sid ≡ l
     → option_and_then (λ (room : ℕ). option_map (edge_by m room) l) o ≡ Some e → EdgeParts v s m e
-edge-in v s m e None l x y h = absurd (none-some e h)
-edge-in v s m e (Some room) None x y h = absurd (none-some e h)
-edge-in v s m e (Some room) (Some leg) x y h =
+edge_in v s m e None l x y h = absurd (none-some e h)
+edge_in v s m e (Some room) None x y h = absurd (none-some e h)
+edge_in v s m e (Some room) (Some leg) x y h =
     let same : edge_by m room leg ≡ e = cc in
     record { room = room; leg = leg; room_is = x; leg_is = y; is = same }
 
-pub edge-parts : (v : LegsValue) (s : State) (m : Move) (e : Edge) → edge_of v s m ≡ Some e → EdgeParts v s m e
-edge-parts v s m e h = edge-in v s m e (room_of v s m) (v.leg s.position s.via m.sid) refl refl h
+pub edge_parts : (v : LegsValue) (s : State) (m : Move) (e : Edge) → edge_of v s m ≡ Some e → EdgeParts v s m e
+edge_parts v s m e h = edge_in v s m e (room_of v s m) (v.leg s.position s.via m.sid) refl refl h
 
-pub edge-made : (v : LegsValue) (s : State) (m : Move) (room : ℕ) (leg : Leg) → room_of v s m ≡ Some room
+pub edge_made : (v : LegsValue) (s : State) (m : Move) (room : ℕ) (leg : Leg) → room_of v s m ≡ Some room
     → v.leg s.position s.via m.sid ≡ Some leg → edge_of v s m ≡ Some (edge_by m room leg)
-edge-made v s m room leg x y =
+edge_made v s m room leg x y =
     ap (λ (o : Option ℕ). option_and_then (λ (r : ℕ). option_map (edge_by m r) (v.leg s.position s.via m.sid)) o) x
     ∙ ap (λ (l : Option Leg). option_map (edge_by m room) l) y
 
@@ -81,38 +82,38 @@ pub record LastParts (v : LegsValue) (s : State) (m : Move) (c : Cost) : Type 0 
   pub finish_is : v.finish s.position s.via m.sid ≡ Some hops
   pub is : move_cost m.stays hops ≡ c
 
-last-in : (v : LegsValue) (s : State) (m : Move) (c : Cost) (o : Option ℕ) (l : Option ℕ) → room_of v s m ≡ o
+last_in : (v : LegsValue) (s : State) (m : Move) (c : Cost) (o : Option ℕ) (l : Option ℕ) → room_of v s m ≡ o
     → v.finish s.position s.via m.sid ≡ l
     → option_and_then (λ (room : ℕ). option_map (move_cost m.stays) l) o ≡ Some c → LastParts v s m c
-last-in v s m c None l x y h = absurd (none-some c h)
-last-in v s m c (Some room) None x y h = absurd (none-some c h)
-last-in v s m c (Some room) (Some hops) x y h =
+last_in v s m c None l x y h = absurd (none-some c h)
+last_in v s m c (Some room) None x y h = absurd (none-some c h)
+last_in v s m c (Some room) (Some hops) x y h =
     let same : move_cost m.stays hops ≡ c = cc in
     record { room = room; hops = hops; room_is = x; finish_is = y; is = same }
 
-pub last-parts : (v : LegsValue) (s : State) (m : Move) (c : Cost) → last_of v s m ≡ Some c → LastParts v s m c
-last-parts v s m c h = last-in v s m c (room_of v s m) (v.finish s.position s.via m.sid) refl refl h
+pub last_parts : (v : LegsValue) (s : State) (m : Move) (c : Cost) → last_of v s m ≡ Some c → LastParts v s m c
+last_parts v s m c h = last_in v s m c (room_of v s m) (v.finish s.position s.via m.sid) refl refl h
 
-pub last-made : (v : LegsValue) (s : State) (m : Move) (room hops : ℕ) → room_of v s m ≡ Some room
+pub last_made : (v : LegsValue) (s : State) (m : Move) (room hops : ℕ) → room_of v s m ≡ Some room
     → v.finish s.position s.via m.sid ≡ Some hops → last_of v s m ≡ Some (move_cost m.stays hops)
-last-made v s m room hops x y =
+last_made v s m room hops x y =
     ap (λ (o : Option ℕ). option_and_then (λ (r : ℕ). option_map (move_cost m.stays) (v.finish s.position s.via m.sid)) o) x
     ∙ ap (λ (l : Option ℕ). option_map (move_cost m.stays) l) y
 
 -- an edge leads from a state to a state
-room-top : (v : LegsValue) (laws : KeepsLaws v) (position : ℕ) (via : Option ℕ) (room : ℕ) (stays : Bool) (n q : ℕ) → position ≤ v.steps
+room_top : (v : LegsValue) (laws : KeepsLaws v) (position : ℕ) (via : Option ℕ) (room : ℕ) (stays : Bool) (n q : ℕ) → position ≤ v.steps
     → IsStateBy v position via room → IsSid v n → room_behind stays (option_map v.shape via) room (v.shape n) ≡ Some q
     → q ≤ top_room (v.shape n)
-room-top v laws position None room stays n q h is_s is_n r = begin-top stays (v.shape n) room q r
-room-top v laws position (Some k) room stays n q h is_s is_n r =
+room_top v laws position None room stays n q h is_s is_n r = begin_top stays (v.shape n) room q r
+room_top v laws position (Some k) room stays n q h is_s is_n r =
     let is_k : IsSid v k = (position, h, is_s.1) in
-    behind-top stays (v.shape k) (v.shape n) room q (laws.shapes k is_k) (laws.shapes n is_n) (laws.blocks k n is_k is_n) is_s.3 r
+    behind_top stays (v.shape k) (v.shape n) room q (laws.shapes k is_k) (laws.shapes n is_n) (laws.blocks k n is_k is_n) is_s.3 r
 
-pub edge-state : (v : LegsValue) → KeepsLaws v → (s : State) (m : Move) (e : Edge) → IsState v s → edge_of v s m ≡ Some e → IsState v e.to
-edge-state v laws s m e is_s h =
-    let parts = edge-parts v s m e h in
+pub edge_state : (v : LegsValue) → KeepsLaws v → (s : State) (m : Move) (e : Edge) → IsState v s → edge_of v s m ≡ Some e → IsState v e.to
+edge_state v laws s m e is_s h =
+    let parts = edge_parts v s m e h in
     let leg = laws.leg s.position s.via m.sid parts.leg parts.leg_is in
-    let top = room-top v laws s.position s.via s.room m.stays m.sid parts.room leg.start is_s (parts.leg.to, leg.within, leg.is_next)
-    (room-kept v s.via s.room m parts.room parts.room_is) in
+    let top = room_top v laws s.position s.via s.room m.stays m.sid parts.room leg.start is_s (parts.leg.to, leg.within, leg.is_next)
+    (room_kept v s.via s.room m parts.room parts.room_is) in
     let is_to : IsState v (edge_by m parts.room parts.leg).to = (leg.within, leg.is_next, leg.middle, top) in
     subst (λ (x : Edge). IsState v x.to) parts.is is_to

@@ -4,10 +4,11 @@ use Rattle.std.specs.Option.{option_map}
 use Rattle.std.proofs.lemmas.Option.{none-some}
 use Rattle.std.proofs.lemmas.Bool.{false≢true}
 use Rattle.v6_addr.specs.Address.{PrefixValue}
-use Rattle.list_places.specs.Lists.{ListSid}
+use Rattle.sid_list_spec.specs.SegmentLists.{ListSid}
 use Rattle.list_pack.specs.declared.types.Leg.{Leg}
-use Rattle.list_pack.specs.Value.{LegsValue, KeepsLaws, IsSid}
-use Rattle.list_pack.specs.Paths.{with_hops, hops_of, with_room, SuitsLists}
+use Rattle.list_pack.specs.LegsValue.{LegsValue}
+use Rattle.list_pack.specs.LegsValueTerms.{KeepsLaws, IsSid}
+use Rattle.list_pack.specs.PathsTerms.{with_hops, hops_of, with_room, SuitsLists}
 use Rattle.list_pack.proofs.Standings.{Pair}
 
 -- the hops of SIDs are there, if there are SIDs
@@ -15,10 +16,10 @@ abbrev pub HopsFrom : LegsValue → ℕ → Option ℕ → List ℕ → Type 0
 HopsFrom v position via [] = Unit {0}
 HopsFrom v position via (n ∷ ns) = (h : ℕ) × (hops_of v position via (n ∷ ns) ≡ Some h)
 
-hops-parts : (o : Option Leg) (later : ℕ → Option ℕ) (h : ℕ) → with_hops o later ≡ Some h
+hops_parts : (o : Option Leg) (later : ℕ → Option ℕ) (h : ℕ) → with_hops o later ≡ Some h
     → (leg : Leg) × (o ≡ Some leg) × (rest : ℕ) × (later leg.to ≡ Some rest)
-hops-parts None later h e = absurd (none-some h e)
-hops-parts (Some leg) later h e = by (later leg.to) refl e
+hops_parts None later h e = absurd (none-some h e)
+hops_parts (Some leg) later h e = by (later leg.to) refl e
   where
     by : (o : Option ℕ) → later leg.to ≡ o → option_map (λ n. leg.hops + n) o ≡ Some h
         → (l : Leg) × (Some leg ≡ Some l) × (rest : ℕ) × (later l.to ≡ Some rest)
@@ -31,38 +32,38 @@ pub record Here (v : LegsValue) (via n : ℕ) : Type 0 where
   pub middle : (v.shape via).middle ≡ true
   pub next_sid : IsSid v n
 
-pub hops-here : (v : LegsValue) → KeepsLaws v → (position via n : ℕ) (ns : List ℕ) → HopsFrom v position (Some via) (n ∷ ns)
+pub hops_here : (v : LegsValue) → KeepsLaws v → (position via n : ℕ) (ns : List ℕ) → HopsFrom v position (Some via) (n ∷ ns)
     → Here v via n
-hops-here v laws position via n [] (h, e) =
+hops_here v laws position via n [] (h, e) =
     let is = laws.finish position (Some via) n h e in
     record { via_sid = (position, is.start, is.from_via.0); middle = is.from_via.1; next_sid = (v.steps, omega arith, is.is_next) }
-hops-here v laws position via n (m ∷ ms) (h, e) =
-    let parts = hops-parts (v.leg position (Some via) n) (λ to. hops_of v to (Some n) (m ∷ ms)) h e in
+hops_here v laws position via n (m ∷ ms) (h, e) =
+    let parts = hops_parts (v.leg position (Some via) n) (λ to. hops_of v to (Some n) (m ∷ ms)) h e in
     let is = laws.leg position (Some via) n parts.0 parts.1 in
     record { via_sid = (position, is.start, is.from_via.0); middle = is.from_via.1; next_sid = (parts.0.to, is.within, is.is_next) }
 
-pub hops-first : (v : LegsValue) → KeepsLaws v → (position : ℕ) (via : Option ℕ) (n : ℕ) (ns : List ℕ) → HopsFrom v position via (n ∷ ns)
+pub hops_first : (v : LegsValue) → KeepsLaws v → (position : ℕ) (via : Option ℕ) (n : ℕ) (ns : List ℕ) → HopsFrom v position via (n ∷ ns)
     → IsSid v n
-hops-first v laws position via n [] (h, e) =
+hops_first v laws position via n [] (h, e) =
     let is = laws.finish position via n h e in
     (v.steps, omega arith, is.is_next)
-hops-first v laws position via n (m ∷ ms) (h, e) =
-    let parts = hops-parts (v.leg position via n) (λ to. hops_of v to (Some n) (m ∷ ms)) h e in
+hops_first v laws position via n (m ∷ ms) (h, e) =
+    let parts = hops_parts (v.leg position via n) (λ to. hops_of v to (Some n) (m ∷ ms)) h e in
     let is = laws.leg position via n parts.0 parts.1 in
     (parts.0.to, is.within, is.is_next)
 
-pub hops-next : (v : LegsValue) (position : ℕ) (via : Option ℕ) (n : ℕ) (ns : List ℕ) → HopsFrom v position via (n ∷ ns)
+pub hops_next : (v : LegsValue) (position : ℕ) (via : Option ℕ) (n : ℕ) (ns : List ℕ) → HopsFrom v position via (n ∷ ns)
     → (to : ℕ) × HopsFrom v to (Some n) ns
-hops-next v position via n [] (h, e) = (0, tt)
-hops-next v position via n (m ∷ ms) (h, e) =
-    let parts = hops-parts (v.leg position via n) (λ to. hops_of v to (Some n) (m ∷ ms)) h e in
+hops_next v position via n [] (h, e) = (0, tt)
+hops_next v position via n (m ∷ ms) (h, e) =
+    let parts = hops_parts (v.leg position via n) (λ to. hops_of v to (Some n) (m ∷ ms)) h e in
     (parts.0.to, (parts.2, parts.3))
 
 -- such SIDs as a search and as lists know them
-pub pair-of : {Follows : PrefixValue → PrefixValue → Type 0} (v : LegsValue) (sid_on : PrefixValue → ListSid) → KeepsLaws v
+pub pair_of : {Follows : PrefixValue → PrefixValue → Type 0} (v : LegsValue) (sid_on : PrefixValue → ListSid) → KeepsLaws v
     → SuitsLists v sid_on Follows → (via n : ℕ) → Here v via n
     → Pair (v.shape via) (v.shape n) (sid_on (v.shape via).prefix) (sid_on (v.shape n).prefix)
-pair-of v sid_on laws suits via n here =
+pair_of v sid_on laws suits via n here =
     record {
       here = laws.shapes via here.via_sid;
       next = laws.shapes n here.next_sid;
@@ -80,9 +81,9 @@ pair-of v sid_on laws suits via n here =
 
 -- ---- rooms
 
-pub room-parts : (o : Option ℕ) (later : ℕ → Bool) → with_room o later ≡ true → (q : ℕ) × (o ≡ Some q) × (later q ≡ true)
-room-parts None later e = absurd (false≢true e)
-room-parts (Some q) later e = (q, refl, e)
+pub room_parts : (o : Option ℕ) (later : ℕ → Bool) → with_room o later ≡ true → (q : ℕ) × (o ≡ Some q) × (later q ≡ true)
+room_parts None later e = absurd (false≢true e)
+room_parts (Some q) later e = (q, refl, e)
 
-pub room-made : (o : Option ℕ) (later : ℕ → Bool) (q : ℕ) → o ≡ Some q → later q ≡ true → with_room o later ≡ true
-room-made o later q e h = ap (λ (x : Option ℕ). with_room x later) e ∙ h
+pub room_made : (o : Option ℕ) (later : ℕ → Bool) (q : ℕ) → o ≡ Some q → later q ≡ true → with_room o later ≡ true
+room_made o later q e h = ap (λ (x : Option ℕ). with_room x later) e ∙ h

@@ -1,10 +1,10 @@
-pub mod Orders
+pub mod ListOrders
 pub mod Rooming
 pub mod Barring
 pub mod Costing
 pub mod Leasts
 pub mod CostSplits
-pub mod Containers
+pub mod ListContainers
 pub mod Standings
 pub mod Moving
 pub mod Hops

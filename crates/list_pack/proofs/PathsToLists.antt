@@ -1,26 +1,27 @@
 -- The list of a path is legal.
 use Rattle.std.proofs.Common.{◌≡◌, ℕ, ◌+◌, Bool, true, false, List, [], ◌∷◌, map, Option, Some, None, refl, ap, subst}
 use Rattle.v6_addr.specs.Address.{PrefixValue}
-use Rattle.list_places.specs.Lists as lists
-use Rattle.list_places.specs.Lists.{ListSid, SidBlock, Follow, IsLegal}
+use Rattle.sid_list_spec.specs.SegmentLists as lists
+use Rattle.sid_list_spec.specs.SegmentLists.{ListSid, SidBlock, Follow, IsLegal}
 use Rattle.list_pack.specs.declared.types.PathStep.{PathStep}
-use Rattle.list_pack.specs.Value.{LegsValue, KeepsLaws}
+use Rattle.list_pack.specs.LegsValue.{LegsValue}
+use Rattle.list_pack.specs.LegsValueTerms.{KeepsLaws}
 use Rattle.list_pack.specs.Rooms.{new_room, full_room}
 use Rattle.list_pack.specs.Costs.{Move, room_to}
 use Rattle.list_pack.specs.Least.{step_of}
-use Rattle.list_pack.specs.Paths.{hops_of, sids_of_moves, may_move, SuitsLists}
+use Rattle.list_pack.specs.PathsTerms.{hops_of, sids_of_moves, may_move, SuitsLists}
 use Rattle.list_pack.specs.PathLists.{container_by, container_as, staying, asked_after, list_from}
 use Rattle.list_pack.specs.OpenContainers.{taken, first_taken, asked_at, Open, Opens}
-use Rattle.list_pack.proofs.Containers.{follow-made, asked_end, asked-end}
+use Rattle.list_pack.proofs.ListContainers.{follow_made, asked_end, asked_end_law}
 use Rattle.list_pack.proofs.Standings.{Stands, stayed}
-use Rattle.list_pack.proofs.Moving.{Entered, entered, entered-full}
-use Rattle.list_pack.proofs.Barring.{room-kept}
-use Rattle.list_pack.proofs.Hops.{HopsFrom, hops-here, hops-first, hops-next, pair-of, room-parts}
+use Rattle.list_pack.proofs.Moving.{Entered, entered, entered_full}
+use Rattle.list_pack.proofs.Barring.{room_kept}
+use Rattle.list_pack.proofs.Hops.{HopsFrom, hops_here, hops_first, hops_next, pair_of, room_parts}
 
 -- a property of moves holds if it holds of those that stay and of those that open
-pub by-stays : (P : Move → Type 0) → ((n : ℕ) → P (record { stays = true; sid = n })) → ((n : ℕ) → P (record { stays = false; sid = n }))
+pub by_stays : (P : Move → Type 0) → ((n : ℕ) → P (record { stays = true; sid = n })) → ((n : ℕ) → P (record { stays = false; sid = n }))
     → (m : Move) → P m
-by-stays P one other m = by m.stays m.sid
+by_stays P one other m = by m.stays m.sid
   where
     by : (b : Bool) (n : ℕ) → P (record { stays = b; sid = n })
     by true n = one n
@@ -42,68 +43,68 @@ MakeList v sid_on moves = (k : Option SidBlock) (u position n room : ℕ)
     → Open k u (sid_on (v.shape n).prefix) (map sid_on (staying (steps_by v moves)))
     (behind_open sid_on k u (v.shape n).prefix (steps_by v moves))
 
-stay-list : {Follows : PrefixValue → PrefixValue → Type 0} (v : LegsValue) (sid_on : PrefixValue → ListSid) → KeepsLaws v
+stay_list : {Follows : PrefixValue → PrefixValue → Type 0} (v : LegsValue) (sid_on : PrefixValue → ListSid) → KeepsLaws v
     → SuitsLists v sid_on Follows → (moves : List Move)
     → MakeList v sid_on moves → (m : ℕ) → MakeList v sid_on (record { stays = true; sid = m } ∷ moves)
-stay-list v sid_on laws suits moves rest m k u position n room at may hops =
-    let here = hops-here v laws position n m (sids_of_moves moves) hops in
-    let pair = pair-of v sid_on laws suits n m here in
-    let next = hops-next v position (Some n) m (sids_of_moves moves) hops in
+stay_list v sid_on laws suits moves rest m k u position n room at may hops =
+    let here = hops_here v laws position n m (sids_of_moves moves) hops in
+    let pair = pair_of v sid_on laws suits n m here in
+    let next = hops_next v position (Some n) m (sids_of_moves moves) hops in
     let s = sid_on (v.shape n).prefix in
     let t = sid_on (v.shape m).prefix in
     let move : Move = record { stays = true; sid = m } in
-    let parts = room-parts (room_to v (Some n) room move) (λ left. may_move v (Some m) left moves) may in
-    let is = stayed k (v.shape n) (v.shape m) s t u room parts.0 pair (at here.middle) (room-kept v (Some n) room move parts.0 parts.1) in
+    let parts = room_parts (room_to v (Some n) room move) (λ left. may_move v (Some m) left moves) may in
+    let is = stayed k (v.shape n) (v.shape m) s t u room parts.0 pair (at here.middle) (room_kept v (Some n) room move parts.0 parts.1) in
     (is.step, rest k (u + taken k t) next.0 m parts.0 (λ mid. is.stands (suits.middle m here.next_sid mid)) parts.2 next.1)
 
 -- a container that is opened, in a legal list
-enter-list : (sid_on : PrefixValue → ListSid) (k : Option SidBlock) (p : PrefixValue) (ps : List PrefixValue) (steps : List PathStep)
+enter_list : (sid_on : PrefixValue → ListSid) (k : Option SidBlock) (p : PrefixValue) (ps : List PrefixValue) (steps : List PathStep)
     → Opens k (sid_on p)
     → Open k (first_taken k (sid_on p)) (sid_on p) (map sid_on ps)
     (map (container_by sid_on) (list_from sid_on (asked_end k (first_taken k (sid_on p)) (sid_on p) (map sid_on ps)) steps))
     → Follow k (container_by sid_on (container_as k p ps)
     ∷ map (container_by sid_on) (list_from sid_on (asked_after k (sid_on p) (map sid_on ps)) steps))
-enter-list sid_on None p ps steps first so =
+enter_list sid_on None p ps steps first so =
     subst (λ (o : Option SidBlock). Follow None
     (lists.Full (sid_on p) (map sid_on ps) ∷ map (container_by sid_on) (list_from sid_on o steps)))
-    (asked-end None (sid_on p) (map sid_on ps)) (follow-made None (sid_on p) (map sid_on ps) _ first so)
-enter-list sid_on (Some b) p ps steps first so =
+    (asked_end_law None (sid_on p) (map sid_on ps)) (follow_made None (sid_on p) (map sid_on ps) _ first so)
+enter_list sid_on (Some b) p ps steps first so =
     subst (λ (o : Option SidBlock). Follow (Some b)
     (lists.Packed (sid_on p) (map sid_on ps) ∷ map (container_by sid_on) (list_from sid_on o steps)))
-    (asked-end (Some b) (sid_on p) (map sid_on ps)) (follow-made (Some b) (sid_on p) (map sid_on ps) _ first so)
+    (asked_end_law (Some b) (sid_on p) (map sid_on ps)) (follow_made (Some b) (sid_on p) (map sid_on ps) _ first so)
 
-entered-list : {Follows : PrefixValue → PrefixValue → Type 0} (v : LegsValue) (sid_on : PrefixValue → ListSid)
+entered_list : {Follows : PrefixValue → PrefixValue → Type 0} (v : LegsValue) (sid_on : PrefixValue → ListSid)
     → SuitsLists v sid_on Follows → (moves : List Move)
     → MakeList v sid_on moves → (k : Option SidBlock) (m room to : ℕ)
     → ((v.shape m).middle ≡ true → (sid_on (v.shape m).prefix).csid ≡ (v.shape m).csid)
     → Entered k room (v.shape m) (sid_on (v.shape m).prefix)
     → may_move v (Some m) room moves ≡ true → HopsFrom v to (Some m) (sids_of_moves moves)
     → Follow k (map (container_by sid_on) (list_from sid_on k (steps_by v (record { stays = false; sid = m } ∷ moves))))
-entered-list v sid_on suits moves rest k m room to flavour is may hops =
+entered_list v sid_on suits moves rest k m room to flavour is may hops =
     let t = sid_on (v.shape m).prefix in
-    enter-list sid_on k (v.shape m).prefix (staying (steps_by v moves)) (steps_by v moves) is.first
+    enter_list sid_on k (v.shape m).prefix (staying (steps_by v moves)) (steps_by v moves) is.first
     (rest k (first_taken k t) to m room (λ mid. is.stands (flavour mid)) may hops)
 
-open-list : {Follows : PrefixValue → PrefixValue → Type 0} (v : LegsValue) (sid_on : PrefixValue → ListSid) → KeepsLaws v
+open_list : {Follows : PrefixValue → PrefixValue → Type 0} (v : LegsValue) (sid_on : PrefixValue → ListSid) → KeepsLaws v
     → SuitsLists v sid_on Follows → (moves : List Move)
     → MakeList v sid_on moves → (m : ℕ) → MakeList v sid_on (record { stays = false; sid = m } ∷ moves)
-open-list v sid_on laws suits moves rest m k u position n room at may hops =
-    let here = hops-here v laws position n m (sids_of_moves moves) hops in
-    let pair = pair-of v sid_on laws suits n m here in
-    let next = hops-next v position (Some n) m (sids_of_moves moves) hops in
+open_list v sid_on laws suits moves rest m k u position n room at may hops =
+    let here = hops_here v laws position n m (sids_of_moves moves) hops in
+    let pair = pair_of v sid_on laws suits n m here in
+    let next = hops_next v position (Some n) m (sids_of_moves moves) hops in
     let s = sid_on (v.shape n).prefix in
     let t = sid_on (v.shape m).prefix in
-    let parts = room-parts (new_room (v.shape n) room (v.shape m)) (λ left. may_move v (Some m) left moves) may in
+    let parts = room_parts (new_room (v.shape n) room (v.shape m)) (λ left. may_move v (Some m) left moves) may in
     let is = entered k (v.shape n) (v.shape m) s t u room parts.0 pair (at here.middle) parts.1 in
-    entered-list v sid_on suits moves rest (asked_at k u s) m parts.0 next.0 (λ mid. suits.middle m here.next_sid mid) is parts.2 next.1
+    entered_list v sid_on suits moves rest (asked_at k u s) m parts.0 next.0 (λ mid. suits.middle m here.next_sid mid) is parts.2 next.1
 
-moves-list : {Follows : PrefixValue → PrefixValue → Type 0} (v : LegsValue) (sid_on : PrefixValue → ListSid) → KeepsLaws v
+moves_list : {Follows : PrefixValue → PrefixValue → Type 0} (v : LegsValue) (sid_on : PrefixValue → ListSid) → KeepsLaws v
     → SuitsLists v sid_on Follows → (moves : List Move)
     → MakeList v sid_on moves
-moves-list v sid_on laws suits [] = λ k u position n room at may hops. tt
-moves-list v sid_on laws suits (m ∷ ms) =
-    by-stays (λ (x : Move). MakeList v sid_on (x ∷ ms)) (stay-list v sid_on laws suits ms (moves-list v sid_on laws suits ms))
-    (open-list v sid_on laws suits ms (moves-list v sid_on laws suits ms)) m
+moves_list v sid_on laws suits [] = λ k u position n room at may hops. tt
+moves_list v sid_on laws suits (m ∷ ms) =
+    by_stays (λ (x : Move). MakeList v sid_on (x ∷ ms)) (stay_list v sid_on laws suits ms (moves_list v sid_on laws suits ms))
+    (open_list v sid_on laws suits ms (moves_list v sid_on laws suits ms)) m
 
 -- ---- from the start
 
@@ -112,25 +113,25 @@ abbrev LegalFrom : LegsValue → (PrefixValue → ListSid) → List Move → Typ
 LegalFrom v sid_on moves = (h : ℕ) → may_move v None 0 moves ≡ true → hops_of v 0 None (sids_of_moves moves) ≡ Some h
     → IsLegal (map (container_by sid_on) (list_from sid_on None (steps_by v moves)))
 
-no-stay : (v : LegsValue) (sid_on : PrefixValue → ListSid) (moves : List Move) (m : ℕ)
+no_stay : (v : LegsValue) (sid_on : PrefixValue → ListSid) (moves : List Move) (m : ℕ)
     → LegalFrom v sid_on (record { stays = true; sid = m } ∷ moves)
-no-stay v sid_on moves m h may hops = absurd (let one : false ≡ true = may in cc)
+no_stay v sid_on moves m h may hops = absurd (let one : false ≡ true = may in cc)
 
-first-open : {Follows : PrefixValue → PrefixValue → Type 0} (v : LegsValue) (sid_on : PrefixValue → ListSid) → KeepsLaws v
+first_open : {Follows : PrefixValue → PrefixValue → Type 0} (v : LegsValue) (sid_on : PrefixValue → ListSid) → KeepsLaws v
     → SuitsLists v sid_on Follows → (moves : List Move) (m : ℕ)
     → LegalFrom v sid_on (record { stays = false; sid = m } ∷ moves)
-first-open v sid_on laws suits moves m h may hops =
-    let is_sid = hops-first v laws 0 None m (sids_of_moves moves) (h, hops) in
-    let next = hops-next v 0 None m (sids_of_moves moves) (h, hops) in
+first_open v sid_on laws suits moves m h may hops =
+    let is_sid = hops_first v laws 0 None m (sids_of_moves moves) (h, hops) in
+    let next = hops_next v 0 None m (sids_of_moves moves) (h, hops) in
     let t = sid_on (v.shape m).prefix in
-    let is = entered-full (v.shape m) t (full_room (v.shape m)) (ap (λ (p : PrefixValue). p.len) (suits.prefix (v.shape m).prefix))
+    let is = entered_full (v.shape m) t (full_room (v.shape m)) (ap (λ (p : PrefixValue). p.len) (suits.prefix (v.shape m).prefix))
     (suits.fits m is_sid) refl in
-    entered-list v sid_on suits moves (moves-list v sid_on laws suits moves) None m (full_room (v.shape m)) next.0
+    entered_list v sid_on suits moves (moves_list v sid_on laws suits moves) None m (full_room (v.shape m)) next.0
     (λ mid. suits.middle m is_sid mid) is may next.1
 
-pub path-legal : {Follows : PrefixValue → PrefixValue → Type 0} (v : LegsValue) (sid_on : PrefixValue → ListSid) → KeepsLaws v
+pub path_legal : {Follows : PrefixValue → PrefixValue → Type 0} (v : LegsValue) (sid_on : PrefixValue → ListSid) → KeepsLaws v
     → SuitsLists v sid_on Follows → (moves : List Move)
     → LegalFrom v sid_on moves
-path-legal v sid_on laws suits [] h may hops = absurd (cc)
-path-legal v sid_on laws suits (m ∷ ms) h may hops =
-    by-stays (λ (x : Move). LegalFrom v sid_on (x ∷ ms)) (no-stay v sid_on ms) (first-open v sid_on laws suits ms) m h may hops
+path_legal v sid_on laws suits [] h may hops = absurd (cc)
+path_legal v sid_on laws suits (m ∷ ms) h may hops =
+    by_stays (λ (x : Move). LegalFrom v sid_on (x ∷ ms)) (no_stay v sid_on ms) (first_open v sid_on laws suits ms) m h may hops

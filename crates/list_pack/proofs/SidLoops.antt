@@ -7,31 +7,31 @@ use Rattle.srv6_rules.specs.declared.sid.Csid.TheVariants.{Plain, Next, Replace}
 use Rattle.srv6_rules.specs.declared.sid.SidEntry.{SidEntry}
 use Rattle.srv6_rules.specs.Behaviours.{goes_on}
 use Rattle.v6_addr.specs.Address.{PrefixValue}
-use Rattle.net_model.specs.Rules.{same_prefix}
-use Rattle.list_pack.specs.Value.{is_compressed}
+use Rattle.net_model.specs.NetworkRules.{same_prefix}
+use Rattle.list_pack.specs.LegsValueTerms.{is_compressed}
 use Rattle.list_pack.specs.SidLists.{either_csid, csid_among, on_prefix, going_on}
 
 -- an item and those after it
-pub drop-item : {X : Type 0} (xs : List X) (n : ℕ) (x : X) → slice_get xs n ≡ Some x → drop n xs ≡ x ∷ drop (n + 1) xs
-drop-item [] n x e = absurd (cc)
-drop-item (y ∷ ys) zero x e =
+pub drop_item : {X : Type 0} (xs : List X) (n : ℕ) (x : X) → slice_get xs n ≡ Some x → drop n xs ≡ x ∷ drop (n + 1) xs
+drop_item [] n x e = absurd (cc)
+drop_item (y ∷ ys) zero x e =
     let same : y ≡ x = cc in
     ap (λ z. z ∷ ys) same
-drop-item (y ∷ ys) (suc n) x e =
+drop_item (y ∷ ys) (suc n) x e =
     let more : suc n + 1 ≡ suc (n + 1) = omega arith in
-    drop-item ys n x e ∙ ap (λ k. x ∷ drop k (y ∷ ys)) (sym more)
+    drop_item ys n x e ∙ ap (λ k. x ∷ drop k (y ∷ ys)) (sym more)
 
-pub drop-past : {X : Type 0} (xs : List X) (n : ℕ) → length xs ≤ n → drop n xs ≡ []
-drop-past [] zero h = refl
-drop-past [] (suc n) h = refl
-drop-past (x ∷ xs) zero h = absurd (omega (arith, h))
-drop-past (x ∷ xs) (suc n) h = drop-past xs n (omega (arith, h))
+pub drop_past : {X : Type 0} (xs : List X) (n : ℕ) → length xs ≤ n → drop n xs ≡ []
+drop_past [] zero h = refl
+drop_past [] (suc n) h = refl
+drop_past (x ∷ xs) zero h = absurd (omega (arith, h))
+drop_past (x ∷ xs) (suc n) h = drop_past xs n (omega (arith, h))
 
 -- ---- tests of one SID
 
-pub going-skip : (p : PrefixValue) (s : SidEntry) (ss : List SidEntry) → (same_prefix s.prefix p && goes_on s) ≡ false
+pub going_skip : (p : PrefixValue) (s : SidEntry) (ss : List SidEntry) → (same_prefix s.prefix p && goes_on s) ≡ false
     → going_on (on_prefix (s ∷ ss) p) ≡ going_on (on_prefix ss p)
-going-skip p s ss e = by (same_prefix s.prefix p) (goes_on s) refl refl e
+going_skip p s ss e = by (same_prefix s.prefix p) (goes_on s) refl refl e
   where
     by : (a b : Bool) → same_prefix s.prefix p ≡ a → goes_on s ≡ b → (a && b) ≡ false
         → filter goes_on (if a then s ∷ on_prefix ss p else on_prefix ss p) ≡ going_on (on_prefix ss p)
@@ -39,50 +39,50 @@ going-skip p s ss e = by (same_prefix s.prefix p) (goes_on s) refl refl e
     by true false x y f = ap (λ (t : Bool). if t then s ∷ going_on (on_prefix ss p) else going_on (on_prefix ss p)) y
     by false b x y f = refl
 
-pub going-take : (p : PrefixValue) (s : SidEntry) (ss : List SidEntry) → (same_prefix s.prefix p && goes_on s) ≡ true
+pub going_take : (p : PrefixValue) (s : SidEntry) (ss : List SidEntry) → (same_prefix s.prefix p && goes_on s) ≡ true
     → going_on (on_prefix (s ∷ ss) p) ≡ s ∷ going_on (on_prefix ss p)
-going-take p s ss e =
+going_take p s ss e =
     let both = and_parts (same_prefix s.prefix p) (goes_on s) e in
     ap (λ (t : Bool). filter goes_on (if t then s ∷ on_prefix ss p else on_prefix ss p)) both.0
     ∙ ap (λ (t : Bool). if t then s ∷ going_on (on_prefix ss p) else going_on (on_prefix ss p)) both.1
 
-pub either-first : (c d : Csid) → is_compressed c ≡ true → either_csid c d ≡ c
-either-first Plain d e = absurd (cc)
-either-first Next d e = refl
-either-first Replace d e = refl
+pub either_first : (c d : Csid) → is_compressed c ≡ true → either_csid c d ≡ c
+either_first Plain d e = absurd (cc)
+either_first Next d e = refl
+either_first Replace d e = refl
 
-either-other : (c d : Csid) → is_compressed c ≡ false → either_csid c d ≡ d
-either-other Plain d e = refl
-either-other Next d e = absurd (cc)
-either-other Replace d e = absurd (cc)
+either_other : (c d : Csid) → is_compressed c ≡ false → either_csid c d ≡ d
+either_other Plain d e = refl
+either_other Next d e = absurd (cc)
+either_other Replace d e = absurd (cc)
 
-any-skip : (p : PrefixValue) (s : SidEntry) (ss : List SidEntry) → (same_prefix s.prefix p && is_compressed s.csid) ≡ false
+any_skip : (p : PrefixValue) (s : SidEntry) (ss : List SidEntry) → (same_prefix s.prefix p && is_compressed s.csid) ≡ false
     → csid_among (on_prefix (s ∷ ss) p) ≡ csid_among (on_prefix ss p)
-any-skip p s ss e = by (same_prefix s.prefix p) (is_compressed s.csid) refl refl e
+any_skip p s ss e = by (same_prefix s.prefix p) (is_compressed s.csid) refl refl e
   where
     by : (a b : Bool) → same_prefix s.prefix p ≡ a → is_compressed s.csid ≡ b → (a && b) ≡ false
         → csid_among (if a then s ∷ on_prefix ss p else on_prefix ss p) ≡ csid_among (on_prefix ss p)
     by true true x y f = absurd (cc)
-    by true false x y f = either-other s.csid (csid_among (on_prefix ss p)) y
+    by true false x y f = either_other s.csid (csid_among (on_prefix ss p)) y
     by false b x y f = refl
 
-any-take : (p : PrefixValue) (s : SidEntry) (ss : List SidEntry) → same_prefix s.prefix p ≡ true → is_compressed s.csid ≡ true
+any_take : (p : PrefixValue) (s : SidEntry) (ss : List SidEntry) → same_prefix s.prefix p ≡ true → is_compressed s.csid ≡ true
     → csid_among (on_prefix (s ∷ ss) p) ≡ s.csid
-any-take p s ss x y =
+any_take p s ss x y =
     ap (λ (t : Bool). csid_among (if t then s ∷ on_prefix ss p else on_prefix ss p)) x
-    ∙ either-first s.csid (csid_among (on_prefix ss p)) y
+    ∙ either_first s.csid (csid_among (on_prefix ss p)) y
 
-goers-skip : (p : PrefixValue) (s : SidEntry) (ss : List SidEntry)
+goers_skip : (p : PrefixValue) (s : SidEntry) (ss : List SidEntry)
     → (same_prefix s.prefix p && (goes_on s && is_compressed s.csid)) ≡ false
     → csid_among (going_on (on_prefix (s ∷ ss) p)) ≡ csid_among (going_on (on_prefix ss p))
-goers-skip p s ss e = by (same_prefix s.prefix p) (goes_on s) (is_compressed s.csid) refl refl refl e
+goers_skip p s ss e = by (same_prefix s.prefix p) (goes_on s) (is_compressed s.csid) refl refl refl e
   where
     by : (a b c : Bool) → same_prefix s.prefix p ≡ a → goes_on s ≡ b → is_compressed s.csid ≡ c → (a && (b && c)) ≡ false
         → csid_among (filter goes_on (if a then s ∷ on_prefix ss p else on_prefix ss p)) ≡ csid_among (going_on (on_prefix ss p))
     by true true true x y z f = absurd (cc)
     by true true false x y z f =
         ap (λ (t : Bool). csid_among (if t then s ∷ going_on (on_prefix ss p) else going_on (on_prefix ss p))) y
-        ∙ either-other s.csid (csid_among (going_on (on_prefix ss p))) z
+        ∙ either_other s.csid (csid_among (going_on (on_prefix ss p))) z
     by true false c x y z f =
         ap (λ (t : Bool). csid_among (if t then s ∷ going_on (on_prefix ss p) else going_on (on_prefix ss p))) y
     by false b c x y z f = refl
@@ -93,77 +93,77 @@ goers-skip p s ss e = by (same_prefix s.prefix p) (goes_on s) (is_compressed s.c
 abbrev pub GoersLeft : List SidEntry → PrefixValue → ℕ → Type 0
 GoersLeft sids p n = going_on (on_prefix sids p) ≡ going_on (on_prefix (drop n sids) p)
 
-pub goers-next : (sids : List SidEntry) (p : PrefixValue) (n : ℕ) (s : SidEntry) → slice_get sids n ≡ Some s → GoersLeft sids p n
+pub goers_next : (sids : List SidEntry) (p : PrefixValue) (n : ℕ) (s : SidEntry) → slice_get sids n ≡ Some s → GoersLeft sids p n
     → (same_prefix s.prefix p && goes_on s) ≡ false → GoersLeft sids p (n + 1)
-goers-next sids p n s at left e =
-    left ∙ ap (λ (ss : List SidEntry). going_on (on_prefix ss p)) (drop-item sids n s at) ∙ going-skip p s (drop (n + 1) sids) e
+goers_next sids p n s at left e =
+    left ∙ ap (λ (ss : List SidEntry). going_on (on_prefix ss p)) (drop_item sids n s at) ∙ going_skip p s (drop (n + 1) sids) e
 
-pub goers-found : (sids : List SidEntry) (p : PrefixValue) (n : ℕ) (s : SidEntry) → slice_get sids n ≡ Some s → GoersLeft sids p n
+pub goers_found : (sids : List SidEntry) (p : PrefixValue) (n : ℕ) (s : SidEntry) → slice_get sids n ≡ Some s → GoersLeft sids p n
     → (same_prefix s.prefix p && goes_on s) ≡ true → true ≡ not (length (going_on (on_prefix sids p)) == 0)
-goers-found sids p n s at left e =
-    let all = left ∙ ap (λ (ss : List SidEntry). going_on (on_prefix ss p)) (drop-item sids n s at)
-    ∙ going-take p s (drop (n + 1) sids) e in
+goers_found sids p n s at left e =
+    let all = left ∙ ap (λ (ss : List SidEntry). going_on (on_prefix ss p)) (drop_item sids n s at)
+    ∙ going_take p s (drop (n + 1) sids) e in
     let some : (length (s ∷ going_on (on_prefix (drop (n + 1) sids) p)) == 0) ≡ false = ne_eqb _ 0 (λ e. omega (arith, e)) in
     sym (ap (λ (ss : List SidEntry). not (length ss == 0)) all ∙ ap not some)
 
 abbrev pub GoingLeft : List SidEntry → PrefixValue → ℕ → Type 0
 GoingLeft sids p n = csid_among (going_on (on_prefix sids p)) ≡ csid_among (going_on (on_prefix (drop n sids) p))
 
-pub going-next : (sids : List SidEntry) (p : PrefixValue) (n : ℕ) (s : SidEntry) → slice_get sids n ≡ Some s → GoingLeft sids p n
+pub going_next : (sids : List SidEntry) (p : PrefixValue) (n : ℕ) (s : SidEntry) → slice_get sids n ≡ Some s → GoingLeft sids p n
     → (same_prefix s.prefix p && (goes_on s && is_compressed s.csid)) ≡ false → GoingLeft sids p (n + 1)
-going-next sids p n s at left e =
-    left ∙ ap (λ (ss : List SidEntry). csid_among (going_on (on_prefix ss p))) (drop-item sids n s at)
-    ∙ goers-skip p s (drop (n + 1) sids) e
+going_next sids p n s at left e =
+    left ∙ ap (λ (ss : List SidEntry). csid_among (going_on (on_prefix ss p))) (drop_item sids n s at)
+    ∙ goers_skip p s (drop (n + 1) sids) e
 
-pub going-found : (sids : List SidEntry) (p : PrefixValue) (n : ℕ) (s : SidEntry) → slice_get sids n ≡ Some s → GoingLeft sids p n
+pub going_found : (sids : List SidEntry) (p : PrefixValue) (n : ℕ) (s : SidEntry) → slice_get sids n ≡ Some s → GoingLeft sids p n
     → (same_prefix s.prefix p && (goes_on s && is_compressed s.csid)) ≡ true → s.csid ≡ csid_among (going_on (on_prefix sids p))
-going-found sids p n s at left e =
+going_found sids p n s at left e =
     let one = and_parts (same_prefix s.prefix p) (goes_on s && is_compressed s.csid) e in
     let two = and_parts (goes_on s) (is_compressed s.csid) one.1 in
     let both : (same_prefix s.prefix p && goes_on s) ≡ true =
     ap (λ (t : Bool). t && goes_on s) one.0 ∙ two.0 in
-    let all = left ∙ ap (λ (ss : List SidEntry). csid_among (going_on (on_prefix ss p))) (drop-item sids n s at)
-    ∙ ap csid_among (going-take p s (drop (n + 1) sids) both)
-    ∙ either-first s.csid (csid_among (going_on (on_prefix (drop (n + 1) sids) p))) two.1 in
+    let all = left ∙ ap (λ (ss : List SidEntry). csid_among (going_on (on_prefix ss p))) (drop_item sids n s at)
+    ∙ ap csid_among (going_take p s (drop (n + 1) sids) both)
+    ∙ either_first s.csid (csid_among (going_on (on_prefix (drop (n + 1) sids) p))) two.1 in
     sym all
 
 abbrev pub AnyLeft : List SidEntry → PrefixValue → ℕ → Type 0
 AnyLeft sids p n = csid_among (on_prefix sids p) ≡ csid_among (on_prefix (drop n sids) p)
 
-pub any-next : (sids : List SidEntry) (p : PrefixValue) (n : ℕ) (s : SidEntry) → slice_get sids n ≡ Some s → AnyLeft sids p n
+pub any_next : (sids : List SidEntry) (p : PrefixValue) (n : ℕ) (s : SidEntry) → slice_get sids n ≡ Some s → AnyLeft sids p n
     → (same_prefix s.prefix p && is_compressed s.csid) ≡ false → AnyLeft sids p (n + 1)
-any-next sids p n s at left e =
-    left ∙ ap (λ (ss : List SidEntry). csid_among (on_prefix ss p)) (drop-item sids n s at) ∙ any-skip p s (drop (n + 1) sids) e
+any_next sids p n s at left e =
+    left ∙ ap (λ (ss : List SidEntry). csid_among (on_prefix ss p)) (drop_item sids n s at) ∙ any_skip p s (drop (n + 1) sids) e
 
-pub any-found : (sids : List SidEntry) (p : PrefixValue) (n : ℕ) (s : SidEntry) → slice_get sids n ≡ Some s → AnyLeft sids p n
+pub any_found : (sids : List SidEntry) (p : PrefixValue) (n : ℕ) (s : SidEntry) → slice_get sids n ≡ Some s → AnyLeft sids p n
     → (same_prefix s.prefix p && is_compressed s.csid) ≡ true → s.csid ≡ csid_among (on_prefix sids p)
-any-found sids p n s at left e =
+any_found sids p n s at left e =
     let one = and_parts (same_prefix s.prefix p) (is_compressed s.csid) e in
-    sym (left ∙ ap (λ (ss : List SidEntry). csid_among (on_prefix ss p)) (drop-item sids n s at)
-    ∙ any-take p s (drop (n + 1) sids) one.0 one.1)
+    sym (left ∙ ap (λ (ss : List SidEntry). csid_among (on_prefix ss p)) (drop_item sids n s at)
+    ∙ any_take p s (drop (n + 1) sids) one.0 one.1)
 
 -- ---- a search through a list
 
-pub find-next : {X : Type 0} (test : X → Bool) (xs : List X) (n : ℕ) (x : X) → slice_get xs n ≡ Some x
+pub find_next : {X : Type 0} (test : X → Bool) (xs : List X) (n : ℕ) (x : X) → slice_get xs n ≡ Some x
     → find test xs ≡ find test (drop n xs) → test x ≡ false → find test xs ≡ find test (drop (n + 1) xs)
-find-next test xs n x at left e =
-    left ∙ ap (λ ys. find test ys) (drop-item xs n x at)
+find_next test xs n x at left e =
+    left ∙ ap (λ ys. find test ys) (drop_item xs n x at)
     ∙ ap (λ (t : Bool). if t then Some x else find test (drop (n + 1) xs)) e
 
-pub find-found : {X : Type 0} (test : X → Bool) (xs : List X) (n : ℕ) (x : X) → slice_get xs n ≡ Some x
+pub find_found : {X : Type 0} (test : X → Bool) (xs : List X) (n : ℕ) (x : X) → slice_get xs n ≡ Some x
     → find test xs ≡ find test (drop n xs) → test x ≡ true → Some x ≡ find test xs
-find-found test xs n x at left e =
-    sym (left ∙ ap (λ ys. find test ys) (drop-item xs n x at)
+find_found test xs n x at left e =
+    sym (left ∙ ap (λ ys. find test ys) (drop_item xs n x at)
     ∙ ap (λ (t : Bool). if t then Some x else find test (drop (n + 1) xs)) e)
 
 -- ---- a test that some item passes
 
-pub some-next : {X : Type 0} (test : X → Bool) (xs : List X) (n : ℕ) (x : X) → slice_get xs n ≡ Some x
+pub some_next : {X : Type 0} (test : X → Bool) (xs : List X) (n : ℕ) (x : X) → slice_get xs n ≡ Some x
     → list_any test xs ≡ list_any test (drop n xs) → test x ≡ false → list_any test xs ≡ list_any test (drop (n + 1) xs)
-some-next test xs n x at left e =
-    left ∙ ap (λ ys. list_any test ys) (drop-item xs n x at) ∙ ap (λ (t : Bool). t || list_any test (drop (n + 1) xs)) e
+some_next test xs n x at left e =
+    left ∙ ap (λ ys. list_any test ys) (drop_item xs n x at) ∙ ap (λ (t : Bool). t || list_any test (drop (n + 1) xs)) e
 
-pub some-found : {X : Type 0} (test : X → Bool) (xs : List X) (n : ℕ) (x : X) → slice_get xs n ≡ Some x
+pub some_found : {X : Type 0} (test : X → Bool) (xs : List X) (n : ℕ) (x : X) → slice_get xs n ≡ Some x
     → list_any test xs ≡ list_any test (drop n xs) → test x ≡ true → true ≡ list_any test xs
-some-found test xs n x at left e =
-    sym (left ∙ ap (λ ys. list_any test ys) (drop-item xs n x at) ∙ ap (λ (t : Bool). t || list_any test (drop (n + 1) xs)) e)
+some_found test xs n x at left e =
+    sym (left ∙ ap (λ ys. list_any test ys) (drop_item xs n x at) ∙ ap (λ (t : Bool). t || list_any test (drop (n + 1) xs)) e)

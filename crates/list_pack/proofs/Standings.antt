@@ -5,11 +5,12 @@ use Rattle.std.proofs.lemmas.Bool.{and_parts, leb-true}
 use Rattle.std.proofs.lemmas.Option.{cond_some, none-some}
 use Rattle.srv6_rules.specs.declared.sid.Csid.{Csid}
 use Rattle.srv6_rules.specs.declared.sid.Csid.TheVariants.{Plain, Next, Replace}
-use Rattle.list_places.specs.Lists.{SidBlock, ListSid, csid_len, csid_len_in, block_len}
+use Rattle.sid_list_spec.specs.SegmentLists.{SidBlock, ListSid, csid_len, csid_len_in, block_len}
 use Rattle.list_pack.specs.declared.types.Shape.{Shape}
-use Rattle.list_pack.specs.Value.{units_of, same_block, is_compressed, IsShape, ShareBlock}
+use Rattle.list_pack.specs.LegsValue.{units_of, same_block}
+use Rattle.list_pack.specs.LegsValueTerms.{is_compressed, IsShape, ShareBlock}
 use Rattle.list_pack.specs.Rooms.{kept_room, stay_room, stay_room_by}
-use Rattle.list_pack.proofs.Rooming.{both-blocks}
+use Rattle.list_pack.proofs.Rooming.{both_blocks}
 use Rattle.list_pack.specs.OpenContainers.{taken, limit, StaysIn}
 
 -- the room that is left after the last SID of an open container where so much is taken
@@ -50,98 +51,98 @@ pub record Pair (a n : Shape) (s t : ListSid) : Type 0 where
 -- ---- staying
 
 -- a next SID's CSID in bits
-pub bits-of : (a n : Shape) (s t : ListSid) → Pair a n s t → is_some n.block ≡ true → csid_len t ≡ 16 * units_of n
-bits-of a n s t p some =
+pub bits_of : (a n : Shape) (s t : ListSid) → Pair a n s t → is_some n.block ≡ true → csid_len t ≡ 16 * units_of n
+bits_of a n s t p some =
     let is = p.next.in_block some in
     let long : n.prefix.len ≡ n.lbl + 16 * units_of n = is.length in
     omega (arith, long, p.len, p.lbl)
 
-units-fit : (u c units room : ℕ) → u ≤ 128 → c ≡ 16 * units → room ≡ (128 - u) / 16 → units ≤ room → u + c ≤ 128
-units-fit u c units room h e f k = omega arith
+units_fit : (u c units room : ℕ) → u ≤ 128 → c ≡ 16 * units → room ≡ (128 - u) / 16 → units ≤ room → u + c ≤ 128
+units_fit u c units room h e f k = omega arith
 
-units-left : (u c units room : ℕ) → u ≤ 128 → c ≡ 16 * units → room ≡ (128 - u) / 16 → units ≤ room
+units_left : (u c units room : ℕ) → u ≤ 128 → c ≡ 16 * units → room ≡ (128 - u) / 16 → units ≤ room
     → room - units ≡ (128 - (u + c)) / 16
-units-left u c units room h e f k = omega arith
+units_left u c units room h e f k = omega arith
 
-pub fit-units : (u c units room : ℕ) → u + c ≤ 128 → c ≡ 16 * units → room ≡ (128 - u) / 16 → units ≤ room
-fit-units u c units room h e f = omega arith
+pub fit_units : (u c units room : ℕ) → u + c ≤ 128 → c ≡ 16 * units → room ≡ (128 - u) / 16 → units ≤ room
+fit_units u c units room h e f = omega arith
 
 -- a compressed SID lies in a block
-pub in-some : (a n : Shape) (s t : ListSid) → Pair a n s t → is_compressed a.csid ≡ true → is_some a.block ≡ true
-in-some a n s t p e = p.here.compressed e
+pub in_some : (a n : Shape) (s t : ListSid) → Pair a n s t → is_compressed a.csid ≡ true → is_some a.block ≡ true
+in_some a n s t p e = p.here.compressed e
 
 -- what staying is: the step of the list, and where the next SID stands if it is a middle one
 pub record Stayed (k : Option SidBlock) (u room : ℕ) (n : Shape) (s t : ListSid) : Type 0 where
   pub step : StaysIn k u s t
   pub stands : t.csid ≡ n.csid → Stands k (u + taken k t) room t
 
-left-next : (a n : Shape) (s t : ListSid) (u left : ℕ) → Pair a n s t → a.csid ≡ Next → same_block a.block n.block ≡ true
+left_next : (a n : Shape) (s t : ListSid) (u left : ℕ) → Pair a n s t → a.csid ≡ Next → same_block a.block n.block ≡ true
     → left ≡ (128 - (u + csid_len t)) / 16 → t.csid ≡ n.csid → (c : Csid) → n.csid ≡ c
     → kept_room c left ≡ room_in None c (u + csid_len t)
-left-next a n s t u left p e b l same Plain k = refl
-left-next a n s t u left p e b l same Next k = l
-left-next a n s t u left p e b l same Replace k =
+left_next a n s t u left p e b l same Plain k = refl
+left_next a n s t u left p e b l same Next k = l
+left_next a n s t u left p e b l same Replace k =
     let one : is_compressed a.csid ≡ true = ap is_compressed e in
     let two : is_compressed n.csid ≡ true = ap is_compressed k in
     let both = (p.share b).csid one two in
     absurd (cc)
 
-left-replace : (a n : Shape) (s t : ListSid) (b : SidBlock) (u room : ℕ) → Pair a n s t → a.csid ≡ Replace
+left_replace : (a n : Shape) (s t : ListSid) (b : SidBlock) (u room : ℕ) → Pair a n s t → a.csid ≡ Replace
     → same_block a.block n.block ≡ true → room ≡ limit (Some b) - u → (c : Csid) → n.csid ≡ c
     → kept_room c (room - 1) ≡ room_in (Some b) c (u + 1)
-left-replace a n s t b u room p e both l Plain k = refl
-left-replace a n s t b u room p e both l Next k =
+left_replace a n s t b u room p e both l Plain k = refl
+left_replace a n s t b u room p e both l Next k =
     let one : is_compressed a.csid ≡ true = ap is_compressed e in
     let two : is_compressed n.csid ≡ true = ap is_compressed k in
     let same = (p.share both).csid one two in
     absurd (cc)
-left-replace a n s t b u room p e both l Replace k = omega (arith, l)
+left_replace a n s t b u room p e both l Replace k = omega (arith, l)
 
 -- after a REPLACE SID in its block no NEXT SID comes
-pub not-next : (a n : Shape) (s t : ListSid) → Pair a n s t → a.csid ≡ Replace → same_block a.block n.block ≡ true → n.csid ≡ Next → ⊥
-not-next a n s t p e both k =
+pub not_next : (a n : Shape) (s t : ListSid) → Pair a n s t → a.csid ≡ Replace → same_block a.block n.block ≡ true → n.csid ≡ Next → ⊥
+not_next a n s t p e both k =
     let one : is_compressed a.csid ≡ true = ap is_compressed e in
     let two : is_compressed n.csid ≡ true = ap is_compressed k in
     let same = (p.share both).csid one two in
     cc
 
-pub room-as : (k : Option SidBlock) (s : ListSid) (u room : ℕ) (c : Csid) → Stands k u room s → s.csid ≡ c → room ≡ room_in k c u
-room-as k s u room c at e = subst (λ (x : Csid). room ≡ room_in k x u) e at.left
+pub room_as : (k : Option SidBlock) (s : ListSid) (u room : ℕ) (c : Csid) → Stands k u room s → s.csid ≡ c → room ≡ room_in k c u
+room_as k s u room c at e = subst (λ (x : Csid). room ≡ room_in k x u) e at.left
 
 -- in a full container after a NEXT SID
-stayed-next : (a n : Shape) (s t : ListSid) (u room q : ℕ) → Pair a n s t → a.csid ≡ Next → Stands None u room s
+stayed_next : (a n : Shape) (s t : ListSid) (u room q : ℕ) → Pair a n s t → a.csid ≡ Next → Stands None u room s
     → stay_room_by Next a room n ≡ Some q → Stayed None u q n s t
-stayed-next a n s t u room q p e at r =
+stayed_next a n s t u room q p e at r =
     let both = cond_some (same_block a.block n.block && nat_le (units_of n) room) (kept_room n.csid (room - units_of n)) q r in
     let parts = and_parts (same_block a.block n.block) (nat_le (units_of n) room) both.0 in
-    let some = both-blocks a.block n.block parts.0 in
+    let some = both_blocks a.block n.block parts.0 in
     let fit : units_of n ≤ room = leb-true (units_of n) room parts.1 in
-    let bits = bits-of a n s t p some.1 in
+    let bits = bits_of a n s t p some.1 in
     let kind : s.csid ≡ Next = p.flavour ∙ e in
-    let here : room ≡ (128 - u) / 16 = room-as None s u room Next at kind in
+    let here : room ≡ (128 - u) / 16 = room_as None s u room Next at kind in
     let within : u ≤ 128 = at.within in
-    let left = units-left u (csid_len t) (units_of n) room within bits here fit in
-    let fits : u + csid_len t ≤ 128 = units-fit u (csid_len t) (units_of n) room within bits here fit in
+    let left = units_left u (csid_len t) (units_of n) room within bits here fit in
+    let fits : u + csid_len t ≤ 128 = units_fit u (csid_len t) (units_of n) room within bits here fit in
     let value : kept_room n.csid (room - units_of n) ≡ q = both.1 in
     record {
       step = record { kind = kind; block = sym (p.same some.0 parts.0); fits = fits };
       stands = λ same.
-          let is = left-next a n s t u (room - units_of n) p e parts.0 left same n.csid refl in
+          let is = left_next a n s t u (room - units_of n) p e parts.0 left same n.csid refl in
           let moved : room_in None n.csid (u + csid_len t) ≡ room_in None t.csid (u + csid_len t) =
           ap (λ (c : Csid). room_in None c (u + csid_len t)) (sym same) in
           record { left = sym value ∙ is ∙ moved; within = fits; kind = tt };
     }
 
 -- in a REPLACE container
-stayed-replace : (a n : Shape) (s t : ListSid) (b : SidBlock) (u room q : ℕ) → Pair a n s t → a.csid ≡ Replace
+stayed_replace : (a n : Shape) (s t : ListSid) (b : SidBlock) (u room q : ℕ) → Pair a n s t → a.csid ≡ Replace
     → Stands (Some b) u room s → stay_room_by Replace a room n ≡ Some q → Stayed (Some b) u q n s t
-stayed-replace a n s t b u room q p e at r =
+stayed_replace a n s t b u room q p e at r =
     let both = cond_some (same_block a.block n.block && nat_le 1 room) (kept_room n.csid (room - 1)) q r in
     let parts = and_parts (same_block a.block n.block) (nat_le 1 room) both.0 in
-    let some = both-blocks a.block n.block parts.0 in
+    let some = both_blocks a.block n.block parts.0 in
     let fit : 1 ≤ room = leb-true 1 room parts.1 in
     let kind : s.csid ≡ Replace = p.flavour ∙ e in
-    let here : room ≡ limit (Some b) - u = room-as (Some b) s u room Replace at kind in
+    let here : room ≡ limit (Some b) - u = room_as (Some b) s u room Replace at kind in
     let fits : u + 1 ≤ limit (Some b) = omega (arith, here, fit) in
     let value : kept_room n.csid (room - 1) ≡ q = both.1 in
     let block : t.block ≡ s.block = sym (p.same some.0 parts.0) in
@@ -149,33 +150,33 @@ stayed-replace a n s t b u room q p e at r =
     record {
       step = record { kind = kind; block = block; fits = fits };
       stands = λ same.
-          let is = left-replace a n s t b u room p e parts.0 here n.csid refl in
+          let is = left_replace a n s t b u room p e parts.0 here n.csid refl in
           let moved : room_in (Some b) n.csid (u + 1) ≡ room_in (Some b) t.csid (u + 1) =
           ap (λ (c : Csid). room_in (Some b) c (u + 1)) (sym same) in
           record {
             left = sym value ∙ is ∙ moved;
             within = fits;
-            kind = (block ∙ own.0, λ h. not-next a n s t p e parts.0 (sym same ∙ h));
+            kind = (block ∙ own.0, λ h. not_next a n s t p e parts.0 (sym same ∙ h));
           };
     }
 
 -- no room is left in a full container after a REPLACE SID
-stays-no : (a n : Shape) (room q : ℕ) → room ≡ 0 → stay_room_by Replace a room n ≡ Some q → ⊥
-stays-no a n room q z r =
+stays_no : (a n : Shape) (room q : ℕ) → room ≡ 0 → stay_room_by Replace a room n ≡ Some q → ⊥
+stays_no a n room q z r =
     let both = cond_some (same_block a.block n.block && nat_le 1 room) (kept_room n.csid (room - 1)) q r in
     let parts = and_parts (same_block a.block n.block) (nat_le 1 room) both.0 in
     let fit : 1 ≤ room = leb-true 1 room parts.1 in
     omega (arith, z, fit)
 
-stayed-by : (k : Option SidBlock) (a n : Shape) (s t : ListSid) (u room q : ℕ) → Pair a n s t → Stands k u room s → (c : Csid)
+stayed_by : (k : Option SidBlock) (a n : Shape) (s t : ListSid) (u room q : ℕ) → Pair a n s t → Stands k u room s → (c : Csid)
     → a.csid ≡ c → stay_room_by c a room n ≡ Some q → Stayed k u q n s t
-stayed-by k a n s t u room q p at Plain e r = absurd (none-some q r)
-stayed-by None a n s t u room q p at Next e r = stayed-next a n s t u room q p e at r
-stayed-by (Some b) a n s t u room q p at Next e r = absurd (at.kind.1 (p.flavour ∙ e))
-stayed-by None a n s t u room q p at Replace e r =
-    absurd (stays-no a n room q (room-as None s u room Replace at (p.flavour ∙ e)) r)
-stayed-by (Some b) a n s t u room q p at Replace e r = stayed-replace a n s t b u room q p e at r
+stayed_by k a n s t u room q p at Plain e r = absurd (none-some q r)
+stayed_by None a n s t u room q p at Next e r = stayed_next a n s t u room q p e at r
+stayed_by (Some b) a n s t u room q p at Next e r = absurd (at.kind.1 (p.flavour ∙ e))
+stayed_by None a n s t u room q p at Replace e r =
+    absurd (stays_no a n room q (room_as None s u room Replace at (p.flavour ∙ e)) r)
+stayed_by (Some b) a n s t u room q p at Replace e r = stayed_replace a n s t b u room q p e at r
 
 pub stayed : (k : Option SidBlock) (a n : Shape) (s t : ListSid) (u room q : ℕ) → Pair a n s t → Stands k u room s
     → stay_room a room n ≡ Some q → Stayed k u q n s t
-stayed k a n s t u room q p at r = stayed-by k a n s t u room q p at a.csid refl r
+stayed k a n s t u room q p at r = stayed_by k a n s t u room q p at a.csid refl r

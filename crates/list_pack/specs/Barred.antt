@@ -1,9 +1,10 @@
--- What may not come directly after a SID in a full container: what the code of `is_legal` goes by (own rule).
+-- Need not be believed: helps proofs and other laws.
+-- What may not come directly after a SID in a full container: what the code of `is_legal` goes by.
 use Rattle.std.specs.Prelude.{◌≡◌, ◌+◌, Contains}
 use Rattle.v6_addr.specs.Address.{PrefixValue}
 use Rattle.srv6_rules.specs.declared.sid.SidEntry.{SidEntry}
 use Rattle.net_model.specs.Network.{Network}
-use Rattle.flat_networks.specs.Nests.{unit_at, IsNest}
+use Rattle.net_flatness.specs.Nests.{unit_at, IsNest}
 
 -- a SID is nested in the outer one, and has after it the bits that the next prefix has after the block
 pub record Bars (net : Network) (next : PrefixValue) (outer inner : SidEntry) : Type 0 where

@@ -1,10 +1,10 @@
--- Edges between states, and what paths cost (own rule).
-use Rattle.std.specs.Prelude.{◌≡◌, ℕ, ◌+◌, ◌<◌, ◌≤◌, Bool, false, not, ◌&&◌, if◌then◌else◌, List, [], ◌∷◌, Option, Some, None, IsTrue, Contains}
+-- Edges between states, and what paths cost.
+use Rattle.std.specs.Prelude.{◌≡◌, ℕ, ◌+◌, ◌≤◌, Bool, false, not, ◌&&◌, if◌then◌else◌, List, [], ◌∷◌, Option, Some, None, IsTrue, Contains}
 use Rattle.std.specs.Option.{option_map, option_and_then}
 use Rattle.list_pack.specs.declared.types.Cost.{Cost}
 use Rattle.list_pack.specs.declared.types.State.{State}
 use Rattle.list_pack.specs.declared.types.Leg.{Leg}
-use Rattle.list_pack.specs.Value.{LegsValue}
+use Rattle.list_pack.specs.LegsValue.{LegsValue}
 use Rattle.list_pack.specs.Rooms.{room_behind, top_room}
 
 -- the next SID of a path, and whether it stays in the container of the SID before it
@@ -22,17 +22,8 @@ pub record AtMost (a b : Cost) : Type 0 where
   pub containers : a.containers ≤ b.containers
   pub hops : a.containers ≡ b.containers → a.hops ≤ b.hops
 
--- a cost is below another
-pub record Below (a b : Cost) : Type 0 where
-  pub containers : a.containers ≤ b.containers
-  pub hops : a.containers ≡ b.containers → a.hops < b.hops
-
 abbrev pub plus : Cost → Cost → Cost
 plus a b = record { containers = a.containers + b.containers; hops = a.hops + b.hops }
-
--- the end is come to at no cost
-abbrev pub nothing : Cost
-nothing = record { containers = 0; hops = 0 }
 
 -- a new container costs one
 abbrev pub move_cost : Bool → ℕ → Cost

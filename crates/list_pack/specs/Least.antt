@@ -1,4 +1,4 @@
--- Least costs, potentials, the first least path, and what a search has to find (own rule).
+-- Least costs, potentials, the first least path, and what a search has to find.
 use Rattle.std.specs.Prelude.{◌≡◌, ℕ, Bool, false, if◌then◌else◌, List, [], ◌∷◌, map, Option, Some, None, IsTrue, Contains, AllPairs}
 use Rattle.std.specs.Option.{option_map}
 use Rattle.list_pack.specs.declared.types.Cost.{Cost}
@@ -6,8 +6,8 @@ use Rattle.list_pack.specs.declared.types.State.{State}
 use Rattle.list_pack.specs.declared.types.PathStep.{PathStep}
 use Rattle.list_pack.specs.declared.types.Potential.{Potential}
 use Rattle.list_pack.specs.declared.types.Solution.{Solution}
-use Rattle.list_pack.specs.Order.{lex_before}
-use Rattle.list_pack.specs.Value.{LegsValue}
+use Rattle.list_pack.specs.ListOrder.{lex_before}
+use Rattle.list_pack.specs.LegsValue.{LegsValue}
 use Rattle.list_pack.specs.Costs.{Move, Edge, plus, edge_of, last_of, cost_of, Under, start, IsState}
 
 -- some path from the state costs so much

@@ -1,10 +1,14 @@
-pub mod Order
-pub mod Value
+pub mod ListOrder
+pub mod LegsValue
+pub mod LegsValueTerms
 pub mod Rooms
 pub mod Costs
+pub mod CostsTerms
 pub mod Least
 pub mod SidLists
+pub mod SidListsTerms
 pub mod Paths
+pub mod PathsTerms
 pub mod PathLists
 pub mod Meaning
 pub mod SegmentValues

@@ -1,16 +1,19 @@
--- What legs mean: their paths are the legal lists of a network that realize what the legs are for (own rule).
+-- Need not be believed: helps proofs and other laws.
+-- What legs mean: their paths are the legal lists of a network that realize what the legs are for.
 use Rattle.std.specs.Prelude.{◌≡◌, ℕ, ◌<◌, ◌≤◌, List, length, map, slice_get, Some}
 use Rattle.srv6_rules.specs.declared.sid.SidEntry.{SidEntry}
 use Rattle.net_model.specs.Network.{Network}
-use Rattle.flat_networks.specs.Nests.{MayFollow}
+use Rattle.net_flatness.specs.Nests.{MayFollow}
 use Rattle.list_pack.specs.declared.types.Container.{Container}
 use Rattle.list_pack.specs.declared.types.Cost.{Cost}
 use Rattle.list_pack.specs.declared.types.PathStep.{PathStep}
 use Rattle.list_pack.specs.declared.types.Shape.{Shape}
-use Rattle.list_pack.specs.Value.{LegsValue, IsSid}
+use Rattle.list_pack.specs.LegsValue.{LegsValue}
+use Rattle.list_pack.specs.LegsValueTerms.{IsSid}
 use Rattle.list_pack.specs.Costs.{Move, cost_of, start}
 use Rattle.list_pack.specs.Least.{step_of}
-use Rattle.list_pack.specs.Paths.{cost_with, SuitsLists}
+use Rattle.list_pack.specs.Paths.{cost_with}
+use Rattle.list_pack.specs.PathsTerms.{SuitsLists}
 use Rattle.list_pack.specs.PathLists.{list_of, IsListOfPath}
 use Rattle.list_pack.specs.SidLists.{IsLegalList, block_at, list_sid, prefixes_in, steps_in}
 

@@ -1,11 +1,12 @@
+-- Need not be believed: helps proofs and other laws.
 -- Containers that are open: what SIDs take in them, and what may follow their last SID (RFC 9800 sections 6.2 to 6.4, and own rules).
 use Rattle.std.specs.Prelude.{◌≡◌, ℕ, ◌+◌, ◌≤◌, ◌==◌, Bool, true, false, ◌&&◌, nat_le, List, [], ◌∷◌, map, Option, Some, None}
 use Rattle.v6_addr.specs.Address.{PrefixValue}
 use Rattle.srv6_rules.specs.declared.sid.Csid.{Csid}
 use Rattle.srv6_rules.specs.declared.sid.Csid.TheVariants.{Plain, Next, Replace}
 use Rattle.srv6_rules.specs.Compressed.{csid_count}
-use Rattle.net_model.specs.Rules.{same_prefix}
-use Rattle.list_places.specs.Lists.{SidBlock, ListSid, Container, csid_len, csid_len_in, asked_behind, asked_behind_packed, Follow}
+use Rattle.net_model.specs.NetworkRules.{same_prefix}
+use Rattle.sid_list_spec.specs.SegmentLists.{SidBlock, ListSid, Container, csid_len, csid_len_in, asked_behind, asked_behind_packed, Follow}
 use Rattle.list_pack.specs.declared.types.Container as packs
 use Rattle.list_pack.specs.declared.types.Container.TheVariants.{Full, Packed}
 use Rattle.list_pack.specs.PathLists.{asked_after}

@@ -1,16 +1,18 @@
--- Paths of states as lists of containers: each step that opens a container makes one, of its SID and of those that stay in it (own rule).
+-- Need not be believed: helps proofs and other laws.
+-- Paths of states as lists of containers: each step that opens a container makes one, of its SID and of those that stay in it.
 use Rattle.std.specs.Prelude.{◌≡◌, ℕ, ◌+◌, if◌then◌else◌, List, [], ◌∷◌, ◌++◌, length, map, take, Option, Some, None, All}
 use Rattle.v6_addr.specs.Address.{PrefixValue}
 use Rattle.net_model.specs.Network.{Network}
-use Rattle.list_places.specs.Lists as lists
-use Rattle.list_places.specs.Lists.{ListSid, SidBlock, IsLegal, last_of, asked_behind, asked_behind_packed}
+use Rattle.sid_list_spec.specs.SegmentLists as lists
+use Rattle.sid_list_spec.specs.SegmentLists.{ListSid, SidBlock, IsLegal, last_of, asked_behind, asked_behind_packed}
 use Rattle.list_pack.specs.declared.types.PathStep.{PathStep}
 use Rattle.list_pack.specs.declared.types.Container.{Container}
 use Rattle.list_pack.specs.declared.types.Container.TheVariants.{Full, Packed}
-use Rattle.list_pack.specs.Value.{LegsValue}
+use Rattle.list_pack.specs.LegsValue.{LegsValue}
 use Rattle.list_pack.specs.Costs.{Move, cost_of, start}
 use Rattle.list_pack.specs.Least.{step_of}
-use Rattle.list_pack.specs.Paths.{sids_of_moves, cost_with}
+use Rattle.list_pack.specs.Paths.{cost_with}
+use Rattle.list_pack.specs.PathsTerms.{sids_of_moves}
 use Rattle.list_pack.specs.SidLists.{list_sid, list_in, prefixes_of, steps_in, KeepsNests}
 
 -- a container of prefixes, with the SIDs that the prefixes are

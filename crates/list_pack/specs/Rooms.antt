@@ -4,7 +4,7 @@ use Rattle.std.specs.Prelude.{ℕ, zero, suc, ◌-◌, ◌/◌, Bool, true, fals
 use Rattle.srv6_rules.specs.declared.sid.Csid.{Csid}
 use Rattle.srv6_rules.specs.declared.sid.Csid.TheVariants.{Plain, Next, Replace}
 use Rattle.list_pack.specs.declared.types.Shape.{Shape}
-use Rattle.list_pack.specs.Value.{units_of, same_block}
+use Rattle.list_pack.specs.LegsValue.{units_of, same_block}
 
 -- how many CSIDs as long as the SID's own stand in 16 bytes
 abbrev pub csids_of : Shape → ℕ

@@ -1,9 +1,10 @@
+-- Need not be believed: helps proofs and other laws.
 -- What the values of containers are made from (RFC 9800 section 4).
 use Rattle.std.specs.Prelude.{◌≡◌, ℕ, ◌+◌, ◌-◌, ◌<◌, ◌≤◌, List, [], ◌∷◌}
 use Rattle.v6_addr.specs.Address.{PrefixValue}
 use Rattle.v6_addr.specs.declared.address.Addr.{Addr}
-use Rattle.list_places.specs.Lists.{Container}
-use Rattle.list_places.specs.Places.{entered, IsPlace}
+use Rattle.sid_list_spec.specs.SegmentLists.{Container}
+use Rattle.sid_list_theory.specs.ListPlaces.{entered, IsPlace}
 
 abbrev pub addr_value : Addr → ℕ
 addr_value a = a.value

@@ -1,6 +1,6 @@
 -- Segment lists of a network's SIDs: containers of their prefixes, and which lists are legal (own profile of RFC 9800 sections 6.2 to 6.4).
-use Rattle.std.specs.Prelude.{◌≡◌, ℕ, Bool, true, false, ◌==◌, if◌then◌else◌, length, List, [], ◌∷◌, map, position, slice_get, Option, Some, All}
-use Rattle.std.specs.List.{filter, flat_map, list_any}
+use Rattle.std.specs.Prelude.{◌≡◌, ℕ, true, false, ◌==◌, if◌then◌else◌, length, List, [], ◌∷◌, map, position, slice_get, Option, Some, All}
+use Rattle.std.specs.List.{filter, flat_map}
 use Rattle.std.specs.Option.{option_map}
 use Rattle.v6_addr.specs.Address.{PrefixValue, is_inside}
 use Rattle.srv6_rules.specs.declared.sid.Csid.{Csid}
@@ -11,11 +11,10 @@ use Rattle.net_model.specs.declared.parts.Block.{Block}
 use Rattle.net_model.specs.declared.parts.BlockKind.{BlockKind}
 use Rattle.net_model.specs.declared.parts.BlockKind.TheVariants as kinds
 use Rattle.net_model.specs.Network.{Network}
-use Rattle.net_model.specs.Rules.{same_prefix, block_of}
-use Rattle.list_places.specs.Lists as lists
-use Rattle.list_places.specs.Lists.{ListSid, SidBlock, IsLegal, IsFlatSid, values_of}
-use Rattle.list_places.specs.Places.{StandsOn}
-use Rattle.flat_networks.specs.Nests.{MayFollow}
+use Rattle.net_model.specs.NetworkRules.{same_prefix, block_of}
+use Rattle.sid_list_spec.specs.SegmentLists as lists
+use Rattle.sid_list_spec.specs.SegmentLists.{ListSid, SidBlock, IsLegal, values_of}
+use Rattle.net_flatness.specs.Nests.{MayFollow}
 use Rattle.list_pack.specs.declared.types.PathStep.{PathStep}
 use Rattle.list_pack.specs.declared.types.Container.{Container}
 use Rattle.list_pack.specs.declared.types.Container.TheVariants as containers
@@ -63,11 +62,6 @@ list_sid net p = record { prefix = p; block = option_map sid_block (block_of net
 abbrev pub block_at : List Block → PrefixValue → Option ℕ
 block_at blocks p = position (λ b. is_inside p b.prefix) blocks
 
--- each SID of the network stands on its prefix as lists know it, and that is as a flat network has it
-pub record AreListSids (net : Network) : Type 0 where
-  pub flat : (n : ℕ) (s : SidEntry) → slice_get net.sids n ≡ Some s → IsFlatSid (list_sid net s.prefix)
-  pub stands : (n : ℕ) (s : SidEntry) → slice_get net.sids n ≡ Some s → StandsOn s (list_sid net s.prefix)
-
 -- ---- lists
 
 -- a container of prefixes, with the SIDs that the prefixes are
@@ -89,10 +83,6 @@ prefixes_in list = flat_map prefixes_of list
 -- a prefix is that of a SID of the network
 abbrev pub IsSidPrefix : Network → PrefixValue → Type 0
 IsSidPrefix net p = (n : ℕ) × (s : SidEntry) × (slice_get net.sids n ≡ Some s) × (s.prefix ≡ p)
-
--- the same as a test
-abbrev pub is_named : Network → PrefixValue → Bool
-is_named net p = list_any (λ s. same_prefix s.prefix p) net.sids
 
 -- prefixes of which each may come directly after the one before it
 abbrev pub FollowOn : (PrefixValue → PrefixValue → Type 0) → PrefixValue → List PrefixValue → Type 0

@@ -1,19 +1,20 @@
 //! Costs compared and added, and the order of the steps of paths.
 
 ghost use Rattle.std.specs.Prelude.{◌≡◌, ◌+◌, ◌^◌, ◌<◌, [], ◌∷◌, MatchBool};
-ghost use Rattle.list_pack.specs.Costs.{AtMost, Below, plus, move_cost};
+ghost use Rattle.list_pack.specs.Costs.{AtMost, plus, move_cost};
+ghost use Rattle.list_pack.specs.CostsTerms.{Below};
 ghost use Rattle.list_pack.specs.Least.{path_before};
 
 use crate::types::{Cost, PathStep};
 
-/// Whether a cost is below another: by containers first, then by hops. (own rule)
+/// Whether a cost is below another: by containers first, then by hops.
 pub fn is_below(a: Cost, b: Cost) -> bool
     ensures { MatchBool result (Below a b) (AtMost b a) }
 {
     a.containers < b.containers || (a.containers == b.containers && a.hops < b.hops)
 }
 
-/// The sum of two costs, whose sums fit 32 bits. (own rule)
+/// The sum of two costs, whose sums fit 32 bits.
 pub fn plus(a: Cost, b: Cost) -> Cost
     requires containers { a.containers + b.containers < 2 ^ 32 }
     requires hops { a.hops + b.hops < 2 ^ 32 }
@@ -26,7 +27,7 @@ pub fn plus(a: Cost, b: Cost) -> Cost
 }
 
 /// What a SID of a path costs that is come to with so many lowerings: a container where it opens a
-/// new one. (own rule)
+/// new one.
 pub fn move_cost(stays: bool, hops: u32) -> Cost
     ensures { result ≡ move_cost stays hops }
 {
@@ -37,7 +38,7 @@ pub fn move_cost(stays: bool, hops: u32) -> Cost
 }
 
 /// Whether a step comes before another in the order of paths: the lower prefix value first, then
-/// the lower length, then staying in the container before a new one. (own rule)
+/// the lower length, then staying in the container before a new one.
 pub fn step_before(a: &PathStep, b: &PathStep) -> bool
     ensures { result ≡ path_before (a.now ∷ []) (b.now ∷ []) }
 {

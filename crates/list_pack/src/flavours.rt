@@ -2,22 +2,22 @@
 
 ghost use Rattle.std.specs.Prelude.{◌≡◌, ◌<◌, ◌==◌, ◌&&◌, not, length, IfSome};
 ghost use Rattle.srv6_rules.specs.Behaviours.{goes_on};
-ghost use Rattle.net_model.specs.Rules as rules;
-ghost use Rattle.list_pack.specs.Value.{is_compressed};
+ghost use Rattle.net_model.specs.NetworkRules as rules;
+ghost use Rattle.list_pack.specs.LegsValueTerms.{is_compressed};
 ghost use Rattle.list_pack.specs.SidLists.{csid_among, on_prefix, going_on, prefix_csid};
 
 use net_model::{Block, Net};
 use srv6_rules::{Csid, SidEntry};
 use v6_addr::Prefix;
 
-/// both are one prefix
+/// Both are one prefix
 pub(crate) fn same_prefix(a: &Prefix, b: &Prefix) -> bool
     ensures { result ≡ rules.same_prefix a.now b.now }
 {
     a.value().value == b.value().value && a.len() == b.len()
 }
 
-/// whether a flavour is one of compressed SIDs
+/// Whether a flavour is one of compressed SIDs
 fn is_compressed(csid: Csid) -> bool
     ensures { result ≡ is_compressed csid }
 {
@@ -27,14 +27,14 @@ fn is_compressed(csid: Csid) -> bool
     }
 }
 
-/// whether a SID stands on a prefix, and a packet goes on from it
+/// Whether a SID stands on a prefix, and a packet goes on from it
 fn goes_on_at(s: &SidEntry, prefix: &Prefix) -> bool
     ensures { result ≡ (rules.same_prefix s.now.prefix prefix.now && goes_on s.now) }
 {
     same_prefix(&s.prefix, prefix) && s.goes_on()
 }
 
-/// whether it also has a flavour
+/// Whether it also has a flavour
 fn flavours_going_on(s: &SidEntry, prefix: &Prefix) -> bool
     ensures { result ≡ (rules.same_prefix s.now.prefix prefix.now
         && (goes_on s.now && is_compressed s.now.csid)) }
@@ -42,14 +42,14 @@ fn flavours_going_on(s: &SidEntry, prefix: &Prefix) -> bool
     same_prefix(&s.prefix, prefix) && s.goes_on() && is_compressed(s.csid)
 }
 
-/// whether a SID stands on a prefix and has a flavour
+/// Whether a SID stands on a prefix and has a flavour
 fn flavours(s: &SidEntry, prefix: &Prefix) -> bool
     ensures { result ≡ (rules.same_prefix s.now.prefix prefix.now && is_compressed s.now.csid) }
 {
     same_prefix(&s.prefix, prefix) && is_compressed(s.csid)
 }
 
-/// whether a packet goes on to a next segment from some SID on a prefix
+/// Whether a packet goes on to a next segment from some SID on a prefix
 fn one_goes_on(net: &Net, prefix: &Prefix) -> bool
     ensures { result ≡ not (length (going_on (on_prefix net.now.sids prefix.now)) == 0) }
 {
@@ -62,7 +62,7 @@ fn one_goes_on(net: &Net, prefix: &Prefix) -> bool
     false
 }
 
-/// the first flavour of a SID on a prefix from which packets go on
+/// The first flavour of a SID on a prefix from which packets go on
 fn flavour_going_on(net: &Net, prefix: &Prefix) -> Csid
     ensures { result ≡ csid_among (going_on (on_prefix net.now.sids prefix.now)) }
 {
@@ -75,7 +75,7 @@ fn flavour_going_on(net: &Net, prefix: &Prefix) -> Csid
     Csid::Plain
 }
 
-/// the first flavour of a SID on a prefix
+/// The first flavour of a SID on a prefix
 fn flavour_of_any(net: &Net, prefix: &Prefix) -> Csid
     ensures { result ≡ csid_among (on_prefix net.now.sids prefix.now) }
 {
@@ -100,7 +100,7 @@ pub fn flavour_of(net: &Net, prefix: &Prefix) -> Csid
     }
 }
 
-/// the block that a prefix lies strictly inside
+/// The block that a prefix lies strictly inside
 pub(crate) fn block_of(net: &Net, prefix: &Prefix) -> Option<Block>
     ensures value { result ≡ rules.block_of net.now.blocks prefix.now }
     ensures sized { IfSome result (λ b. 0 < b.csid) }

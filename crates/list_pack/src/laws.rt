@@ -4,22 +4,24 @@
 ghost use Rattle.std.specs.Prelude.{◌≡◌, ◌<◌, ℕ, List, Option, Some, None, All, length, map, take};
 ghost use Rattle.list_pack.specs.declared.types.Cost.{Cost};
 ghost use Rattle.list_pack.specs.declared.types.State.{State};
-ghost use Rattle.list_pack.specs.Value.{LegsValue, KeepsLaws};
+ghost use Rattle.list_pack.specs.LegsValue.{LegsValue};
+ghost use Rattle.list_pack.specs.LegsValueTerms.{KeepsLaws};
 ghost use Rattle.list_pack.specs.Costs.{Move, cost_of, start, IsState};
 ghost use Rattle.list_pack.specs.Least.{IsLeast, IsGoodAt, IsSolution, step_of};
 ghost use Rattle.list_pack.specs.declared.types.Solution.{Solution};
 ghost use Rattle.net_model.specs.Network.{Network};
-ghost use Rattle.list_places.specs.Lists.{IsLegal};
+ghost use Rattle.sid_list_spec.specs.SegmentLists.{IsLegal};
 ghost use Rattle.list_pack.specs.declared.types.Container.{Container};
-ghost use Rattle.flat_networks.specs.Flat.{IsFlat};
-ghost use Rattle.flat_networks.specs.Nests.{MayFollow};
-ghost use Rattle.net_model.specs.Rules.{IsNetwork};
-ghost use Rattle.list_pack.specs.SidLists.{AreListSids, KeepsNests, list_sid, list_in, prefixes_in, steps_in};
-ghost use Rattle.list_pack.specs.Paths.{hops_of, sids_of_moves, opened, split_cost, SuitsLists};
+ghost use Rattle.net_flatness.specs.Flat.{IsFlat};
+ghost use Rattle.net_flatness.specs.Nests.{MayFollow};
+ghost use Rattle.net_model.specs.NetworkRulesTerms.{IsNetwork};
+ghost use Rattle.list_pack.specs.SidLists.{KeepsNests, list_sid, list_in, prefixes_in, steps_in};
+ghost use Rattle.list_pack.specs.SidListsTerms.{AreListSids};
+ghost use Rattle.list_pack.specs.PathsTerms.{hops_of, sids_of_moves, opened, split_cost, SuitsLists};
 ghost use Rattle.list_pack.specs.PathLists.{IsListOfPath, before_last, IsPathAlong, list_of};
 
 /// Where potentials are good at all states, a path whose cost is the potential of the state that it
-/// starts from is a least one: its edges are tight. (own rule)
+/// starts from is a least one: its edges are tight.
 pub fn a_path_of_tight_edges_is_least()
     ensures { (v : LegsValue) (p : State → Option Cost) (s : State) (moves : List Move) (c : Cost) →
         KeepsLaws v →
@@ -28,7 +30,6 @@ pub fn a_path_of_tight_edges_is_least()
 {}
 
 /// Where potentials are good at all states, no path leads from a state without one to the end.
-/// (own rule)
 pub fn unlisted_states_have_no_path()
     ensures { (v : LegsValue) (p : State → Option Cost) (s : State) (moves : List Move) →
         KeepsLaws v →
@@ -36,7 +37,7 @@ pub fn unlisted_states_have_no_path()
         p s ≡ None → cost_of v s moves ≡ None }
 {}
 
-/// Potentials that are the least costs of all states are good at all states. (own rule)
+/// Potentials that are the least costs of all states are good at all states.
 pub fn least_costs_are_good()
     ensures { (v : LegsValue) (p : State → Option Cost) (s : State) → KeepsLaws v →
         ((t : State) → IsState v t → IsLeast v t (p t)) → IsState v s → IsGoodAt v p s }
@@ -44,7 +45,7 @@ pub fn least_costs_are_good()
 
 /// A path's cost is told by rooms and legs apart: it has one exactly where each SID can stand as
 /// its move says and its legs lead to a finish; it costs as many containers as moves open, and the
-/// hops of the legs. (own rule)
+/// hops of the legs.
 pub fn a_cost_is_containers_and_hops()
     ensures splits { (v : LegsValue) (s : State) (moves : List Move) →
         cost_of v s moves ≡ split_cost v s.position s.via s.room moves }
@@ -75,7 +76,7 @@ pub fn a_legal_list_is_a_path()
 {}
 
 /// What a search has to find is one: which states are listed, in what order and with what costs,
-/// and the first least path. (own rule)
+/// and the first least path.
 pub fn a_search_has_one_solution()
     ensures { (v : LegsValue) (s t : Solution) → IsSolution v s → IsSolution v t → s ≡ t }
 {}

@@ -12,9 +12,9 @@
 //! tells whether a list is legal in a network, `flavour_of` how the SIDs on a prefix are
 //! compressed, and `header_bytes` how many bytes of headers a list takes.
 //!
-//! `specs/Value.antt` has legs and their laws, `specs/Meaning.antt` what it is that legs mean
+//! `specs/LegsValue.antt` has legs and their laws, `specs/Meaning.antt` what it is that legs mean
 //! lists, `specs/Rooms.antt` the rooms of containers (RFC 9800 sections 4.1 and 4.2),
-//! `specs/Costs.antt` edges and costs, `specs/Order.antt` the order of lists of numbers,
+//! `specs/Costs.antt` edges and costs, `specs/ListOrder.antt` the order of lists of numbers,
 //! `specs/Least.antt` what a least cost, a good potential, the first least path and a whole
 //! solution are. `specs/SidLists.antt` has the lists of a network's prefixes and which are legal,
 //! `specs/PathLists.antt` the list of a path, `specs/Paths.antt` a path's cost by rooms and legs
@@ -28,9 +28,9 @@ mod flavours;
 mod laws;
 mod legs;
 mod lists;
-mod nests;
+mod nest_units;
 mod rooms;
-mod rules;
+mod search_rules;
 mod segments;
 mod types;
 
@@ -44,7 +44,7 @@ pub use laws::{
 pub use legs::{Legs, ListLegs};
 pub use lists::{header_bytes, list_of};
 pub use rooms::{full_room, room_behind, top_room};
-pub use rules::is_legal;
+pub use search_rules::is_legal;
 pub use segments::values;
 pub use types::{
     Container, Cost, Leg, PathStep, Potential, Prefixes, Shape, SidList, Solution, State,

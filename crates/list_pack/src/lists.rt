@@ -6,7 +6,7 @@ ghost use Rattle.v6_addr.specs.Address.{PrefixValue};
 ghost use Rattle.srv6_rules.specs.Compressed.{csid_count};
 ghost use Rattle.srv6_rules.specs.Encapsulation as encapsulation;
 ghost use Rattle.net_model.specs.declared.parts.Block.{Block};
-ghost use Rattle.list_places.specs.Lists as lists;
+ghost use Rattle.sid_list_spec.specs.SegmentLists as lists;
 ghost use Rattle.list_pack.specs.SidLists.{list_sid, sid_block};
 ghost use Rattle.list_pack.specs.PathLists as paths;
 
@@ -35,7 +35,7 @@ pub fn header_bytes(containers: u32, reduced: bool) -> u64
     }
 }
 
-/// how many CSIDs of a block a REPLACE container holds
+/// How many CSIDs of a block a REPLACE container holds
 pub(crate) fn csids_of(block: &Block) -> u8
     requires { 0 < block.now.csid }
     ensures { result ≡ csid_count block.now.csid }
@@ -43,7 +43,7 @@ pub(crate) fn csids_of(block: &Block) -> u8
     128 / block.csid
 }
 
-/// the block whose REPLACE container has to follow after a SID, if one has to
+/// The block whose REPLACE container has to follow after a SID, if one has to
 pub(crate) fn asked_behind(net: &Net, last: &Prefix) -> Option<Block>
     ensures value { option_map sid_block result ≡ lists.asked_behind (list_sid net.now last.now) }
     ensures sized { IfSome result (λ b. 0 < b.csid) }
@@ -54,7 +54,7 @@ pub(crate) fn asked_behind(net: &Net, last: &Prefix) -> Option<Block>
     }
 }
 
-/// the last prefix of a container
+/// The last prefix of a container
 fn last_of(first: &Prefix, more: &[Prefix]) -> Prefix
     ensures { (sid_on : PrefixValue → lists.ListSid) →
         lists.last_of (sid_on first.now) (map sid_on more.now) ≡ sid_on result }
@@ -65,7 +65,7 @@ fn last_of(first: &Prefix, more: &[Prefix]) -> Prefix
     }
 }
 
-/// the block whose REPLACE container has to follow a container, if one has to
+/// The block whose REPLACE container has to follow a container, if one has to
 pub(crate) fn asked_after(
     net: &Net,
     asked: &Option<Block>,
@@ -91,7 +91,7 @@ pub(crate) fn asked_after(
     }
 }
 
-/// the prefixes of the steps that stay, up to the first that opens a container
+/// The prefixes of the steps that stay, up to the first that opens a container
 fn staying(alloc: Global, path: &[PathStep]) -> Result<Vec<Prefix>, NoMemory>
     ensures { IfOk result (λ prefixes. prefixes.items ≡ paths.staying path.now) }
 {
@@ -105,7 +105,7 @@ fn staying(alloc: Global, path: &[PathStep]) -> Result<Vec<Prefix>, NoMemory>
     Ok(prefixes)
 }
 
-/// a REPLACE container where one has to come, else a full one
+/// A REPLACE container where one has to come, else a full one
 fn container_as(asked: &Option<Block>, first: Prefix, more: Vec<Prefix>) -> Container
     ensures { result ≡ paths.container_as (option_map sid_block asked.now) first more.items }
 {

@@ -1,13 +1,14 @@
 //! The room that is left in a container after a SID.
 
 ghost use Rattle.std.specs.Prelude.{◌≡◌};
-ghost use Rattle.list_pack.specs.Value.{IsShape, same_block, units_of};
+ghost use Rattle.list_pack.specs.LegsValue.{same_block, units_of};
+ghost use Rattle.list_pack.specs.LegsValueTerms.{IsShape};
 ghost use Rattle.list_pack.specs.Rooms.{full_room, packed_room, kept_room, stay_room, new_room, room_behind, top_room};
 
 use crate::types::Shape;
 use srv6_rules::Csid;
 
-/// both lie in one block
+/// Both lie in one block
 fn same_block(a: Option<u32>, b: Option<u32>) -> bool
     ensures { result ≡ same_block a b }
 {
@@ -17,7 +18,7 @@ fn same_block(a: Option<u32>, b: Option<u32>) -> bool
     }
 }
 
-/// how many 16-bit units the prefix has after the bits of its block
+/// How many 16-bit units the prefix has after the bits of its block
 fn units_of(shape: &Shape) -> u8
     requires { IsShape shape.now }
     ensures { result ≡ units_of shape.now }
@@ -37,7 +38,7 @@ pub fn full_room(shape: &Shape) -> u8
     }
 }
 
-/// the room after a SID that opens a REPLACE container (RFC 9800 section 4.2): the CSIDs that
+/// The room after a SID that opens a REPLACE container (RFC 9800 section 4.2): the CSIDs that
 /// follow its own
 fn packed_room(shape: &Shape) -> u8
     requires { IsShape shape.now }
@@ -62,7 +63,7 @@ pub fn top_room(shape: &Shape) -> u8
     }
 }
 
-/// what is left after a SID that may hold further ones
+/// What is left after a SID that may hold further ones
 fn kept_room(csid: Csid, left: u8) -> u8
     ensures { result ≡ kept_room csid left }
 {
@@ -72,7 +73,7 @@ fn kept_room(csid: Csid, left: u8) -> u8
     }
 }
 
-/// the room after the next SID in the same container, where it may stand there
+/// The room after the next SID in the same container, where it may stand there
 fn stay_room(from: &Shape, room: u8, next: &Shape) -> Option<u8>
     requires { IsShape next.now }
     ensures { result ≡ stay_room from.now room next.now }
@@ -89,7 +90,7 @@ fn stay_room(from: &Shape, room: u8, next: &Shape) -> Option<u8>
     }
 }
 
-/// the room after the next SID in a new container, where it may open one
+/// The room after the next SID in a new container, where it may open one
 fn new_room(from: &Shape, room: u8, next: &Shape) -> Option<u8>
     requires { IsShape next.now }
     ensures { result ≡ new_room from.now room next.now }

@@ -3,8 +3,10 @@
 ghost use Rattle.std.specs.Prelude.{◌≡◌, ◌+◌, ◌-◌, ◌*◌, ◌^◌, ◌<◌, ◌≤◌, ◌∷◌, length, map, IfOk};
 ghost use Rattle.std.specs.Option.{option_map};
 ghost use Rattle.v6_addr.specs.declared.address.Addr as addresses;
-ghost use Rattle.srv6_rules.specs.Compressed.{IsCsidLen, csid_of, csid_count, container_of, packed_entry};
-ghost use Rattle.list_places.specs.Lists.{IsFlatList, block_len, value_of};
+ghost use Rattle.srv6_rules.specs.Compressed.{csid_of, csid_count, container_of, packed_entry};
+ghost use Rattle.srv6_rules.specs.CompressedTerms.{IsCsidLen};
+ghost use Rattle.sid_list_spec.specs.SegmentLists.{block_len, value_of};
+ghost use Rattle.sid_list_theory.specs.SegmentListsTerms.{IsFlatList};
 ghost use Rattle.list_pack.specs.SidLists.{IsLegalList, container_in, list_in, list_values, sid_block};
 ghost use Rattle.list_pack.specs.SegmentValues.{FitBehind, HaveCsids, IsValued, addr_value};
 
@@ -16,7 +18,7 @@ use net_model::{Block, Net};
 use std::alloc::Global;
 use v6_addr::{Addr, Prefix, field, with_field};
 
-/// the bits of a block; 0 where there is none
+/// The bits of a block; 0 where there is none
 fn block_bits(block: &Option<Block>) -> u8
     ensures { result ≡ block_len (option_map sid_block block.now) }
 {
@@ -26,7 +28,7 @@ fn block_bits(block: &Option<Block>) -> u8
     }
 }
 
-/// a full container: the first SID, and directly after it the CSIDs of the others
+/// A full container: the first SID, and directly after it the CSIDs of the others
 fn full_value(block_bits: u8, first: &Prefix, more: &[Prefix]) -> Addr
     requires { FitBehind block_bits first.now.len more.now }
     ensures { result.value ≡ container_of block_bits (first.now ∷ more.now) }
@@ -41,7 +43,7 @@ fn full_value(block_bits: u8, first: &Prefix, more: &[Prefix]) -> Addr
     value
 }
 
-/// an entry with the CSID of a SID put in front of the bits that are left after it
+/// An entry with the CSID of a SID put in front of the bits that are left after it
 fn with_csid(entry: Addr, block: &Block, behind: u8, sid: &Prefix) -> Addr
     requires some { 0 < block.now.csid }
     requires fits { behind + block.now.csid ≤ 128 }
@@ -54,7 +56,7 @@ fn with_csid(entry: Addr, block: &Block, behind: u8, sid: &Prefix) -> Addr
     with_field(entry, 128 - behind - block.csid, block.csid, csid)
 }
 
-/// a REPLACE container: the CSIDs of its SIDs, the first at the greatest index
+/// A REPLACE container: the CSIDs of its SIDs, the first at the greatest index
 fn packed_value(block: &Block, first: &Prefix, more: &[Prefix]) -> Addr
     requires csid { IsCsidLen block.now.csid }
     requires long { HaveCsids block.now.prefix.len block.now.csid (first.now ∷ more.now) }
@@ -72,7 +74,7 @@ fn packed_value(block: &Block, first: &Prefix, more: &[Prefix]) -> Addr
     value
 }
 
-/// the value of a container
+/// The value of a container
 fn value_of(net: &Net, container: &Container) -> Addr
     requires { IsValued (container_in net.now container.now) }
     ensures { result.value ≡ value_of (container_in net.now container.now) }

@@ -4,7 +4,7 @@ use base::Seq;
 use srv6_rules::Csid;
 use v6_addr::Prefix;
 
-/// A state of the search for a list of SIDs. (own rule)
+/// A state of the search for a list of SIDs.
 #[derive(Clone, Copy, Debug, PartialEq, Eq)]
 pub struct State {
     /// How many steps of the intent are done.
@@ -16,7 +16,7 @@ pub struct State {
     pub room: u8,
 }
 
-/// What a path of states costs. Costs are compared by containers, then by hops. (own rule)
+/// What a path of states costs. Costs are compared by containers, then by hops.
 #[derive(Clone, Copy, Debug, PartialEq, Eq)]
 pub struct Cost {
     /// How many containers of 16 bytes the list has.
@@ -25,7 +25,7 @@ pub struct Cost {
     pub hops: u32,
 }
 
-/// What a SID is to the search. (own rule)
+/// What a SID is to the search.
 #[derive(Clone, Copy, Debug, PartialEq, Eq)]
 pub struct Shape {
     /// The SID's prefix: the bits of its locator and function.
@@ -42,7 +42,7 @@ pub struct Shape {
     pub middle: bool,
 }
 
-/// A way from the execution of one SID to that of the next. (own rule)
+/// A way from the execution of one SID to that of the next.
 #[derive(Clone, Copy, Debug, PartialEq, Eq)]
 pub struct Leg {
     /// How many steps of the intent are done after it.
@@ -51,7 +51,7 @@ pub struct Leg {
     pub hops: u32,
 }
 
-/// A SID of a list: in the container of the SID before it, or the first of a new one. (own rule)
+/// A SID of a list: in the container of the SID before it, or the first of a new one.
 #[derive(Clone, Copy, Debug, PartialEq, Eq)]
 pub struct PathStep {
     /// Whether it stands in the container of the SID before it.
@@ -60,7 +60,7 @@ pub struct PathStep {
     pub prefix: Prefix,
 }
 
-/// The least cost from a state to the end. (own rule)
+/// The least cost from a state to the end.
 #[derive(Clone, Copy, Debug, PartialEq, Eq)]
 pub struct Potential {
     /// The state.
@@ -69,7 +69,7 @@ pub struct Potential {
     pub cost: Cost,
 }
 
-/// What a search found. (own rule)
+/// What a search found.
 #[derive(Debug, Drop)]
 pub struct Solution {
     /// The potentials of the states from which a path leads to the end, in order.

@@ -1,9 +1,9 @@
 //! Tables of strict legs, of positions, SIDs and numbers that there aren't too.
 
-use flat_networks::compilable;
 use intent_reader::read_intent;
 use leg_table::StrictLegs;
 use list_pack::{Legs, Shape};
+use net_flatness::compilable;
 use net_reader::read_net;
 use srv6_rules::Csid;
 use std::alloc::Global;
@@ -29,7 +29,7 @@ mode = "reduced"
 step = [{ links = ["ab"] }, { links = ["bc1"] }, { links = ["cd"] }, { function = "vpn" }]
 "#;
 
-/// two nodes that route a SID of a third to each other, and that have a SID of one prefix
+/// Two nodes that route a SID of a third to each other, and that have a SID of one prefix
 const LOOP: &str = r#"
 node = [
     { name = "A", address = "2001:db8::a" },
@@ -60,7 +60,7 @@ mode = "full"
 step = [{ links = ["ab"] }, { links = ["ba"] }, { function = "vpn" }]
 "#;
 
-/// the same row with a SID of each kind: at B an End with PSP, an End.X, an End.T with a table of its
+/// The same row with a SID of each kind: at B an End with PSP, an End.X, an End.T with a table of its
 /// own and one that binds a policy; at D an End, an End with USD and those that decapsulate
 const KINDS: &str = r#"
 node = [
@@ -104,7 +104,7 @@ source = "2001:db8::a"
 mode = "reduced"
 step = [{ links = ["ab"] }, { links = ["bc1"] }, { links = ["cd"] }, { function = "#;
 
-/// a block of NEXT SIDs after one of REPLACE; 4 decapsulates
+/// A block of NEXT SIDs after one of REPLACE; 4 decapsulates
 const NEXT: &str = r#"
 block = [
   { prefix = "fd00::/16", kind = "replace", csid = 16 },
@@ -149,7 +149,7 @@ struct Want<'a> {
     shapes: &'a [(u32, usize, (Option<u32>, u8, Csid, bool))],
 }
 
-/// nothing is asked
+/// Nothing is asked
 const NOTHING: Want<'static> = Want {
     sids: &[],
     legs: &[],
@@ -158,7 +158,7 @@ const NOTHING: Want<'static> = Want {
     shapes: &[],
 };
 
-/// the leg, as two numbers
+/// The leg, as two numbers
 fn leg_of<L: Legs>(legs: &L, position: u32, via: Option<u32>, next: u32) -> Option<(u32, u32)> {
     match legs.leg(position, via, next) {
         Some(leg) => Some((leg.to, leg.hops)),
@@ -166,7 +166,7 @@ fn leg_of<L: Legs>(legs: &L, position: u32, via: Option<u32>, next: u32) -> Opti
     }
 }
 
-/// the shape of a SID of a position, by its place there
+/// The shape of a SID of a position, by its place there
 fn shape_at<L: Legs>(rt: &impl Abort, legs: &L, position: u32, place: usize) -> Shape {
     assert!(rt; position <= legs.steps());
     let sids = legs.sids_at(position);
@@ -175,7 +175,7 @@ fn shape_at<L: Legs>(rt: &impl Abort, legs: &L, position: u32, place: usize) -> 
     legs.shape(sid)
 }
 
-/// whether a SID of a position may come directly after another in its container, by their places
+/// Whether a SID of a position may come directly after another in its container, by their places
 fn stays_at<L: Legs>(rt: &impl Abort, legs: &L, position: u32, place: usize, next: usize) -> bool {
     assert!(rt; position <= legs.steps());
     let sids = legs.sids_at(position);
@@ -190,7 +190,7 @@ fn assert_sids<L: Legs>(rt: &impl Abort, legs: &L, position: u32, want: &[u32]) 
     assert!(rt; legs.sids_at(position) == want, "at {position}");
 }
 
-/// legs answer so
+/// Legs answer so
 fn assert_answers<L: Legs>(rt: &impl Abort, legs: &L, want: &Want<'_>) {
     for (position, sids) in want.sids {
         assert_sids(rt, legs, *position, *sids);
@@ -226,7 +226,7 @@ fn assert_answers<L: Legs>(rt: &impl Abort, legs: &L, want: &Want<'_>) {
     }
 }
 
-/// the legs of an intent in a network, of these texts, answer so
+/// The legs of an intent in a network, of these texts, answer so
 fn assert_legs(
     rt: &impl Abort,
     alloc: Global,
@@ -303,7 +303,7 @@ fn legs_of_kinds(rt: HostRuntime) -> Result<(), Fail> {
             // one of two equal next hops is outside the step, but in the table of End.T there is one
             (1, Some(0), 4, None),
             (1, Some(2), 4, Some((3, 2))),
-            // to and from a SID that binds a policy
+            // to and from a binding SID
             (0, None, 3, None),
             (1, Some(3), 4, None),
             // a function counts once
@@ -315,7 +315,7 @@ fn legs_of_kinds(rt: HostRuntime) -> Result<(), Fail> {
     assert_legs(&rt, rt.alloc(), KINDS, intent.as_str(), &want)
 }
 
-/// a SID that ends the walk of a family does so at its position alone, and no other does
+/// A SID that ends the walk of a family does so at its position alone, and no other does
 fn assert_end(
     rt: &impl Abort,
     alloc: Global,

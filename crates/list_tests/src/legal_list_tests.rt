@@ -2,8 +2,8 @@
 
 ghost use Rattle.std.specs.Prelude.{◌≡◌, []};
 
-use flat_networks::compilable;
 use list_pack::{PathStep, SidList, header_bytes, is_legal, list_of, values};
+use net_flatness::compilable;
 use net_model::Net;
 use net_reader::read_net;
 use std::alloc::Global;
@@ -43,7 +43,7 @@ title = "vpn"
 table = 9
 "#;
 
-/// a SID nested in one of them
+/// A SID nested in one of them
 const INNER: &str = r#"
 [[sid]]
 node = "A"
@@ -65,7 +65,7 @@ sid = [
 ]
 "#;
 
-/// a path of SIDs by the texts of their prefixes; the ones with `true` stay in the container
+/// A path of SIDs by the texts of their prefixes; the ones with `true` stay in the container
 fn path_of(alloc: Global, steps: &[(bool, &str)]) -> Result<Vec<PathStep>, Fail> {
     let mut path = Vec::new(alloc);
     for (stays, text) in steps {
@@ -77,7 +77,7 @@ fn path_of(alloc: Global, steps: &[(bool, &str)]) -> Result<Vec<PathStep>, Fail>
     Ok(path)
 }
 
-/// the segments of a list, where it is a legal one of a flat network
+/// The segments of a list, where it is a legal one of a flat network
 fn segments(alloc: Global, net: &Net, list: &SidList) -> Option<Vec<Addr>>
     requires { net.now.hidden ≡ [] }
 {

@@ -4,11 +4,14 @@
 //!
 //! `legal_list_tests` has lists by their paths and segments, `list_pack_tests` rooms and costs,
 //! `leg_table_tests` tables of legs, of SIDs, positions and numbers that there aren't too, and
-//! `intent_legs_tests` the laws of all legs at those of an intent.
+//! `intent_compiler_tests` the laws of all legs at those of an intent; `choice_graph_tests` has a graph
+//! that was gone through by hand.
 #![tactic(auto)]
 
 #[cfg(test)]
-mod intent_legs_tests;
+mod choice_graph_tests;
+#[cfg(test)]
+mod intent_compiler_tests;
 #[cfg(test)]
 mod leg_table_tests;
 #[cfg(test)]

@@ -5,7 +5,7 @@ use srv6_rules::Csid;
 use std::test::Fail;
 use v6_addr::{Addr, Prefix};
 
-/// a SID of a block of 32 bits, with one 16-bit unit after them
+/// A SID of a block of 32 bits, with one 16-bit unit after them
 fn unit(csid: Csid) -> Option<Shape> {
     let value = 0xfcbb_bb00_0001_0000_0000_0000_0000_0000;
     let prefix = Prefix::new(Addr { value }, 48)?;

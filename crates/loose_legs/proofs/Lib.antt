@@ -1,4 +1,4 @@
-pub mod Positions
+pub mod LooseTablePositions
 pub mod StepLaws
 pub mod OnwardRows
 pub mod PublicLaws

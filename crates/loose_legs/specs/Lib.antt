@@ -1,3 +1,2 @@
-pub mod Steps
-pub mod Table
-pub mod Legs
+pub mod IntentSteps
+pub mod LooseTable

@@ -2,29 +2,30 @@
 
 ghost use Rattle.std.specs.Prelude.{◌≡◌, ◌+◌, ◌<◌, ◌≤◌, ℕ, length, None, Some, IfOk, IfSome};
 ghost use Rattle.walk_rules.specs.Relation.{IsPlace};
-ghost use Rattle.loose_graph.specs.Tables.{AreFound};
-ghost use Rattle.loose_ways.specs.Graphs.{graph_in};
-ghost use Rattle.leg_table.specs.Sids.{sid_address};
-ghost use Rattle.loose_meanings.specs.Legs as legs;
-ghost use Rattle.loose_meanings.specs.Sids.{start_of};
-ghost use Rattle.loose_meanings.specs.Steps.{AreSteps, node_at};
-ghost use Rattle.loose_legs.specs.Table.{AreFurther, AreOnward, AreRowsFrom, AreStands, AreTables, IsRowFrom, finish_to, leg_to, onward_from};
+ghost use Rattle.choice_graph.specs.VertexTables.{AreFound};
+ghost use Rattle.loose_walks.specs.WayGraphs.{graph_in};
+ghost use Rattle.leg_table.specs.PositionSids.{sid_address};
+ghost use Rattle.loose_spec.specs.LooseLegs as legs;
+ghost use Rattle.loose_spec.specs.LooseSids.{origin_of};
+ghost use Rattle.loose_spec.specs.LooseSteps.{node_at};
+ghost use Rattle.loose_legs_theory.specs.LooseStepsTerms.{AreSteps};
+ghost use Rattle.loose_legs.specs.LooseTable.{AreFurther, AreOnward, AreRowsFrom, AreStands, AreTables, IsRowFrom, finish_to, leg_to, onward_from};
 
-use crate::rows::is_sid_at;
-use crate::steps::left_found;
+use crate::intent_steps::left_found;
+use crate::loose_rows::is_sid_at;
 use base::{NoMemory, Seq};
+use choice_graph::Found;
 use intent_reader::Intent;
+use intent_traces::TraceStep;
 use leg_table::{headend_place, if_none_left, is_last, is_middle, leg_with, place_behind};
 use list_pack::Leg;
-use loose_graph::Found;
-use loose_ways::{find_from, find_ways};
+use loose_walks::{find_from, find_ways};
 use net_model::Net;
 use srv6_rules::Family;
 use std::alloc::Global;
-use step_traces::Step;
 use walk_rules::Place;
 
-/// What leads to a next SID. (own rule)
+/// What leads to a next SID.
 #[derive(Clone, Copy, Debug)]
 pub struct Onward {
     /// The leg, if there is one.
@@ -33,14 +34,14 @@ pub struct Onward {
     pub finish: Option<u32>,
 }
 
-/// What leads to all SIDs, by their numbers; empty where nothing leads on. (own rule)
+/// What leads to all SIDs, by their numbers; empty where nothing leads on.
 pub type Onwards = Seq<Onward>;
 
-/// What is found at the spots of a destination's graph, by the spots' numbers. (own rule)
+/// What is found at the vertices of a destination's graph, by the vertices' numbers.
 pub type Table = Seq<Option<Found>>;
 
-/// What is found in the graph of each SID's first address, by the SIDs' numbers. (own rule)
-pub fn tables_of(alloc: Global, net: &Net, steps: &[Step]) -> Result<Vec<Table>, NoMemory>
+/// What is found in the graph of each SID's first address, by the SIDs' numbers.
+pub fn tables_of(alloc: Global, net: &Net, steps: &[TraceStep]) -> Result<Vec<Table>, NoMemory>
     requires { length steps.now ≤ 48 }
     ensures { IfOk result (λ tables.
         AreTables net.now steps.now (length net.now.sids) tables.items) }
@@ -53,8 +54,8 @@ pub fn tables_of(alloc: Global, net: &Net, steps: &[Step]) -> Result<Vec<Table>,
     Ok(tables)
 }
 
-/// the leg to a SID that is found
-fn leg_found(net: &Net, steps: &[Step], next: u32, found: &Found) -> Option<Leg>
+/// The leg to a SID that is found
+fn leg_found(net: &Net, steps: &[TraceStep], next: u32, found: &Found) -> Option<Leg>
     requires is_there { next < length net.now.sids }
     requires few { length steps.now ≤ 48 }
     requires low { found.now.most ≤ 256 }
@@ -64,8 +65,8 @@ fn leg_found(net: &Net, steps: &[Step], next: u32, found: &Found) -> Option<Leg>
     Some(leg_with(steps.len() as u32, found.most, left))
 }
 
-/// the leg to a SID, where it is middle
-fn leg_to(net: &Net, steps: &[Step], next: u32, found: Option<Found>) -> Option<Leg>
+/// The leg to a SID, where it is middle
+fn leg_to(net: &Net, steps: &[TraceStep], next: u32, found: Option<Found>) -> Option<Leg>
     requires is_there { next < length net.now.sids }
     requires few { length steps.now ≤ 48 }
     requires low { IfSome found (λ f. f.most ≤ 256) }
@@ -78,8 +79,8 @@ fn leg_to(net: &Net, steps: &[Step], next: u32, found: Option<Found>) -> Option<
     leg_found(net, steps, next, &found)
 }
 
-/// the finish at a SID that is found
-fn finish_found(net: &Net, steps: &[Step], next: u32, found: &Found) -> Option<u32>
+/// The finish at a SID that is found
+fn finish_found(net: &Net, steps: &[TraceStep], next: u32, found: &Found) -> Option<u32>
     requires is_there { next < length net.now.sids }
     requires few { length steps.now ≤ 48 }
     ensures { result ≡ legs.finish_found net.now steps.now next found.now }
@@ -88,11 +89,11 @@ fn finish_found(net: &Net, steps: &[Step], next: u32, found: &Found) -> Option<u
     if_none_left(found.most, left)
 }
 
-/// the finish at a SID, where it exposes a packet of the family inside
+/// The finish at a SID, where it exposes a packet of the family inside
 fn finish_to(
     net: &Net,
     inner: Family,
-    steps: &[Step],
+    steps: &[TraceStep],
     next: u32,
     found: Option<Found>,
 ) -> Option<u32>
@@ -107,11 +108,11 @@ fn finish_to(
     finish_found(net, steps, next, &found)
 }
 
-/// what leads to a SID from a place, with so many steps left
+/// What leads to a SID from a place, with so many steps left
 fn onward_to(
     net: &Net,
     intent: &Intent,
-    steps: &[Step],
+    steps: &[TraceStep],
     table: &[Option<Found>],
     left: usize,
     place: &Place,
@@ -133,12 +134,12 @@ fn onward_to(
     }
 }
 
-/// what leads to all SIDs from a place, with so many steps left
+/// What leads to all SIDs from a place, with so many steps left
 fn onwards_from(
     alloc: Global,
     net: &Net,
     intent: &Intent,
-    steps: &[Step],
+    steps: &[TraceStep],
     tables: &[Table],
     left: usize,
     place: &Place,
@@ -158,11 +159,11 @@ fn onwards_from(
     Ok(Onwards::new(row))
 }
 
-/// from where a packet goes on behind a SID of a position, where the walk stands at a node
+/// From where a packet goes on behind a SID of a position, where the walk stands at a node
 fn start_behind(
     net: &Net,
     intent: &Intent,
-    steps: &[Step],
+    steps: &[TraceStep],
     position: u32,
     stands: u32,
     via: u32,
@@ -171,7 +172,7 @@ fn start_behind(
     requires within { position ≤ length steps.now }
     requires stands { node_at net.now intent.now steps.now position ≡ Some stands }
     requires is_there { via < length net.now.sids }
-    ensures value { result ≡ start_of net.now intent.now steps.now position (Some via) }
+    ensures value { result ≡ origin_of net.now intent.now steps.now position (Some via) }
     ensures is_place { IfSome result (IsPlace net.now) }
 {
     net.keeps_rules();
@@ -181,12 +182,12 @@ fn start_behind(
     place_behind(net, via)
 }
 
-/// What leads on from the start, where no SID was executed yet. (own rule)
+/// What leads on from the start, where no SID was executed yet.
 pub fn first_onwards(
     alloc: Global,
     net: &Net,
     intent: &Intent,
-    steps: &[Step],
+    steps: &[TraceStep],
     tables: &[Table],
 ) -> Result<Onwards, NoMemory>
     requires steps { AreSteps net.now intent.now steps.now }
@@ -198,12 +199,12 @@ pub fn first_onwards(
     Ok(row)
 }
 
-/// what leads on from a SID of a position, where the walk stands at a node
+/// What leads on from a SID of a position, where the walk stands at a node
 fn onwards_behind(
     alloc: Global,
     net: &Net,
     intent: &Intent,
-    steps: &[Step],
+    steps: &[TraceStep],
     tables: &[Table],
     position: u32,
     start: Option<Place>,
@@ -213,7 +214,7 @@ fn onwards_behind(
     requires is_place { IfSome start (IsPlace net.now) }
     requires tables { AreTables net.now steps.now (length net.now.sids) tables.now }
     ensures { IfOk result (λ row. (via : ℕ)
-        → start_of net.now intent.now steps.now position (Some via) ≡ start
+        → origin_of net.now intent.now steps.now position (Some via) ≡ start
         → IsRowFrom net.now intent.now steps.now position (Some via) row) }
 {
     let Some(place) = start else {
@@ -224,12 +225,12 @@ fn onwards_behind(
     Ok(row)
 }
 
-/// what leads on from the SIDs of a position, where the walk stands at a node
+/// What leads on from the SIDs of a position, where the walk stands at a node
 fn onwards_at(
     alloc: Global,
     net: &Net,
     intent: &Intent,
-    steps: &[Step],
+    steps: &[TraceStep],
     tables: &[Table],
     position: u32,
     stands: u32,
@@ -248,12 +249,12 @@ fn onwards_at(
     Ok(Seq::new(rows))
 }
 
-/// What leads on from the SIDs of each position, from the start to the end. (own rule)
+/// What leads on from the SIDs of each position, from the start to the end.
 pub fn further_onwards(
     alloc: Global,
     net: &Net,
     intent: &Intent,
-    steps: &[Step],
+    steps: &[TraceStep],
     tables: &[Table],
     stands: &[u32],
 ) -> Result<Vec<Seq<Onwards>>, NoMemory>

@@ -5,24 +5,24 @@ use Rattle.std.proofs.lemmas.Bool.{cases_Bool, both_ways, ltb-true, ltb-false}
 use Rattle.std.proofs.lemmas.Option.{none-some, same_Some}
 use Rattle.v6_addr.specs.Address.{PrefixValue, Holds, holds_address}
 use Rattle.v6_addr.proofs.PublicLaws.{holds_address_is, same_value}
-use Rattle.prefix_table.specs.Table.{HasPrefix, IsTable, IsBest, HoldsNone, is_one_prefix, value_at}
+use Rattle.prefix_table.specs.PrefixTable.{HasPrefix, IsTable, IsBest, HoldsNone, is_one_prefix, value_at}
 use Rattle.prefix_table.proofs.PublicLaws.{one_from, one_to, there_tells, value_tells, value_pushed}
 use Rattle.net_model.specs.declared.net.Hit.{Hit}
 use Rattle.net_model.specs.declared.net.Hit.TheVariants as hits
 use Rattle.net_model.specs.Best.{Entry, longer, longest, hit_of}
-use Rattle.net_model.specs.Tables.{HitTable, first_on, IsExact}
+use Rattle.net_model.specs.LookupTables.{HitTable, first_on, IsExact}
 use Rattle.net_model.proofs.EntryLemmas.{contains_none, contains_cases, contains_first, contains_later}
 
 -- ---- filling: an entry after the others
 
-first_on-push : (p : PrefixValue) (es : List Entry) (e : Entry) (o : Option Hit) → first_on p es ≡ o
+first_on_push : (p : PrefixValue) (es : List Entry) (e : Entry) (o : Option Hit) → first_on p es ≡ o
     → first_on p (es ++ e ∷ []) ≡ (if is_some o then o else (if is_one_prefix e.prefix p then Some e.hit else None))
-first_on-push p [] e None is = refl
-first_on-push p [] e (Some h) is = absurd (none-some h is)
-first_on-push p (x ∷ es) e o is =
+first_on_push p [] e None is = refl
+first_on_push p [] e (Some h) is = absurd (none-some h is)
+first_on_push p (x ∷ es) e o is =
     elim (cases_Bool (is_one_prefix x.prefix p)) [
       | inl one ↦ rw one (there o (rw one at is))
-      | inr other ↦ rw other (first_on-push p es e o (rw other at is))
+      | inr other ↦ rw other (first_on_push p es e o (rw other at is))
     ]
   where
     there : (o : Option Hit) → Some x.hit ≡ o
@@ -37,7 +37,7 @@ exact_new es t e exact new p =
     elim (cases_Bool (is_one_prefix e.prefix p)) [
       | inl one ↦
           let none : value_at t p ≡ None = subst (λ q. value_at t q ≡ None) (one_from e.prefix p one) (none_at t e.prefix new) in
-          value_pushed t e.prefix p e.hit new ∙ rw one (sym (first_on-push p es e None (sym (exact p) ∙ none) ∙ rw one refl))
+          value_pushed t e.prefix p e.hit new ∙ rw one (sym (first_on_push p es e None (sym (exact p) ∙ none) ∙ rw one refl))
       | inr other ↦ value_pushed t e.prefix p e.hit new
           ∙ rw other (exact p ∙ sym (not_here (first_on p es) refl other))
     ]
@@ -50,8 +50,8 @@ exact_new es t e exact new p =
         known (Some h) never = absurd (never refl)
 
     not_here : (o : Option Hit) → first_on p es ≡ o → is_one_prefix e.prefix p ≡ false → first_on p (es ++ e ∷ []) ≡ o
-    not_here None is other = first_on-push p es e None is ∙ rw other refl
-    not_here (Some h) is other = first_on-push p es e (Some h) is
+    not_here None is other = first_on_push p es e None is ∙ rw other refl
+    not_here (Some h) is other = first_on_push p es e (Some h) is
 
 -- a table that has it stays
 pub exact_old : (es : List Entry) (t : HitTable) (e : Entry) → IsExact es t → HasPrefix t e.prefix → IsExact (es ++ e ∷ []) t
@@ -64,11 +64,11 @@ exact_old es t e exact has p =
   where
     stays : (o : Option Hit) → first_on p es ≡ o → IsSome o → first_on p (es ++ e ∷ []) ≡ o
     stays None is some = cc
-    stays (Some h) is some = first_on-push p es e (Some h) is
+    stays (Some h) is some = first_on_push p es e (Some h) is
 
     not_here : (o : Option Hit) → first_on p es ≡ o → is_one_prefix e.prefix p ≡ false → first_on p (es ++ e ∷ []) ≡ o
-    not_here None is other = first_on-push p es e None is ∙ rw other refl
-    not_here (Some h) is other = first_on-push p es e (Some h) is
+    not_here None is other = first_on_push p es e None is ∙ rw other refl
+    not_here (Some h) is other = first_on_push p es e (Some h) is
 
 pub exact_none : IsExact [] []
 exact_none p = refl

@@ -4,8 +4,8 @@ use Rattle.std.proofs.lemmas.Bool.{both_ways}
 use Rattle.v6_addr.specs.Address.{PrefixValue, is_inside}
 use Rattle.v6_addr.proofs.PublicLaws.{is_inside_is}
 use Rattle.net_model.specs.declared.parts.Block.{Block}
-use Rattle.net_model.specs.Rules.{block_of}
-use Rattle.net_model.specs.Keeps.{IsBlockOf}
+use Rattle.net_model.specs.NetworkRules.{block_of}
+use Rattle.net_model.specs.NetworkKeeps.{IsBlockOf}
 use Rattle.net_model.proofs.FindLemmas.{find_first, find_none, get_from_contains, contains_from_get}
 
 block_by : (blocks : List Block) (p : PrefixValue) (found : Option Block) → block_of blocks p ≡ found → IsBlockOf blocks p found
@@ -16,5 +16,5 @@ block_by blocks p (Some b) e =
     let (i, at, passes, before) = find_first (λ x. is_inside p x.prefix) blocks b e in
     (contains_from_get blocks i b at, (is_inside_is p b.prefix).0 passes)
 
-pub block_of-is : (blocks : List Block) (p : PrefixValue) → IsBlockOf blocks p (block_of blocks p)
-block_of-is blocks p = block_by blocks p (block_of blocks p) refl
+pub block_of_is : (blocks : List Block) (p : PrefixValue) → IsBlockOf blocks p (block_of blocks p)
+block_of_is blocks p = block_by blocks p (block_of blocks p) refl

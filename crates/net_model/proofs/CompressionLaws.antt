@@ -7,13 +7,14 @@ use Rattle.srv6_rules.specs.declared.sid.Csid.{Csid}
 use Rattle.srv6_rules.specs.declared.sid.Csid.TheVariants as csids
 use Rattle.srv6_rules.specs.declared.sid.SidEntry.{SidEntry}
 use Rattle.srv6_rules.specs.Behaviours.{behaviour_goes_on, behaviour_takes_flavours, goes_on}
-use Rattle.srv6_rules.specs.CompressedSteps.{SuitsKind, SuitsCompression, compression_of}
+use Rattle.srv6_rules.specs.CompressedSteps.{compression_of}
+use Rattle.srv6_rules.specs.CompressedStepsTerms.{SuitsKind, SuitsCompression}
 use Rattle.net_model.specs.declared.limits.TheConstants.{SHORT_CSID, LONG_CSID}
 use Rattle.net_model.specs.declared.parts.Block.{Block}
 use Rattle.net_model.specs.Network.{Network}
-use Rattle.net_model.specs.Rules.{block_of, block_len_of}
-use Rattle.net_model.specs.Keeps.{IsBlockOf, IsUnflavoured, SuitsBlock, KeepsSid, Keeps}
-use Rattle.net_model.proofs.BlockLemmas.{block_of-is}
+use Rattle.net_model.specs.NetworkRules.{block_of, block_len_of}
+use Rattle.net_model.specs.NetworkKeeps.{IsBlockOf, IsUnflavoured, SuitsBlock, KeepsSid, Keeps}
+use Rattle.net_model.proofs.BlockLemmas.{block_of_is}
 use Rattle.net_model.proofs.FindLemmas.{get_from_contains}
 
 -- what is known of a SID whose block is there
@@ -32,7 +33,7 @@ module _ (net : Network) (keeps : Keeps net) (s : SidEntry) (is : KeepsSid net s
       (record { block_len = len; longer = of.1.0; csid = (keeps.block i c at).csid })
 
   in_its_block : (b : Block) → block_of net.blocks s.prefix ≡ Some b → InBlock s b
-  in_its_block b e = in_block (block_of net.blocks s.prefix) b (block_of-is net.blocks s.prefix) is.block_len e
+  in_its_block b e = in_block (block_of net.blocks s.prefix) b (block_of_is net.blocks s.prefix) is.block_len e
 
   suits_kind : (csid : Csid) → s.csid ≡ csid → SuitsBlock csid s (block_of net.blocks s.prefix) → SuitsKind csid (compression_of s)
   suits_kind csids.Plain e suits = tt
@@ -53,8 +54,8 @@ module _ (net : Network) (keeps : Keeps net) (s : SidEntry) (is : KeepsSid net s
   suits_compression = suits_kind s.csid refl is.csid
 
 -- the compression of a SID suits the lengths of its prefix and its block
-pub sid-suits : (net : Network) (n : ℕ) (s : SidEntry) → Keeps net → slice_get net.sids n ≡ Some s → SuitsCompression s
-sid-suits net n s keeps there = suits_compression net keeps s (keeps.sid n s there)
+pub sid_suits : (net : Network) (n : ℕ) (s : SidEntry) → Keeps net → slice_get net.sids n ≡ Some s → SuitsCompression s
+sid_suits net n s keeps there = suits_compression net keeps s (keeps.sid n s there)
 
 -- only behaviours that go on take flavours
 no_flavours : (b : Behaviour) → behaviour_goes_on b ≡ false → behaviour_takes_flavours b ≡ false
@@ -69,18 +70,18 @@ no_flavours (Dt46 table) e = refl
 no_flavours (B6 policy) e = cc
 no_flavours (B6Red policy) e = cc
 
-pub sid-unflavoured : (net : Network) (n : ℕ) (s : SidEntry) → Keeps net → slice_get net.sids n ≡ Some s → goes_on s ≡ false
+pub sid_unflavoured : (net : Network) (n : ℕ) (s : SidEntry) → Keeps net → slice_get net.sids n ≡ Some s → goes_on s ≡ false
     → IsUnflavoured s
-sid-unflavoured net n s keeps there stays = (keeps.sid n s there).behaviour.flavours (no_flavours s.behaviour stays)
+sid_unflavoured net n s keeps there stays = (keeps.sid n s there).behaviour.flavours (no_flavours s.behaviour stays)
 
-next-goes : (s : SidEntry) (block : Option Block) (csid : Csid) → csid ≡ csids.Next → SuitsBlock csid s block → goes_on s ≡ true
-next-goes s block csids.Plain e suits = cc
-next-goes s block csids.Next e (b, there, kind, goes, len) = goes
-next-goes s block csids.Replace e suits = cc
+next_goes : (s : SidEntry) (block : Option Block) (csid : Csid) → csid ≡ csids.Next → SuitsBlock csid s block → goes_on s ≡ true
+next_goes s block csids.Plain e suits = cc
+next_goes s block csids.Next e (b, there, kind, goes, len) = goes
+next_goes s block csids.Replace e suits = cc
 
 -- only SIDs that go on are of NEXT-CSID
-pub sid-not_next : (net : Network) (n : ℕ) (s : SidEntry) → Keeps net → slice_get net.sids n ≡ Some s → goes_on s ≡ false
+pub sid_not_next : (net : Network) (n : ℕ) (s : SidEntry) → Keeps net → slice_get net.sids n ≡ Some s → goes_on s ≡ false
     → s.csid ≢ csids.Next
-sid-not_next net n s keeps there stays next =
-    let goes = next-goes s (block_of net.blocks s.prefix) s.csid next (keeps.sid n s there).csid in
+sid_not_next net n s keeps there stays next =
+    let goes = next_goes s (block_of net.blocks s.prefix) s.csid next (keeps.sid n s there).csid in
     let none : true ≡ false = sym goes ∙ stays in cc

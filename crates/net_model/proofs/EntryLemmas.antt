@@ -13,7 +13,7 @@ use Rattle.net_model.specs.declared.parts.Route.{Route}
 use Rattle.net_model.specs.declared.net.Hit.{Hit}
 use Rattle.net_model.specs.declared.net.Hit.TheVariants as hits
 use Rattle.net_model.specs.Network.{Network, is_shown}
-use Rattle.net_model.specs.Rules.{same_family}
+use Rattle.net_model.specs.NetworkRules.{same_family}
 use Rattle.net_model.specs.Best.{Entry, sid_entries, is_route_of, route_entries, address_entries, has_sids, all_entries_of, entries_of}
 use Rattle.net_model.specs.Entries.{IsEntryAs}
 
@@ -74,18 +74,18 @@ sid_is_there node n (t ∷ sids) zero k s at of is =
 sid_is_there node n (t ∷ sids) (suc i) k s at of is =
     sid_in_front node n t sids _ (sid_is_there node (n + 1) sids i k s at of (omega arith))
 
-pub same_family-is : (f g : Family) → same_family f g ≡ true → f ≡ g
-same_family-is families.V6 families.V6 e = refl
-same_family-is families.V6 families.V4 e = cc
-same_family-is families.V4 families.V6 e = cc
-same_family-is families.V4 families.V4 e = refl
+pub same_family_is : (f g : Family) → same_family f g ≡ true → f ≡ g
+same_family_is families.V6 families.V6 e = refl
+same_family_is families.V6 families.V4 e = cc
+same_family_is families.V4 families.V6 e = cc
+same_family_is families.V4 families.V4 e = refl
 
-same_family-self : (f : Family) → same_family f f ≡ true
-same_family-self families.V6 = refl
-same_family-self families.V4 = refl
+same_family_self : (f : Family) → same_family f f ≡ true
+same_family_self families.V6 = refl
+same_family_self families.V4 = refl
 
-pub same_family-from : (f g : Family) → f ≡ g → same_family f g ≡ true
-same_family-from f g e = subst (λ h. same_family f h ≡ true) e (same_family-self f)
+pub same_family_from : (f g : Family) → f ≡ g → same_family f g ≡ true
+same_family_from f g e = subst (λ h. same_family f h ≡ true) e (same_family_self f)
 
 -- a route of the family in the node's table among those whose first has the number n
 abbrev pub IsRouteFrom : ℕ → ℕ → Family → ℕ → List Route → Entry → Type 0
@@ -114,7 +114,7 @@ route_means node table family n (r ∷ routes) e c =
               refl,
               eqb-true _ _ both.0,
               eqb-true _ _ two.0,
-              same_family-is _ _ two.1,
+              same_family_is _ _ two.1,
               sym is
                   ∙ ap (λ k. record { hit = hits.Route k; prefix = r.prefix }) shift,
             )
@@ -133,7 +133,7 @@ route_at_front : (node table : ℕ) (family : Family) (n : ℕ) (r : Route) (rou
     → r.family ≡ family
     → Contains (route_entries node table family n (r ∷ routes)) (record { hit = hits.Route n; prefix = r.prefix })
 route_at_front node table family n r routes of in_table of_family =
-    let mine = and_from _ _ (eq-eqb r.node node of) (and_from _ _ (eq-eqb r.table table in_table) (same_family-from _ _ of_family)) in
+    let mine = and_from _ _ (eq-eqb r.node node of) (and_from _ _ (eq-eqb r.table table in_table) (same_family_from _ _ of_family)) in
     rw mine (contains_first _ _)
 
 pub route_is_there : (node table : ℕ) (family : Family) (n : ℕ) (routes : List Route) (i k : ℕ) (r : Route) → slice_get routes i ≡ Some r
@@ -187,30 +187,30 @@ by_route net node table family e c =
     )
 
 -- the table with the node's SIDs is table 0 of IPv6
-has_sids-is : (table : ℕ) (family : Family) → has_sids table family ≡ true → (table ≡ 0) × (family ≡ families.V6)
-has_sids-is table families.V6 e = (eqb-true table 0 e, refl)
-has_sids-is table families.V4 e = cc
+has_sids_is : (table : ℕ) (family : Family) → has_sids table family ≡ true → (table ≡ 0) × (family ≡ families.V6)
+has_sids_is table families.V6 e = (eqb-true table 0 e, refl)
+has_sids_is table families.V4 e = cc
 
-has_sids-from : (table : ℕ) (family : Family) → (table ≡ 0) × (family ≡ families.V6) → has_sids table family ≡ true
-has_sids-from table family first = rw (first.0, first.1) refl
+has_sids_from : (table : ℕ) (family : Family) → (table ≡ 0) × (family ≡ families.V6) → has_sids table family ≡ true
+has_sids_from table family first = rw (first.0, first.1) refl
 
 -- the entries of that table, and of another
-pub all_entries_of-first : (net : Network) (node table : ℕ) (family : Family) → has_sids table family ≡ true
+pub all_entries_of_first : (net : Network) (node table : ℕ) (family : Family) → has_sids table family ≡ true
     → all_entries_of net node table family ≡ sid_entries node 0 net.sids
     ++ (address_entries (slice_get net.nodes node) ++ route_entries node table family 0 net.routes)
-all_entries_of-first net node table family first = rw first refl
+all_entries_of_first net node table family first = rw first refl
 
-pub all_entries_of-other : (net : Network) (node table : ℕ) (family : Family) → has_sids table family ≡ false
+pub all_entries_of_other : (net : Network) (node table : ℕ) (family : Family) → has_sids table family ≡ false
     → all_entries_of net node table family ≡ route_entries node table family 0 net.routes
-all_entries_of-other net node table family other = rw other refl
+all_entries_of_other net node table family other = rw other refl
 
 pub any_entry_means : (net : Network) (node table : ℕ) (family : Family) (e : Entry) → Contains (all_entries_of net node table family) e
     → IsAnyEntry net node table family e
 any_entry_means net node table family e c =
     elim (cases_Bool (has_sids table family)) [
-      | inl is ↦ let first = has_sids-is table family is in
+      | inl is ↦ let first = has_sids_is table family is in
           elim (Contains-append_cases (sid_entries node 0 net.sids) _ e
-          (subst (λ es. Contains es e) (all_entries_of-first net node table family is) c)) [
+          (subst (λ es. Contains es e) (all_entries_of_first net node table family is) c)) [
             | inl sid ↦ by_sid net node table family e first sid
             | inr more ↦ elim (Contains-append_cases (address_entries (slice_get net.nodes node))
                 (route_entries node table family 0 net.routes) e more) [
@@ -218,17 +218,17 @@ any_entry_means net node table family e c =
                   | inr route ↦ by_route net node table family e route
                 ]
           ]
-      | inr other ↦ by_route net node table family e (subst (λ es. Contains es e) (all_entries_of-other net node table family other) c)
+      | inr other ↦ by_route net node table family e (subst (λ es. Contains es e) (all_entries_of_other net node table family other) c)
     ]
 
 route_among : (net : Network) (node table : ℕ) (family : Family) (e : Entry) → Contains (route_entries node table family 0 net.routes) e
     → Contains (all_entries_of net node table family) e
 route_among net node table family e c =
     elim (cases_Bool (has_sids table family)) [
-      | inl is ↦ subst (λ es. Contains es e) (sym (all_entries_of-first net node table family is))
+      | inl is ↦ subst (λ es. Contains es e) (sym (all_entries_of_first net node table family is))
           (Contains-append_right (sid_entries node 0 net.sids) _ e
           (Contains-append_right (address_entries (slice_get net.nodes node)) (route_entries node table family 0 net.routes) e c))
-      | inr other ↦ subst (λ es. Contains es e) (sym (all_entries_of-other net node table family other)) c
+      | inr other ↦ subst (λ es. Contains es e) (sym (all_entries_of_other net node table family other)) c
     ]
 
 any_entry_is_there : (net : Network) (node table : ℕ) (family : Family) (p : PrefixValue) (h : Hit) → IsEntryAs net node table family p h
@@ -237,14 +237,14 @@ any_entry_is_there net node table family p (hits.Sid n) (s, at, of, is, first, v
     let e : Entry = record { hit = hits.Sid n; prefix = p } in
     let there = subst (λ q. Contains (sid_entries node 0 net.sids) (record { hit = hits.Sid n; prefix = q })) is
     (sid_is_there node 0 net.sids n n s at of (omega arith)) in
-    subst (λ es. Contains es e) (sym (all_entries_of-first net node table family (has_sids-from table family (first, v6))))
+    subst (λ es. Contains es e) (sym (all_entries_of_first net node table family (has_sids_from table family (first, v6))))
     (Contains-append_left (sid_entries node 0 net.sids) _ e there)
 any_entry_is_there net node table family p hits.Address (n, at, is, first, v6) =
     let e : Entry = record { hit = hits.Address; prefix = p } in
     let own = subst (λ q. Contains (address_entries (Some n)) (record { hit = hits.Address; prefix = q })) (sym is)
     (contains_first (record { hit = hits.Address; prefix = record { value = n.address.value; len = 128 } }) []) in
     let there = subst (λ o. Contains (address_entries o) e) (sym at) own in
-    subst (λ es. Contains es e) (sym (all_entries_of-first net node table family (has_sids-from table family (first, v6))))
+    subst (λ es. Contains es e) (sym (all_entries_of_first net node table family (has_sids_from table family (first, v6))))
     (Contains-append_right (sid_entries node 0 net.sids) _ e
     (Contains-append_left (address_entries (slice_get net.nodes node)) (route_entries node table family 0 net.routes) e there))
 any_entry_is_there net node table family p (hits.Route n) (r, at, of, in_table, of_family, is) =

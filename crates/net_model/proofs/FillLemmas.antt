@@ -12,17 +12,17 @@ use Rattle.std.proofs.lemmas.Bool.{cases_Bool, both_ways, and_parts, and_from, e
 use Rattle.std.proofs.lemmas.List.{take_more, length-take-le}
 use Rattle.std.proofs.lemmas.List.Elements.{Contains-append_left, Contains-push, Contains-push_cases}
 use Rattle.v6_addr.specs.Address.{PrefixValue}
-use Rattle.prefix_table.specs.Table.{HasPrefix}
+use Rattle.prefix_table.specs.PrefixTable.{HasPrefix}
 use Rattle.srv6_rules.specs.declared.family.Family.{Family}
 use Rattle.net_model.specs.declared.net.Hit.{Hit}
 use Rattle.net_model.specs.declared.route_set.EntryKey.{EntryKey}
-use Rattle.net_model.specs.declared.tables.TableKey.{TableKey}
-use Rattle.net_model.specs.declared.tables.TableEntry.{TableEntry}
+use Rattle.net_model.specs.declared.lookup_tables.TableKey.{TableKey}
+use Rattle.net_model.specs.declared.lookup_tables.TableEntry.{TableEntry}
 use Rattle.net_model.specs.Best.{Entry}
-use Rattle.net_model.specs.Rules.{same_family}
+use Rattle.net_model.specs.NetworkRules.{same_family}
 use Rattle.net_model.specs.EntryKeys.{entry_key_cmp, entry_key}
-use Rattle.net_model.specs.Tables.{HitTable, table_key_cmp, table_key, table_at, is_entry_of, entries_at, entries_from, IsExact, AnswerFor, AreTaken, HasOneMore}
-use Rattle.net_model.proofs.EntryLemmas.{same_family-is}
+use Rattle.net_model.specs.LookupTables.{HitTable, table_key_cmp, table_key, table_at, is_entry_of, entries_at, entries_from, IsExact, AnswerFor, AreTaken, HasOneMore}
+use Rattle.net_model.proofs.EntryLemmas.{same_family_is}
 use Rattle.net_model.proofs.RouteSetLemmas.{number_is_eq, family_is_eq, both_eq, entry_keys_tell}
 use Rattle.net_model.proofs.AnswerLemmas.{exact_new, exact_old, exact_none}
 
@@ -51,7 +51,7 @@ pub same_place : (P : ℕ → ℕ → Family → Type 0) (e : TableEntry) (node 
 same_place P e node table family is p =
     let parts = and_parts _ _ is in
     let more = and_parts _ _ parts.1 in
-    subst (λ (f : Family). P node table f) (same_family-is e.family family more.1)
+    subst (λ (f : Family). P node table f) (same_family_is e.family family more.1)
     (subst (λ t. P node t e.family) (eqb-true _ _ more.0) (subst (λ n. P n e.table e.family) (eqb-true _ _ parts.0) p))
 
 same_prefix_from : (p q : PrefixValue) → ((p.value == q.value) && (p.len == q.len)) ≡ true → p ≡ q
@@ -146,13 +146,13 @@ taken_more e taken now old new are more update node table family p =
 
 -- ---- what the tables answer for
 
-pub entries_at-append : (es fs : List TableEntry) (node table : ℕ) (family : Family)
+pub entries_at_append : (es fs : List TableEntry) (node table : ℕ) (family : Family)
     → entries_at (es ++ fs) node table family ≡ entries_at es node table family ++ entries_at fs node table family
-entries_at-append [] fs node table family = refl
-entries_at-append (e ∷ es) fs node table family =
+entries_at_append [] fs node table family = refl
+entries_at_append (e ∷ es) fs node table family =
     elim (cases_Bool (is_entry_of node table family e)) [
-      | inl here ↦ rw (here, entries_at-append es fs node table family) refl
-      | inr apart ↦ rw (apart, entries_at-append es fs node table family) refl
+      | inl here ↦ rw (here, entries_at_append es fs node table family) refl
+      | inr apart ↦ rw (apart, entries_at_append es fs node table family) refl
     ]
 
 nothing_more : (es : List Entry) → es ++ [] ≡ es
@@ -161,12 +161,12 @@ nothing_more (e ∷ es) = ap (λ fs. e ∷ fs) (nothing_more es)
 
 entries_here : (es : List TableEntry) (e : TableEntry) (node table : ℕ) (family : Family) → is_entry_of node table family e ≡ true
     → entries_at (es ++ e ∷ []) node table family ≡ entries_at es node table family ++ record { hit = e.hit; prefix = e.prefix } ∷ []
-entries_here es e node table family here = entries_at-append es (e ∷ []) node table family ∙ rw here refl
+entries_here es e node table family here = entries_at_append es (e ∷ []) node table family ∙ rw here refl
 
 entries_apart : (es : List TableEntry) (e : TableEntry) (node table : ℕ) (family : Family) → is_entry_of node table family e ≡ false
     → entries_at (es ++ e ∷ []) node table family ≡ entries_at es node table family
 entries_apart es e node table family apart =
-    entries_at-append es (e ∷ []) node table family ∙ rw apart (nothing_more (entries_at es node table family))
+    entries_at_append es (e ∷ []) node table family ∙ rw apart (nothing_more (entries_at es node table family))
 
 pub answer_more : (e : TableEntry) (before : List TableEntry) (old new : BTreeMap TableKey HitTable)
     → ¬ HasPrefix (table_at old e.node e.table e.family) e.prefix → HasOneMore e old new → AnswerFor before old
@@ -211,16 +211,16 @@ pub answer_none : (tables : BTreeMap TableKey HitTable) → tables.entries ≡ [
 answer_none tables none node table family =
     subst (λ (t : HitTable). IsExact [] t) (sym (empty_table tables node table family none)) exact_none
 
-entries_from-push : {X : Type 0} (entry : ℕ → X → TableEntry) (n : ℕ) (xs : List X) (x : X)
+entries_from_push : {X : Type 0} (entry : ℕ → X → TableEntry) (n : ℕ) (xs : List X) (x : X)
     → entries_from entry n (xs ++ x ∷ []) ≡ entries_from entry n xs ++ entry (n + length xs) x ∷ []
-entries_from-push entry n [] x = let same : n ≡ n + 0 = omega arith in ap (λ k. entry k x ∷ []) same
-entries_from-push entry n (y ∷ ys) x =
+entries_from_push entry n [] x = let same : n ≡ n + 0 = omega arith in ap (λ k. entry k x ∷ []) same
+entries_from_push entry n (y ∷ ys) x =
     let same : n + 1 + length ys ≡ n + suc (length ys) = omega arith in
-    ap (λ es. entry n y ∷ es) (entries_from-push entry (n + 1) ys x ∙ ap (λ k. entries_from entry (n + 1) ys ++ entry k x ∷ []) same)
+    ap (λ es. entry n y ∷ es) (entries_from_push entry (n + 1) ys x ∙ ap (λ k. entries_from entry (n + 1) ys ++ entry k x ∷ []) same)
 
 pub entries_more : {X : Type 0} (entry : ℕ → X → TableEntry) (xs : List X) (i : ℕ) (x : X) → i < length xs → x ≡ get_or xs i x
     → entries_from entry 0 (take (i + 1) xs) ≡ entries_from entry 0 (take i xs) ++ entry i x ∷ []
 entries_more entry xs i x within is =
     ap (entries_from entry 0) (take_more xs i x within ∙ sym (ap (λ y. take i xs ++ y ∷ []) is))
-    ∙ (entries_from-push entry 0 (take i xs) x
+    ∙ (entries_from_push entry 0 (take i xs) x
     ∙ ap (λ k. entries_from entry 0 (take i xs) ++ entry k x ∷ []) (omega (arith, length-take-le i xs (omega (arith, within)))))

@@ -9,7 +9,7 @@ use Rattle.std.proofs.lemmas.Option.{none-some, same_Some}
 use Rattle.std.proofs.lemmas.List.{append_assoc}
 use Rattle.std.proofs.lemmas.List.Elements.{Contains-append_cases, filter-append}
 use Rattle.v6_addr.specs.Address.{PrefixValue}
-use Rattle.prefix_table.specs.Table.{is_one_prefix, value_at}
+use Rattle.prefix_table.specs.PrefixTable.{is_one_prefix, value_at}
 use Rattle.prefix_table.proofs.PublicLaws.{one_from}
 use Rattle.srv6_rules.specs.declared.family.Family.{Family}
 use Rattle.net_model.specs.declared.parts.NetParts.{NetParts}
@@ -18,16 +18,17 @@ use Rattle.net_model.specs.declared.parts.Node.{Node}
 use Rattle.net_model.specs.declared.net.EntryId.{EntryId}
 use Rattle.net_model.specs.declared.net.Hit.{Hit}
 use Rattle.net_model.specs.declared.net.Hit.TheVariants as hits
-use Rattle.net_model.specs.declared.tables.TableKey.{TableKey}
-use Rattle.net_model.specs.declared.tables.TableEntry.{TableEntry}
-use Rattle.net_model.specs.Network.{Network, network_of, network_with, same_hit, is_shown, hidden_hits, hit_of_entry}
-use Rattle.net_model.specs.Rules.{IsNetwork}
+use Rattle.net_model.specs.declared.lookup_tables.TableKey.{TableKey}
+use Rattle.net_model.specs.declared.lookup_tables.TableEntry.{TableEntry}
+use Rattle.net_model.specs.Network.{Network, same_hit, is_shown, hit_of_entry}
+use Rattle.net_model.specs.NetworkTerms.{network_of, network_with, hidden_hits}
+use Rattle.net_model.specs.NetworkRulesTerms.{IsNetwork}
 use Rattle.net_model.specs.Best.{Entry, sid_entries, route_entries, address_entries, has_sids, all_entries_of, entries_of}
 use Rattle.net_model.specs.Entries.{IsEntryAs}
-use Rattle.net_model.specs.Tables.{HitTable, table_at, first_on, AreTables, IsListed, unless_route, AreTablesBefore}
+use Rattle.net_model.specs.LookupTables.{HitTable, table_at, first_on, AreTables, IsListed, unless_route, AreTablesBefore}
 use Rattle.net_model.proofs.EntryLemmas.{contains_none, contains_cases, contains_first, contains_later, sid_means, route_means, route_is_there, among_passing, passing_among}
 use Rattle.net_model.proofs.HiddenLemmas.{rules_with}
-use Rattle.net_model.proofs.KeepsLemmas.{keeps_from_network}
+use Rattle.net_model.proofs.NetworkKeepsLemmas.{keeps_from_network}
 use Rattle.net_model.proofs.SettleLemmas.{listed_is, first_stays, first_some}
 
 -- ---- the first of entries on a prefix

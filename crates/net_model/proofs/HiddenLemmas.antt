@@ -11,9 +11,10 @@ use Rattle.net_model.specs.declared.net.EntryId.{EntryId}
 use Rattle.net_model.specs.declared.net.EntryId.TheVariants as ids
 use Rattle.net_model.specs.declared.net.Hit.{Hit}
 use Rattle.net_model.specs.declared.net.Hit.TheVariants as hits
-use Rattle.net_model.specs.Network.{network_of, network_with, same_hit, is_shown, flagged, hidden_hits, HasFlags, IsMarked, CanHide, hit_of_entry, IsEdited}
-use Rattle.net_model.specs.Rules.{is_network, IsNetwork}
-use Rattle.net_model.specs.Judging.{InRange}
+use Rattle.net_model.specs.Network.{same_hit, is_shown, hit_of_entry}
+use Rattle.net_model.specs.NetworkTerms.{network_of, network_with, flagged, hidden_hits, HasFlags, IsMarked, CanHide, IsEdited}
+use Rattle.net_model.specs.NetworkRulesTerms.{is_network, IsNetwork}
+use Rattle.net_model.specs.NetworkJudgingTerms.{InRange}
 
 -- ---- the flags
 

@@ -4,7 +4,8 @@ use Rattle.std.specs.List.{slice_get, Contains, filter}
 use Rattle.std.proofs.lemmas.Bool.{cases_Bool, both_ways, ltb-true, ltb-false}
 use Rattle.std.proofs.lemmas.Option.{same_Some}
 use Rattle.std.proofs.lemmas.List.Elements.{Contains-append_cases}
-use Rattle.v6_addr.specs.Address.{PrefixValue, IsPrefix, Holds, holds_address}
+use Rattle.v6_addr.specs.Address.{PrefixValue, Holds, holds_address}
+use Rattle.v6_addr.specs.AddressTerms.{IsPrefix}
 use Rattle.v6_addr.proofs.PublicLaws.{holds_address_is, same_value}
 use Rattle.srv6_rules.specs.declared.family.Family.{Family}
 use Rattle.srv6_rules.specs.declared.family.Family.TheVariants as families
@@ -13,11 +14,12 @@ use Rattle.net_model.specs.declared.parts.Node.{Node}
 use Rattle.net_model.specs.declared.net.Hit.{Hit}
 use Rattle.net_model.specs.declared.net.Hit.TheVariants as hits
 use Rattle.net_model.specs.Network.{Network, is_shown}
-use Rattle.net_model.specs.Best.{Entry, sid_entries, route_entries, address_entries, has_sids, all_entries_of, entries_of, rank_of, FitsNoWorse, IsBestEntry, IsBest, longer, longest, hit_of, lookup_of}
-use Rattle.net_model.specs.Rules.{IsNetwork}
-use Rattle.net_model.specs.Keeps.{Keeps}
-use Rattle.net_model.proofs.KeepsLemmas.{keeps_from_network}
-use Rattle.net_model.proofs.EntryLemmas.{contains_none, contains_cases, contains_first, contains_later, sid_means, route_means, passing_among, entry_means, all_entries_of-first, all_entries_of-other}
+use Rattle.net_model.specs.Best.{Entry, sid_entries, route_entries, address_entries, has_sids, all_entries_of, entries_of, longer, longest, hit_of, lookup_of}
+use Rattle.net_model.specs.BestTerms.{rank_of, FitsNoWorse, IsBestEntry, IsBest}
+use Rattle.net_model.specs.NetworkRulesTerms.{IsNetwork}
+use Rattle.net_model.specs.NetworkKeeps.{Keeps}
+use Rattle.net_model.proofs.NetworkKeepsLemmas.{keeps_from_network}
+use Rattle.net_model.proofs.EntryLemmas.{contains_none, contains_cases, contains_first, contains_later, sid_means, route_means, passing_among, entry_means, all_entries_of_first, all_entries_of_other}
 
 -- each entry ranks no later than those after it
 abbrev pub IsRanked : List Entry → Type 0
@@ -144,8 +146,8 @@ first_ranked net node table family =
 all_ranked : (net : Network) (node table : ℕ) (family : Family) → IsRanked (all_entries_of net node table family)
 all_ranked net node table family =
     elim (cases_Bool (has_sids table family)) [
-      | inl is ↦ subst IsRanked (sym (all_entries_of-first net node table family is)) (first_ranked net node table family)
-      | inr other ↦ subst IsRanked (sym (all_entries_of-other net node table family other))
+      | inl is ↦ subst IsRanked (sym (all_entries_of_first net node table family is)) (first_ranked net node table family)
+      | inr other ↦ subst IsRanked (sym (all_entries_of_other net node table family other))
           (ranked_from 2 (route_entries node table family 0 net.routes) (routes_rank node table family 0 net))
     ]
 

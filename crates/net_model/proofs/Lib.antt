@@ -1,6 +1,6 @@
 pub mod ListLemmas
-pub mod TitleLemmas
-pub mod KeepsLemmas
+pub mod NetworkTitleLemmas
+pub mod NetworkKeepsLemmas
 pub mod NamedLemmas
 pub mod EntryLemmas
 pub mod IsBestLemmas
@@ -14,11 +14,12 @@ pub mod FillLemmas
 pub mod ListedLemmas
 pub mod SettleLemmas
 pub mod FirstLemmas
-pub mod JudgingLemmas
+pub mod NetworkJudgingLemmas
 pub mod PassesLemmas
 pub mod TableLaws
 pub mod RoomLaws
 pub mod SidLaws
 pub mod RouteSetLemmas
-pub mod NumberLemmas
+pub mod NetworkNumberLemmas
 pub mod PublicLaws
+pub mod CopyLemmas

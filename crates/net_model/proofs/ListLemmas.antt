@@ -5,7 +5,7 @@ use Rattle.std.proofs.lemmas.Bool.{and_parts, and_from, not-true, eq-eqb, or_par
 use Rattle.std.proofs.lemmas.Option.{same_Some}
 use Rattle.std.proofs.lemmas.List.Sums.{AllPass-from_list_all}
 use Rattle.std.proofs.lemmas.List.Elements.{All-contains}
-use Rattle.net_model.specs.Rules.{are_distinct, same_bytes}
+use Rattle.net_model.specs.NetworkRules.{are_distinct, same_bytes}
 
 pub passes_at : {X : Type 0} (p : X → Bool) (xs : List X) (i : ℕ) (x : X) → list_all p xs ≡ true → slice_get xs i ≡ Some x → p x ≡ true
 passes_at p [] i x h e = cc
@@ -34,9 +34,9 @@ same_number_of same (z ∷ zs) (suc i) zero x y h at_i at_j xy yx =
 same_number_of same (z ∷ zs) (suc i) (suc j) x y h at_i at_j xy yx =
     ap suc (same_number_of same zs i j x y (and_parts _ _ h).1 at_i at_j xy yx)
 
-same_bytes-self : (xs : List ℕ) → same_bytes xs xs ≡ true
-same_bytes-self [] = refl
-same_bytes-self (x ∷ xs) = and_from _ _ (eq-eqb x x refl) (same_bytes-self xs)
+same_bytes_self : (xs : List ℕ) → same_bytes xs xs ≡ true
+same_bytes_self [] = refl
+same_bytes_self (x ∷ xs) = and_from _ _ (eq-eqb x x refl) (same_bytes_self xs)
 
 pub same_bytes_from : (xs ys : List ℕ) → xs ≡ ys → same_bytes xs ys ≡ true
-same_bytes_from xs ys e = subst (λ zs. same_bytes xs zs ≡ true) e (same_bytes-self xs)
+same_bytes_from xs ys e = subst (λ zs. same_bytes xs zs ≡ true) e (same_bytes_self xs)

@@ -11,14 +11,14 @@ use Rattle.srv6_rules.specs.declared.sid.SidEntry.{SidEntry}
 use Rattle.net_model.specs.declared.parts.Node.{Node}
 use Rattle.net_model.specs.declared.parts.Route.{Route}
 use Rattle.net_model.specs.declared.net.Hit.{Hit}
-use Rattle.net_model.specs.declared.tables.TableKey.{TableKey}
-use Rattle.net_model.specs.declared.tables.TableEntry.{TableEntry}
+use Rattle.net_model.specs.declared.lookup_tables.TableKey.{TableKey}
+use Rattle.net_model.specs.declared.lookup_tables.TableEntry.{TableEntry}
 use Rattle.net_model.specs.Network.{Network, is_shown}
-use Rattle.net_model.specs.Rules.{same_family}
+use Rattle.net_model.specs.NetworkRules.{same_family}
 use Rattle.net_model.specs.Best.{Entry, sid_entries, is_route_of, route_entries, address_entries, has_sids, all_entries_of}
-use Rattle.net_model.specs.Tables.{HitTable, table_at, is_entry_of, entries_at, entries_from, shown_of, sid_entry, address_entry, route_entry, all_entries, IsExact, AnswerFor, AreTables}
-use Rattle.net_model.proofs.EntryLemmas.{all_entries_of-first, all_entries_of-other}
-use Rattle.net_model.proofs.FillLemmas.{entries_at-append}
+use Rattle.net_model.specs.LookupTables.{HitTable, table_at, is_entry_of, entries_at, entries_from, shown_of, sid_entry, address_entry, route_entry, all_entries, IsExact, AnswerFor, AreTables}
+use Rattle.net_model.proofs.EntryLemmas.{all_entries_of_first, all_entries_of_other}
+use Rattle.net_model.proofs.FillLemmas.{entries_at_append}
 
 -- ---- of table 0 of IPv6, and of other tables
 
@@ -96,8 +96,8 @@ all_at net node table family =
     let sids = entries_from sid_entry 0 net.sids in
     let nodes = entries_from address_entry 0 net.nodes in
     let routes = entries_from route_entry 0 net.routes in
-    let parted = entries_at-append sids (nodes ++ routes) node table family
-    ∙ ap (λ es. entries_at sids node table family ++ es) (entries_at-append nodes routes node table family) in
+    let parted = entries_at_append sids (nodes ++ routes) node table family
+    ∙ ap (λ es. entries_at sids node table family ++ es) (entries_at_append nodes routes node table family) in
     elim (cases_Bool (has_sids table family)) [
       | inl first ↦ parted
           ∙ (three _ _ _ _ _ _
@@ -105,13 +105,13 @@ all_at net node table family =
           (at_first (λ t f. entries_at nodes node t f ≡ address_entries (slice_get net.nodes node)) table family first
           (addresses_at_first node 0 net.nodes node (omega arith)))
           (routes_at node table family 0 net.routes)
-          ∙ sym (all_entries_of-first net node table family first))
+          ∙ sym (all_entries_of_first net node table family first))
       | inr other ↦ parted
           ∙ (three _ _ _ _ _ _
           (none_at sid_entry node table family (λ n s. apart_from_first (s.node == node) table family other) 0 net.sids)
           (none_at address_entry node table family (λ n x. apart_from_first (n == node) table family other) 0 net.nodes)
           (routes_at node table family 0 net.routes)
-          ∙ sym (all_entries_of-other net node table family other))
+          ∙ sym (all_entries_of_other net node table family other))
     ]
 
 -- ---- those that are shown
@@ -133,8 +133,8 @@ shown_at hidden (e ∷ es) node table family =
       ]
     ]
 
-pub shown_of-append : (hidden : List Hit) (es fs : List TableEntry) → shown_of hidden (es ++ fs) ≡ shown_of hidden es ++ shown_of hidden fs
-shown_of-append hidden es fs = filter-append (λ (e : TableEntry). is_shown hidden e.hit) es fs
+pub shown_of_append : (hidden : List Hit) (es fs : List TableEntry) → shown_of hidden (es ++ fs) ≡ shown_of hidden es ++ shown_of hidden fs
+shown_of_append hidden es fs = filter-append (λ (e : TableEntry). is_shown hidden e.hit) es fs
 
 pub are_tables : (net : Network) (hidden : List Hit) (sids : List SidEntry) (nodes : List Node) (routes : List Route)
     (tables : BTreeMap TableKey HitTable) → sids ≡ net.sids → nodes ≡ net.nodes → routes ≡ net.routes
@@ -153,8 +153,8 @@ are_tables net hidden sids nodes routes tables is_sids is_nodes is_routes answer
     let ns = entries_from address_entry 0 nodes in
     let rs = entries_from route_entry 0 routes in
     let joined : (shown_of hidden ss ++ shown_of hidden ns) ++ shown_of hidden rs ≡ shown_of hidden (all_entries net) =
-    ap (λ (es : List TableEntry). es ++ shown_of hidden rs) (sym (shown_of-append hidden ss ns))
-    ∙ (sym (shown_of-append hidden (ss ++ ns) rs) ∙ ap (shown_of hidden) whole) in
+    ap (λ (es : List TableEntry). es ++ shown_of hidden rs) (sym (shown_of_append hidden ss ns))
+    ∙ (sym (shown_of_append hidden (ss ++ ns) rs) ∙ ap (shown_of hidden) whole) in
     subst (λ (es : List Entry). IsExact es (table_at tables node table family))
     (shown_at hidden (all_entries net) node table family
     ∙ ap (λ (es : List Entry). filter (λ x. is_shown hidden x.hit) es) (all_at net node table family))

@@ -8,7 +8,8 @@ use Rattle.std.proofs.lemmas.List.Quantifiers.{position-Some}
 use Rattle.std.proofs.lemmas.Slice.Eq.{bytes_eq-Decides}
 use Rattle.net_model.specs.declared.parts.Node.{Node}
 use Rattle.net_model.specs.declared.parts.Link.{Link}
-use Rattle.net_model.specs.Named.{node_numbered, link_numbered, IsNodeNumbered, IsLinkNumbered}
+use Rattle.net_model.specs.Named.{node_numbered, link_numbered}
+use Rattle.net_model.specs.NamedTerms.{IsNodeNumbered, IsLinkNumbered}
 
 none_passes : {X : Type 0} (p : X → Bool) (xs : List X) (i : ℕ) (x : X) → length xs ≤ position_or_len p xs → slice_get xs i ≡ Some x
     → p x ≡ false
@@ -19,9 +20,9 @@ none_passes p (y ∷ ys) (suc i) x h e =
     elim (cases_Bool (p y)) [ inl t ↦ absurd (omega (arith, rw t at h)) | inr f ↦ none_passes p ys i x (omega (arith, rw f at h)) e ]
 
 -- where no place is found each item fails
-pub position-None : {X : Type 0} (p : X → Bool) (xs : List X) → position p xs ≡ None → (i : ℕ) (x : X) → slice_get xs i ≡ Some x
+pub position_None : {X : Type 0} (p : X → Bool) (xs : List X) → position p xs ≡ None → (i : ℕ) (x : X) → slice_get xs i ≡ Some x
     → p x ≡ false
-position-None p xs h i x e =
+position_None p xs h i x e =
     elim (cases_Bool (ltb (position_or_len p xs) (length xs))) [
       | inl t ↦ absurd (let g = rw t at h in cc)
       | inr f ↦
@@ -38,14 +39,14 @@ position_item p xs i h =
     ]
 
 node_means : (name : List ℕ) (nodes : List Node) (o : Option ℕ) → node_numbered name nodes ≡ o → IsNodeNumbered name nodes o
-node_means name nodes None h = λ i n e same. both_ways _ (position-None (λ m. bytes_eq m.name name) nodes h i n e)
+node_means name nodes None h = λ i n e same. both_ways _ (position_None (λ m. bytes_eq m.name name) nodes h i n e)
     ((bytes_eq-Decides n.name name).1 same)
 node_means name nodes (Some i) h =
     let found = position_item (λ m. bytes_eq m.name name) nodes i h in
     (found.0, found.1, (bytes_eq-Decides found.0.name name).0 found.2)
 
 link_means : (name : List ℕ) (links : List Link) (o : Option ℕ) → link_numbered name links ≡ o → IsLinkNumbered name links o
-link_means name links None h = λ i l e same. both_ways _ (position-None (λ m. bytes_eq m.name name) links h i l e)
+link_means name links None h = λ i l e same. both_ways _ (position_None (λ m. bytes_eq m.name name) links h i l e)
     ((bytes_eq-Decides l.name name).1 same)
 link_means name links (Some i) h =
     let found = position_item (λ m. bytes_eq m.name name) links i h in

@@ -5,11 +5,11 @@ use Rattle.std.proofs.lemmas.List.Folds.{list_any-append}
 use Rattle.std.specs.List.{list_any, list_all}
 use Rattle.std.specs.Result.{is_ok}
 use Rattle.std.specs.Prelude.{Result, Ok, Err}
-use Rattle.text_faults.specs.declared.place.TableKind.{TableKind}
-use Rattle.text_faults.specs.declared.place.FaultPlace.{FaultPlace}
+use Rattle.text_faults.specs.declared.text_place.TableKind.{TableKind}
+use Rattle.text_faults.specs.declared.text_place.FaultPlace.{FaultPlace}
 use Rattle.text_faults.specs.declared.fault.TextFault.{TextFault}
-use Rattle.net_model.specs.Rules.{are_distinct}
-use Rattle.net_model.specs.Judging.{and_then, judged, stands_before}
+use Rattle.net_model.specs.NetworkRules.{are_distinct}
+use Rattle.net_model.specs.NetworkJudging.{and_then, judged, stands_before}
 
 -- each item passes a test beside those before it
 abbrev pub passes : {X : Type 0} → (List X → X → Bool) → List X → List X → Bool
@@ -79,9 +79,9 @@ distinct_last same (y ∷ ys) x =
     ∙ (ap (λ b. not (list_any (same y) ys || (same y x || false)) && b) (distinct_last same ys x)
     ∙ add_last (same y x) (list_any (same y) ys) (stands_before same ys x) (are_distinct same ys))
 
-and-assoc : (a b c : Bool) → ((a && b) && c) ≡ (a && (b && c))
-and-assoc true b c = refl
-and-assoc false b c = refl
+and_assoc : (a b c : Bool) → ((a && b) && c) ≡ (a && (b && c))
+and_assoc true b c = refl
+and_assoc false b c = refl
 
 and_one : (a : Bool) → a ≡ (a && true)
 and_one true = refl
@@ -96,7 +96,7 @@ distinct_passes same ys (x ∷ xs) =
     ap (are_distinct same) (sym (append_assoc ys (x ∷ []) xs))
     ∙ (distinct_passes same (ys ++ x ∷ []) xs
     ∙ (ap (λ b. b && more) (distinct_last same ys x)
-    ∙ and-assoc (are_distinct same ys) (not (stands_before same ys x)) more))
+    ∙ and_assoc (are_distinct same ys) (not (stands_before same ys x)) more))
 
 pub passes_distinct : {X : Type 0} (same : X → X → Bool) (xs : List X)
     → passes (λ before x. not (stands_before same before x)) [] xs ≡ are_distinct same xs

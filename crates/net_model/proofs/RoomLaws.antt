@@ -8,8 +8,10 @@ use Rattle.std.specs.List.{list_any, list_all, slice_get, count_by, filter_map, 
 use Rattle.srv6_rules.specs.declared.sid.SidEntry.{SidEntry}
 use Rattle.net_model.specs.declared.limits.TheConstants.{MAX_SIDS_OF_NODE}
 use Rattle.net_model.specs.Network.{Network}
-use Rattle.net_model.specs.Rules.{are_distinct, same_bytes, same_number, is_sid_of, has_room, title_of}
-use Rattle.net_model.specs.Judging.{are_numbers, InRange, stands_before, title_text, same_text, same_title_text, is_full}
+use Rattle.net_model.specs.NetworkRules.{are_distinct, same_bytes, same_number, is_sid_of, has_room}
+use Rattle.net_model.specs.NetworkRulesTerms.{title_of}
+use Rattle.net_model.specs.NetworkJudging.{stands_before, title_text, same_text, same_title_text, is_full}
+use Rattle.net_model.specs.NetworkJudgingTerms.{are_numbers, InRange}
 use Rattle.net_model.proofs.PassesLemmas.{passes, passes_distinct}
 
 -- ---- room at a node

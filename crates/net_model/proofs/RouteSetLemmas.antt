@@ -13,8 +13,8 @@ use Rattle.srv6_rules.specs.declared.family.Family.{Family}
 use Rattle.srv6_rules.specs.declared.family.Family.TheVariants as families
 use Rattle.net_model.specs.declared.parts.Route.{Route}
 use Rattle.net_model.specs.declared.route_set.EntryKey.{EntryKey}
-use Rattle.net_model.specs.Rules.{same_family, same_route}
-use Rattle.net_model.specs.Judging.{stands_before}
+use Rattle.net_model.specs.NetworkRules.{same_family, same_route}
+use Rattle.net_model.specs.NetworkJudging.{stands_before}
 use Rattle.net_model.specs.EntryKeys.{entry_key_cmp, entry_key, key_of, HasKeys}
 
 then_is_eq : (o p : Ordering) → is_eq (ordering_then o p) ≡ (is_eq o && is_eq p)

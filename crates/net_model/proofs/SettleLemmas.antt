@@ -11,7 +11,7 @@ use Rattle.std.proofs.lemmas.Bool.{cases_Bool, both_ways, and_parts, and_from, e
 use Rattle.std.proofs.lemmas.List.{drop_more, drop_all}
 use Rattle.std.proofs.lemmas.Option.{none-some, same_Some}
 use Rattle.v6_addr.specs.Address.{PrefixValue}
-use Rattle.prefix_table.specs.Table.{HasPrefix, is_one_prefix, value_at, with_value}
+use Rattle.prefix_table.specs.PrefixTable.{HasPrefix, is_one_prefix, value_at, with_value}
 use Rattle.prefix_table.proofs.PublicLaws.{one_from, one_to, there_tells, value_pushed, value_with}
 use Rattle.srv6_rules.specs.declared.family.Family.{Family}
 use Rattle.srv6_rules.specs.declared.sid.SidEntry.{SidEntry}
@@ -22,13 +22,14 @@ use Rattle.net_model.specs.declared.net.EntryId.{EntryId}
 use Rattle.net_model.specs.declared.net.EntryId.TheVariants as ids
 use Rattle.net_model.specs.declared.net.Hit.{Hit}
 use Rattle.net_model.specs.declared.net.Hit.TheVariants as hits
-use Rattle.net_model.specs.declared.tables.TableKey.{TableKey}
-use Rattle.net_model.specs.declared.tables.TableEntry.{TableEntry}
-use Rattle.net_model.specs.Network.{Network, network_of, network_with, same_hit, is_shown, hidden_hits, hit_of_entry}
+use Rattle.net_model.specs.declared.lookup_tables.TableKey.{TableKey}
+use Rattle.net_model.specs.declared.lookup_tables.TableEntry.{TableEntry}
+use Rattle.net_model.specs.Network.{Network, same_hit, is_shown, hit_of_entry}
+use Rattle.net_model.specs.NetworkTerms.{network_of, network_with, hidden_hits}
 use Rattle.net_model.specs.Best.{Entry, all_entries_of, entries_of}
 use Rattle.net_model.specs.Entries.{IsEntryAs}
-use Rattle.net_model.specs.Tables.{HitTable, table_key_cmp, table_key, table_at, first_on, AreTables, is_entry_of, entries_from, sid_entry, route_entry, all_entries, IsListed, first_at, stands_on, SettlesIn, Settles}
-use Rattle.net_model.proofs.EntryLemmas.{contains_none, contains_cases, contains_first, contains_later, any_entry_means, entry_is_there, same_family-from}
+use Rattle.net_model.specs.LookupTables.{HitTable, table_key_cmp, table_key, table_at, first_on, AreTables, is_entry_of, entries_from, sid_entry, route_entry, all_entries, IsListed, first_at, stands_on, SettlesIn, Settles}
+use Rattle.net_model.proofs.EntryLemmas.{contains_none, contains_cases, contains_first, contains_later, any_entry_means, entry_is_there, same_family_from}
 use Rattle.net_model.proofs.FillLemmas.{table_key_is, same_place}
 use Rattle.net_model.proofs.ListedLemmas.{all_at}
 
@@ -80,7 +81,7 @@ listed_where net (ids.Route n) e node table family p (hits.Route m) (r, at, is) 
     let one : r ≡ t = same_Some r t (sym at ∙ (ap (slice_get net.routes) number ∙ at_t)) in
     subst (λ (f : TableEntry). (is_entry_of node table family f ≡ true) × (f.prefix ≡ p)) (sym is)
     (subst (λ (q : Route). (is_entry_of node table family (route_entry n q) ≡ true) × (q.prefix ≡ p)) (sym one) (
-      and_from _ _ (eq-eqb t.node node of) (and_from _ _ (eq-eqb t.table table in_table) (same_family-from t.family family of_family)),
+      and_from _ _ (eq-eqb t.node node of) (and_from _ _ (eq-eqb t.table table in_table) (same_family_from t.family family of_family)),
       prefix,
     ))
 listed_where net (ids.Sid n) e node table family p (hits.Sid m) (s, at, is) (t, at_t, of, prefix, in_table, of_family) same =
@@ -88,7 +89,7 @@ listed_where net (ids.Sid n) e node table family p (hits.Sid m) (s, at, is) (t, 
     let one : s ≡ t = same_Some s t (sym at ∙ (ap (slice_get net.sids) number ∙ at_t)) in
     subst (λ (f : TableEntry). (is_entry_of node table family f ≡ true) × (f.prefix ≡ p)) (sym is)
     (subst (λ (q : SidEntry). (is_entry_of node table family (sid_entry n q) ≡ true) × (q.prefix ≡ p)) (sym one) (
-      and_from _ _ (eq-eqb t.node node of) (and_from _ _ (eq-eqb 0 table (sym in_table)) (same_family-from _ family (sym of_family))),
+      and_from _ _ (eq-eqb t.node node of) (and_from _ _ (eq-eqb 0 table (sym in_table)) (same_family_from _ family (sym of_family))),
       prefix,
     ))
 listed_where net (ids.Route n) e node table family p (hits.Sid m) listed is same = cc

@@ -8,18 +8,20 @@ use Rattle.std.specs.Result.{is_ok}
 use Rattle.srv6_rules.specs.declared.sid.SidEntry.{SidEntry}
 use Rattle.srv6_rules.specs.Behaviours.{behaviour_takes_links, behaviour_table, behaviour_policy, behaviour_takes_flavours}
 use Rattle.net_model.specs.declared.limits.TheConstants.{MAX_LINKS_OF_SET}
-use Rattle.text_faults.specs.declared.place.TableKind.{TableKind}
-use Rattle.text_faults.specs.declared.place.TableKind.TheVariants as tables
-use Rattle.text_faults.specs.declared.place.FaultPlace.{FaultPlace}
+use Rattle.text_faults.specs.declared.text_place.TableKind.{TableKind}
+use Rattle.text_faults.specs.declared.text_place.TableKind.TheVariants as tables
+use Rattle.text_faults.specs.declared.text_place.FaultPlace.{FaultPlace}
 use Rattle.text_faults.specs.declared.fault.TextFault.{TextFault}
-use Rattle.text_faults.specs.declared.kind.FaultKind.TheVariants as kinds
-use Rattle.text_faults.specs.Faults.{fault_at}
+use Rattle.text_faults.specs.declared.fault_kind.FaultKind.TheVariants as kinds
+use Rattle.text_faults.specs.TextFaults.{fault_at}
 use Rattle.net_model.specs.declared.parts.Block.{Block}
 use Rattle.net_model.specs.declared.parts.Link.{Link}
 use Rattle.net_model.specs.declared.standing.Standing.{Standing}
 use Rattle.net_model.specs.Network.{Network}
-use Rattle.net_model.specs.Rules.{are_distinct, same_bytes, is_prefix, suits_links, suits_table, suits_policy, suits_flavours, keeps_behaviour, block_of, block_len_of, keeps_compression, is_title, keeps_sid, same_number, same_sid, has_room, title_of, keeps_sids, keeps_titles, is_network, IsNetwork}
-use Rattle.net_model.specs.Judging.{sid_in_range, InRange, first_of, and_then, judged, stands_before, is_unknown, is_set_of, same_answer, fitting, standing_or, suits_keys, is_unknown_policy, same_title_text, is_full, suits_compression, judge_joins, judge_flavours, judge_apart, judge_standing, judge_sid, judge_block, judge_node, judge_link, judge_route, judge_policy, judging}
+use Rattle.net_model.specs.NetworkRules.{are_distinct, same_bytes, suits_flavours, block_of, block_len_of, same_number, same_sid, has_room}
+use Rattle.net_model.specs.NetworkRulesTerms.{is_prefix, suits_links, suits_table, suits_policy, keeps_behaviour, keeps_compression, is_title, keeps_sid, title_of, keeps_sids, keeps_titles, is_network, IsNetwork}
+use Rattle.net_model.specs.NetworkJudging.{first_of, and_then, judged, stands_before, is_unknown, is_set_of, same_answer, fitting, standing_or, suits_keys, is_unknown_policy, same_title_text, is_full, suits_compression, judge_joins, judge_flavours, judge_apart, judge_standing, judge_sid, judge_block, judge_node, judge_link, judge_route, judge_policy, judging}
+use Rattle.net_model.specs.NetworkJudgingTerms.{sid_in_range, InRange}
 use Rattle.net_model.proofs.PassesLemmas.{passes, and_then_ok, then_ok, judged_passes_within, passes_both, passes_all, passes_distinct, list_all_within, left_out, left_out_behind}
 use Rattle.net_model.proofs.TableLaws.{set_known, set_law, blocks_law, nodes_law, links_law, routes_law, policies_law}
 use Rattle.net_model.proofs.RoomLaws.{room_law, titles_numbered, numbers_distinct, titles_law}

@@ -7,15 +7,17 @@ use Rattle.std.specs.Prelude.{nat_lt, nat_le}
 use Rattle.std.specs.List.{list_any, list_all, slice_get}
 use Rattle.std.specs.Result.{is_ok}
 use Rattle.net_model.specs.declared.limits.TheConstants.{MAX_BLOCKS, MAX_NODES, MAX_LINKS, MAX_ROUTES, MAX_POLICIES, MAX_LINKS_OF_SET}
-use Rattle.text_faults.specs.declared.place.TableKind.TheVariants as tables
+use Rattle.text_faults.specs.declared.text_place.TableKind.TheVariants as tables
 use Rattle.text_faults.specs.declared.fault.TextFault.{TextFault}
 use Rattle.net_model.specs.declared.parts.Block.{Block}
 use Rattle.net_model.specs.declared.parts.NamedPolicy.{NamedPolicy}
 use Rattle.net_model.specs.declared.parts.Node.{Node}
 use Rattle.net_model.specs.declared.parts.Link.{Link}
 use Rattle.net_model.specs.declared.parts.Route.{Route}
-use Rattle.net_model.specs.Rules.{are_distinct, is_block_len, overlap, keeps_block, keeps_blocks, keeps_node, same_node_name, same_node_address, keeps_nodes, ends_elsewhere, keeps_link, same_link_name, keeps_links, starts_at_node, starts_at, is_link_set, keeps_route, same_route, keeps_routes, keeps_policy, same_policy_name, keeps_policies}
-use Rattle.net_model.specs.Judging.{few, block_in_range, link_in_range, route_in_range, policy_in_range, first_of, judged, stands_before, judge_block, judge_node, is_unknown, is_unknown_end, ends_at, judge_link, is_set_of, judge_route, judge_policy}
+use Rattle.net_model.specs.NetworkRules.{are_distinct, is_block_len, overlap, same_node_name, same_node_address, same_link_name, starts_at_node, starts_at, is_link_set, same_route, same_policy_name}
+use Rattle.net_model.specs.NetworkRulesTerms.{keeps_block, keeps_blocks, keeps_node, keeps_nodes, ends_elsewhere, keeps_link, keeps_links, keeps_route, keeps_routes, keeps_policy, keeps_policies}
+use Rattle.net_model.specs.NetworkJudging.{first_of, judged, stands_before, judge_block, judge_node, is_unknown, is_unknown_end, ends_at, judge_link, is_set_of, judge_route, judge_policy}
+use Rattle.net_model.specs.NetworkJudgingTerms.{few, block_in_range, link_in_range, route_in_range, policy_in_range}
 use Rattle.net_model.proofs.PassesLemmas.{passes, judged_passes, passes_both, passes_distinct, judged_table, list_all_within, left_out, left_out_behind}
 
 -- ---- blocks

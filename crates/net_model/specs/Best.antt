@@ -1,6 +1,6 @@
 -- The entries of a node's table, and the one that fits an address best: the longest prefix (RFC 1812 section 5.2.4.3, rule 2).
-use Rattle.std.specs.Prelude.{◌≡◌, ℕ, Bool, false, ◌+◌, ◌≤◌, ◌==◌, ◌&&◌, nat_lt, if◌then◌else◌, List, [], ◌∷◌, ◌++◌, slice_get, Option, Some, None, Contains}
-use Rattle.v6_addr.specs.Address.{PrefixValue, Holds, holds_address}
+use Rattle.std.specs.Prelude.{ℕ, Bool, false, ◌+◌, ◌==◌, ◌&&◌, nat_lt, if◌then◌else◌, List, [], ◌∷◌, ◌++◌, slice_get, Option, Some, None}
+use Rattle.v6_addr.specs.Address.{PrefixValue, holds_address}
 use Rattle.srv6_rules.specs.declared.family.Family.{Family}
 use Rattle.srv6_rules.specs.declared.family.Family.TheVariants as families
 use Rattle.srv6_rules.specs.declared.sid.SidEntry.{SidEntry}
@@ -10,7 +10,7 @@ use Rattle.net_model.specs.declared.net.Hit.{Hit}
 use Rattle.net_model.specs.declared.net.Hit.TheVariants as hits
 use Rattle.std.specs.List.{filter}
 use Rattle.net_model.specs.Network.{Network, is_shown}
-use Rattle.net_model.specs.Rules.{same_family}
+use Rattle.net_model.specs.NetworkRules.{same_family}
 
 -- an entry of a table: what it is, and its prefix
 pub record Entry : Type 0 where
@@ -55,33 +55,6 @@ all_entries_of net node table family =
 -- the entries that are shown
 abbrev pub entries_of : Network → ℕ → ℕ → Family → List Entry
 entries_of net node table family = filter (λ e. is_shown net.hidden e.hit) (all_entries_of net node table family)
-
--- at equal prefixes a SID comes before the address, and the address before a route (own rule)
-abbrev pub rank_of : Hit → ℕ
-rank_of (hits.Sid n) = 0
-rank_of hits.Address = 1
-rank_of (hits.Route n) = 2
-rank_of hits.Nothing = 3
-
--- the entry fits the address no worse than another that holds it
-abbrev pub FitsNoWorse : Entry → Entry → Type 0
-FitsNoWorse e other = (other.prefix.len ≤ e.prefix.len) × (other.prefix.len ≡ e.prefix.len → rank_of e.hit ≤ rank_of other.hit)
-
--- the entry holds the address, and no entry that holds it fits better
-pub record IsBestEntry (entries : List Entry) (a : ℕ) (e : Entry) : Type 0 where
-  pub is_there : Contains entries e
-  pub holds : Holds e.prefix a
-  pub no_better : (other : Entry) → Contains entries other → Holds other.prefix a → FitsNoWorse e other
-
--- best match: the hit of an entry that fits best, and nothing exactly where no entry holds the address
-abbrev pub IsBest : Network → ℕ → ℕ → Family → ℕ → Hit → Type 0
-IsBest net node table family a hits.Nothing = (e : Entry) → Contains (entries_of net node table family) e → ¬ Holds e.prefix a
-IsBest net node table family a (hits.Sid n) = (p : PrefixValue) × IsBestEntry (entries_of net node table family) a
-    (record { hit = hits.Sid n; prefix = p })
-IsBest net node table family a (hits.Route n) = (p : PrefixValue) × IsBestEntry (entries_of net node table family) a
-    (record { hit = hits.Route n; prefix = p })
-IsBest net node table family a hits.Address = (p : PrefixValue) × IsBestEntry (entries_of net node table family) a
-    (record { hit = hits.Address; prefix = p })
 
 -- of what was found first and what was found later the longer, and of equally long ones the first
 abbrev pub longer : Option Entry → Option Entry → Option Entry

@@ -1,4 +1,5 @@
--- What the entries of a node's table are, by what they are (own rule).
+-- Need not be believed: helps proofs and other laws.
+-- What the entries of a node's table are, by what they are.
 use Rattle.std.specs.Prelude.{◌≡◌, ℕ, true, slice_get, Some}
 use Rattle.v6_addr.specs.Address.{PrefixValue}
 use Rattle.srv6_rules.specs.declared.family.Family.{Family}

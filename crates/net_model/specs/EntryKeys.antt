@@ -1,4 +1,5 @@
--- What tells an entry of a table from others, in an order, so that a set can hold those that came before (own rule).
+-- Need not be believed: helps proofs and other laws.
+-- What tells an entry of a table from others, in an order, so that a set can hold those that came before.
 use Rattle.std.specs.Prelude.{◌≡◌, ℕ, List}
 use Rattle.std.specs.declared.cmp.Ordering.{Ordering}
 use Rattle.std.specs.Ordering.{nat_cmp, bool_cmp, ordering_then}
@@ -9,8 +10,8 @@ use Rattle.srv6_rules.specs.declared.family.Family.{Family}
 use Rattle.srv6_rules.specs.declared.family.Family.TheVariants as families
 use Rattle.net_model.specs.declared.parts.Route.{Route}
 use Rattle.net_model.specs.declared.route_set.EntryKey.{EntryKey}
-use Rattle.net_model.specs.Rules.{same_family, same_route}
-use Rattle.net_model.specs.Judging.{stands_before}
+use Rattle.net_model.specs.NetworkRules.{same_family, same_route}
+use Rattle.net_model.specs.NetworkJudging.{stands_before}
 
 -- by node, table, family, address and length
 abbrev pub entry_key_cmp : EntryKey → EntryKey → Ordering

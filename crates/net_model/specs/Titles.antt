@@ -1,4 +1,5 @@
--- SIDs that share a title, for the test that each title stands at one SID (own rule).
+-- Need not be believed: helps proofs and other laws.
+-- SIDs that share a title, for the test that each title stands at one SID.
 use Rattle.std.specs.Prelude.{ℕ, Bool, false, ◌==◌, Option, Some, None}
 use Rattle.srv6_rules.specs.declared.sid.SidEntry.{SidEntry}
 

@@ -4,7 +4,7 @@
 ghost use Rattle.std.specs.Prelude.{◌≡◌};
 ghost use Rattle.net_model.specs.declared.limits.TheConstants as n;
 
-/// How many parts a network and a description have at most, and of what size (own rules); the least
+/// How many parts a network and a description have at most, and of what size; the least
 /// and the largest MTU of a link (RFC 8200 sections 3 and 5), and the largest numbers of fields
 /// (RFC 8200 section 3, RFC 791 section 3.1).
 pub fn limits_have_their_figures()

@@ -1,19 +1,20 @@
 //! Entries that are hidden, and what stands on their prefixes without them.
 
 ghost use Rattle.std.specs.Prelude.{◌≡◌, ◌↔◌, ◌<◌, ◌^◌, [], length, slice_index_or, false, IsTrue, IfOk, OnOk, OnErr, Some};
-ghost use Rattle.prefix_table.specs.Table.{HasPrefix, value_at};
-ghost use Rattle.net_model.specs.Network.{CanHide, CanHideAll, HasFlags, HidesThese, IsMarked, hidden_hits, is_shown, network_of, network_with};
+ghost use Rattle.prefix_table.specs.PrefixTable.{HasPrefix, value_at};
+ghost use Rattle.net_model.specs.Network.{is_shown};
+ghost use Rattle.net_model.specs.NetworkTerms.{CanHide, CanHideAll, HasFlags, HidesThese, IsMarked, hidden_hits, network_of, network_with};
 ghost use Rattle.std.specs.BTreeMap.{IsUnchanged};
-ghost use Rattle.net_model.specs.Judging.{InRange};
+ghost use Rattle.net_model.specs.NetworkJudgingTerms.{InRange};
 ghost use Rattle.net_model.specs.Best.{entries_of};
 ghost use Rattle.net_model.specs.Entries.{IsEntryAs};
-ghost use Rattle.net_model.specs.Rules.{IsNetwork};
-ghost use Rattle.net_model.specs.Tables.{AreTablesBefore, IsListed, Settles, SettlesIn, entries_from, first_at, first_on, stands_on, table_at, unless_route};
+ghost use Rattle.net_model.specs.NetworkRulesTerms.{IsNetwork};
+ghost use Rattle.net_model.specs.LookupTables.{AreTablesBefore, IsListed, Settles, SettlesIn, entries_from, first_at, first_on, stands_on, table_at, unless_route};
 
+use crate::lookup_tables::{Listed, TableEntry, Tables, table_key};
 use crate::net::{EntryId, Hit};
 use crate::parts::NetParts;
 use crate::rules::{same_family, same_prefix};
-use crate::tables::{Listed, TableEntry, Tables, table_key};
 use prefix_table::Table;
 use std::alloc::{AllocError, Global};
 use v6_addr::Prefix;
@@ -136,7 +137,7 @@ fn first_of<X: Listed>(items: &[X], hidden: &Hidden, at: &TableEntry) -> Option<
 
 /// The first entry that is shown in an entry's table on its prefix: a SID, the node's address or a
 /// route.
-#[tactic(auto, using(crate::proofs::JudgingLemmas::few_bound))]
+#[tactic(auto, using(crate::proofs::NetworkJudgingLemmas::few_bound))]
 fn first_shown(parts: &NetParts, hidden: &Hidden, at: &TableEntry) -> Option<Hit>
     requires { InRange (network_of parts.now) }
     ensures { result ≡ first_on at.now.prefix (entries_of (network_with parts.now hidden.now)

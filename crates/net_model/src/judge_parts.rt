@@ -1,18 +1,19 @@
 //! The first fault of the parts of a network.
 
-ghost use Rattle.text_faults.specs.Reading.{Gives};
-ghost use Rattle.net_model.specs.Network.{network_of};
-ghost use Rattle.net_model.specs.Judging.{InRange, judging};
+ghost use Rattle.text_faults.specs.TextReading.{Gives};
+ghost use Rattle.net_model.specs.NetworkTerms.{network_of};
+ghost use Rattle.net_model.specs.NetworkJudging.{judging};
+ghost use Rattle.net_model.specs.NetworkJudgingTerms.{InRange};
 
-use crate::judge::{BlockRules, LinkRules, NodeRules, PolicyRules, RouteRules, judge_all};
 use crate::judge_sids::SidRules;
+use crate::net_judge::{BlockRules, LinkRules, NodeRules, PolicyRules, RouteRules, judge_all};
 use crate::parts::NetParts;
 use crate::standing::Standing;
 use std::alloc::Global;
 use text_faults::{NetFault, TableKind};
 
-/// The first fault of the parts of a network (own rules).
-#[tactic(auto, using(crate::proofs::JudgingLemmas::few_bound), unfolding(crate::specs::Judging::judging))]
+/// The first fault of the parts of a network.
+#[tactic(auto, using(crate::proofs::NetworkJudgingLemmas::few_bound), unfolding(crate::specs::NetworkJudging::judging))]
 pub(crate) fn judge_parts(
     alloc: Global,
     parts: &NetParts,

@@ -1,11 +1,11 @@
 //! The first fault of the SIDs of a network.
 
 ghost use Rattle.std.specs.Prelude.{◌≡◌, slice_get, option_map};
-ghost use Rattle.net_model.specs.Network.{network_of};
-ghost use Rattle.net_model.specs.Judging.{fitting, standing_or, suits_keys, is_unknown_policy, title_text, same_title_text, stands_before, is_full, judge_joins, suits_compression, judge_flavours, judge_apart, judge_sid};
+ghost use Rattle.net_model.specs.NetworkTerms.{network_of};
+ghost use Rattle.net_model.specs.NetworkJudging.{fitting, standing_or, suits_keys, is_unknown_policy, title_text, same_title_text, stands_before, is_full, judge_joins, suits_compression, judge_flavours, judge_apart, judge_sid};
 
-use crate::judge::{Judge, has_unknown, is_set_of, is_unknown, refuse_if, stands_before};
 use crate::limits::MAX_SIDS_OF_NODE;
+use crate::net_judge::{Judge, has_unknown, is_set_of, is_unknown, refuse_if, stands_before};
 use crate::parts::{Block, Name, NetParts};
 use crate::rules::{Sids, block_of, same_bytes, suits_block, suits_flavours};
 use crate::standing::Standing;

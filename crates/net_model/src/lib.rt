@@ -9,26 +9,29 @@
 //!
 //! Routes and SIDs can be hidden and shown again (`Net::hide`, `Net::show`): they stay in the lists
 //! at their numbers, and look-ups go over those that are shown. A network as built has none hidden,
-//! but for `Net::build_without`, which builds one with some hidden at once.
+//! but for `Net::build_without`, which builds one with some hidden at once. `Net::copy_parts` gives
+//! the parts once more, in memory of their own, for a network that has the entries of two.
 //! The laws about the definitions are the contracts of empty functions.
 #![tactic(auto)]
 
+mod copied_parts;
+mod copies;
 pub mod figures;
 mod hidden;
-mod judge;
 mod judge_parts;
 mod judge_sids;
 mod laws;
 mod limits;
+mod lookup_tables;
 mod named;
 mod net;
+mod net_judge;
 mod node_table;
 mod parts;
 mod range;
 mod route_set;
 mod rules;
 mod standing;
-mod tables;
 
 pub use laws::{
     best_match_is_one, blocks_hold_their_sids, entries_are_its_own, matched_sids_hold_the_address,
@@ -41,6 +44,7 @@ pub use limits::{
     MAX_LINKS_OF_SET, MAX_NAME_BYTES, MAX_NODES, MAX_POLICIES, MAX_ROUTES, MAX_SIDS,
     MAX_SIDS_OF_NODE, MAX_TEXT_BYTES, MIN_LINK_MTU, SHORT_CSID,
 };
+pub use lookup_tables::address_prefix;
 pub use named::{place_of_link, place_of_node};
 pub use net::{EntryId, Hit, Net};
 pub use node_table::NodeTable;
@@ -48,4 +52,3 @@ pub use parts::{Block, BlockKind, Link, Name, NamedPolicy, NetParts, Node, Route
 pub use range::are_in_range;
 pub use rules::{block_of, is_name, same_family, same_prefix};
 pub use standing::Standing;
-pub use tables::address_prefix;

@@ -1,7 +1,8 @@
 //! Items by their names.
 
 ghost use Rattle.std.specs.Prelude.{◌≡◌, bytes_eq};
-ghost use Rattle.net_model.specs.Named.{node_numbered, link_numbered, IsNodeNumbered, IsLinkNumbered};
+ghost use Rattle.net_model.specs.Named.{node_numbered, link_numbered};
+ghost use Rattle.net_model.specs.NamedTerms.{IsNodeNumbered, IsLinkNumbered};
 
 use crate::parts::{Link, Name, Node};
 
@@ -24,7 +25,6 @@ fn first_link(links: &[Link], name: &[u8]) -> Option<usize>
 }
 
 /// The place of the first node with a name, counted from 0; `None` exactly where no node has it
-/// (own rule).
 pub fn place_of_node(nodes: &[Node], name: &[u8]) -> Option<usize>
     ensures number { result ≡ node_numbered name.now nodes.now }
     ensures meaning { IsNodeNumbered name.now nodes.now result }
@@ -33,7 +33,6 @@ pub fn place_of_node(nodes: &[Node], name: &[u8]) -> Option<usize>
 }
 
 /// The place of the first link with a name, counted from 0; `None` exactly where no link has it
-/// (own rule).
 pub fn place_of_link(links: &[Link], name: &[u8]) -> Option<usize>
     ensures number { result ≡ link_numbered name.now links.now }
     ensures meaning { IsLinkNumbered name.now links.now result }

@@ -5,12 +5,12 @@ use crate::hidden::{
     settle,
 };
 use crate::judge_parts::judge_parts;
+use crate::lookup_tables::{Tables, table_key, tables_of};
 use crate::named::{place_of_link, place_of_node};
 use crate::node_table::NodeTable;
 use crate::parts::{Block, Link, Name, NetParts, Node, Route};
 use crate::rules::is_link_set;
 use crate::standing::Standing;
-use crate::tables::{Tables, table_key, tables_of};
 use prefix_table::Table;
 use srv6_rules::{Family, Policy, SidEntry};
 use std::alloc::{AllocError, Global};
@@ -31,8 +31,7 @@ pub enum Hit {
     Nothing,
 }
 
-/// A route, a SID or a node's own address, by its number, that of the address being its node's (own
-/// rule).
+/// A route, a SID or a node's own address, by its number, that of the address being its node's.
 #[derive(Clone, Copy, Debug, PartialEq, Eq)]
 pub enum EntryId {
     /// A route.
@@ -43,7 +42,7 @@ pub enum EntryId {
     Address(u32),
 }
 
-/// A network that keeps the rules of descriptions (own rules).
+/// A network that keeps the rules of descriptions.
 #[derive(Debug, Drop)]
 pub struct Net {
     parts: NetParts,
@@ -52,8 +51,9 @@ pub struct Net {
 }
 
 impl Model for Net {
-    ghost use Rattle.net_model.specs.Network.{Network, network_with};
-    ghost use Rattle.net_model.specs.Tables.{IsNet};
+    ghost use Rattle.net_model.specs.Network.{Network};
+    ghost use Rattle.net_model.specs.NetworkTerms.{network_with};
+    ghost use Rattle.net_model.specs.LookupTables.{IsNet};
 
     ghost Value = { Network };
 
@@ -66,16 +66,21 @@ impl Net {
     ghost use Rattle.std.specs.Prelude.{◌≡◌, ◌↔◌, ◌<◌, [], true, false, length, slice_get, option_copied, IsTrue, IfOk, OnOk, OnErr};
     ghost use Rattle.std.specs.Option.{unwrap_or};
     ghost use Rattle.net_model.specs.declared.parts.NamedPolicy.{NamedPolicy};
-    ghost use Rattle.net_model.specs.Network.{network_of, CanHide, CanHideAll, HidesThese, IsEdited, hit_of_entry, is_shown};
-    ghost use Rattle.net_model.specs.Rules.{IsNetwork, is_link_set};
-    ghost use Rattle.text_faults.specs.Reading.{Gives};
-    ghost use Rattle.net_model.specs.Judging.{InRange, judging};
-    ghost use Rattle.net_model.specs.Keeps.{Keeps};
-    ghost use Rattle.net_model.specs.Best.{IsBest, entries_of, lookup_of};
-    ghost use Rattle.net_model.specs.Tables.{IsExact};
-    ghost use Rattle.net_model.specs.Named.{node_numbered, link_numbered, IsNodeNumbered, IsLinkNumbered};
+    ghost use Rattle.net_model.specs.Network.{hit_of_entry, is_shown};
+    ghost use Rattle.net_model.specs.NetworkTerms.{network_of, CanHide, CanHideAll, HidesThese, IsEdited};
+    ghost use Rattle.net_model.specs.NetworkRules.{is_link_set};
+    ghost use Rattle.net_model.specs.NetworkRulesTerms.{IsNetwork};
+    ghost use Rattle.text_faults.specs.TextReading.{Gives};
+    ghost use Rattle.net_model.specs.NetworkJudging.{judging};
+    ghost use Rattle.net_model.specs.NetworkJudgingTerms.{InRange};
+    ghost use Rattle.net_model.specs.NetworkKeeps.{Keeps};
+    ghost use Rattle.net_model.specs.Best.{entries_of, lookup_of};
+    ghost use Rattle.net_model.specs.BestTerms.{IsBest};
+    ghost use Rattle.net_model.specs.LookupTables.{IsExact};
+    ghost use Rattle.net_model.specs.Named.{node_numbered, link_numbered};
+    ghost use Rattle.net_model.specs.NamedTerms.{IsNodeNumbered, IsLinkNumbered};
 
-    /// The network with these parts, or the first fault of them (own rules): the tables in the
+    /// The network with these parts, or the first fault of them: the tables in the
     /// order block, node, link, route, policy, sid, of a table its items in their order, counted
     /// from 1, and of an item
     ///
@@ -114,7 +119,7 @@ impl Net {
     }
 
     /// The network with these parts and with some of its routes and SIDs hidden, or the first fault
-    /// of the parts, which doesn't look at what is hidden, as `build` has it (own rules). Hiding
+    /// of the parts, which doesn't look at what is hidden, as `build` has it. Hiding
     /// SIDs one by one in a network that was built would look over all entries for each.
     pub fn build_without(
         alloc: Global,
@@ -141,7 +146,7 @@ impl Net {
     }
 
     /// Hides a route or a SID that is shown; all else stays as it was, the lists of the network
-    /// with it (own rule). It takes no memory.
+    /// with it. It takes no memory.
     pub fn hide(&mut self, entry: EntryId)
         requires there { CanHide self.old entry }
         requires shown { is_shown self.old.hidden (hit_of_entry entry) ≡ true }
@@ -153,7 +158,7 @@ impl Net {
         settle(&mut self.tables, &e, first);
     }
 
-    /// Shows a route or a SID that is hidden; all else stays as it was (own rule). After want of
+    /// Shows a route or a SID that is hidden; all else stays as it was. After want of
     /// memory the network is as it was.
     pub fn show(&mut self, alloc: Global, entry: EntryId) -> Result<(), AllocError>
         requires there { CanHide self.old entry }
@@ -173,14 +178,14 @@ impl Net {
         }
     }
 
-    /// Whether nothing is hidden, as in a network that was just built (own rule).
+    /// Whether nothing is hidden, as in a network that was just built.
     pub fn is_whole(&self) -> bool
         ensures { IsTrue result ↔ (self.now.hidden ≡ []) }
     {
         hides_nothing(&self.hidden)
     }
 
-    /// Whether an entry is a route or a SID of the network, which alone can be hidden (own rule).
+    /// Whether an entry is a route or a SID of the network, which alone can be hidden.
     pub fn can_hide(&self, entry: EntryId) -> bool
         ensures { IsTrue result ↔ CanHide self.now entry }
     {
@@ -191,7 +196,7 @@ impl Net {
         }
     }
 
-    /// Whether a route or a SID is shown; a node's address always is (own rule).
+    /// Whether a route or a SID is shown; a node's address always is.
     pub fn is_shown(&self, entry: EntryId) -> bool
         ensures { result ≡ is_shown self.now.hidden (hit_of_entry entry) }
     {
@@ -203,7 +208,7 @@ impl Net {
     }
 
     /// That the network keeps the rules and is in range, as it was built: an empty function, for
-    /// the callers' proofs (own rules).
+    /// the callers' proofs.
     pub fn keeps_rules(&self)
         ensures network { IsNetwork self.now }
         ensures range { InRange self.now }
@@ -212,14 +217,14 @@ impl Net {
         let _ = &self.parts;
     }
 
-    /// The parts, as the network was made of them, hidden or not (own rule).
+    /// The parts, as the network was made of them, hidden or not.
     pub fn parts(&self) -> &NetParts
         ensures { record (network_of result.now) { hidden = self.now.hidden } ≡ self.now }
     {
         &self.parts
     }
 
-    /// How many blocks there are, at most `MAX_BLOCKS` (own rule).
+    /// How many blocks there are, at most `MAX_BLOCKS`.
     pub fn blocks(&self) -> u32
         ensures { result ≡ length self.now.blocks }
     {
@@ -227,7 +232,7 @@ impl Net {
         self.parts.blocks.len() as u32
     }
 
-    /// How many nodes there are, at most `MAX_NODES` (own rule).
+    /// How many nodes there are, at most `MAX_NODES`.
     pub fn nodes(&self) -> u32
         ensures { result ≡ length self.now.nodes }
     {
@@ -235,7 +240,7 @@ impl Net {
         self.parts.nodes.len() as u32
     }
 
-    /// How many links there are, at most `MAX_LINKS` (own rule).
+    /// How many links there are, at most `MAX_LINKS`.
     pub fn links(&self) -> u32
         ensures { result ≡ length self.now.links }
     {
@@ -243,7 +248,7 @@ impl Net {
         self.parts.links.len() as u32
     }
 
-    /// How many routes there are, at most `MAX_ROUTES` (own rule).
+    /// How many routes there are, at most `MAX_ROUTES`.
     pub fn routes(&self) -> u32
         ensures { result ≡ length self.now.routes }
     {
@@ -251,7 +256,7 @@ impl Net {
         self.parts.routes.len() as u32
     }
 
-    /// How many policies there are, at most `MAX_POLICIES` (own rule).
+    /// How many policies there are, at most `MAX_POLICIES`.
     pub fn policies(&self) -> u32
         ensures { result ≡ length self.now.policies }
     {
@@ -259,14 +264,14 @@ impl Net {
         self.parts.policies.len() as u32
     }
 
-    /// How many titles there are (own rule).
+    /// How many titles there are.
     pub fn titles(&self) -> usize
         ensures { result ≡ length self.now.titles }
     {
         self.parts.titles.len()
     }
 
-    /// How many SIDs there are, at most `MAX_SIDS` (own rule).
+    /// How many SIDs there are, at most `MAX_SIDS`.
     pub fn sids(&self) -> u32
         ensures { result ≡ length self.now.sids }
     {
@@ -274,7 +279,7 @@ impl Net {
         self.parts.sids.len() as u32
     }
 
-    /// The block with a number, counted from 0 (own rule).
+    /// The block with a number, counted from 0.
     #[tactic(auto, using(std::proofs::lemmas::Option::gets))]
     pub fn block(&self, n: u32) -> &Block
         requires { n < length self.now.blocks }
@@ -283,7 +288,7 @@ impl Net {
         &self.parts.blocks[n as usize]
     }
 
-    /// The node with a number, counted from 0 (own rule).
+    /// The node with a number, counted from 0.
     #[tactic(auto, using(std::proofs::lemmas::Option::gets))]
     pub fn node(&self, n: u32) -> &Node
         requires { n < length self.now.nodes }
@@ -292,7 +297,7 @@ impl Net {
         &self.parts.nodes[n as usize]
     }
 
-    /// The number of the node with a name; `None` exactly where no node has it (own rule).
+    /// The number of the node with a name; `None` exactly where no node has it.
     pub fn node_named(&self, name: &[u8]) -> Option<u32>
         ensures number { result ≡ node_numbered name.now self.now.nodes }
         ensures meaning { IsNodeNumbered name.now self.now.nodes result }
@@ -304,7 +309,7 @@ impl Net {
         }
     }
 
-    /// The number of the link with a name; `None` exactly where no link has it (own rule).
+    /// The number of the link with a name; `None` exactly where no link has it.
     pub fn link_named(&self, name: &[u8]) -> Option<u32>
         ensures number { result ≡ link_numbered name.now self.now.links }
         ensures meaning { IsLinkNumbered name.now self.now.links result }
@@ -316,7 +321,7 @@ impl Net {
         }
     }
 
-    /// Whether a set has 1 to `MAX_LINKS_OF_SET` links of the node, each once (own rule).
+    /// Whether a set has 1 to `MAX_LINKS_OF_SET` links of the node, each once.
     pub fn is_link_set(&self, node: u32, set: &[u32]) -> bool
         ensures { result ≡ is_link_set self.now.links node set.now }
     {
@@ -326,7 +331,7 @@ impl Net {
     /// What in a node's table fits an address of a family best: the longest of the entries that
     /// hold it, and of equally long ones a SID before the node's address before a route. Table 0 of
     /// IPv6 has the node's SIDs, its address and its routes, other tables have routes alone; the
-    /// IPv4 routes of a table stand apart, and their addresses in the first 32 bits (own rule).
+    /// IPv4 routes of a table stand apart, and their addresses in the first 32 bits.
     pub fn lookup(&self, node: u32, table: u32, family: Family, a: Addr) -> Hit
         requires { node < length self.now.nodes }
         ensures value { result ≡ lookup_of self.now node table family a.value }
@@ -335,7 +340,7 @@ impl Net {
         self.table(node, table, family).lookup(a)
     }
 
-    /// The table of a node with a number, for packets of a family, for many look-ups (own rule).
+    /// The table of a node with a number, for packets of a family, for many look-ups.
     pub fn table(&self, node: u32, table: u32, family: Family) -> NodeTable<'_>
         requires { node < length self.now.nodes }
         ensures { result ≡ record { net = self.now; node = node; table = table; family = family } }
@@ -352,7 +357,7 @@ impl Net {
         self.tables.get(&table_key(node, table, family))
     }
 
-    /// The link with a number, counted from 0 (own rule).
+    /// The link with a number, counted from 0.
     #[tactic(auto, using(std::proofs::lemmas::Option::gets))]
     pub fn link(&self, n: u32) -> &Link
         requires { n < length self.now.links }
@@ -361,7 +366,7 @@ impl Net {
         &self.parts.links[n as usize]
     }
 
-    /// The route with a number, counted from 0 (own rule).
+    /// The route with a number, counted from 0.
     #[tactic(auto, using(std::proofs::lemmas::Option::gets))]
     pub fn route(&self, n: u32) -> &Route
         requires { n < length self.now.routes }
@@ -370,7 +375,7 @@ impl Net {
         &self.parts.routes[n as usize]
     }
 
-    /// The policy with a number, counted from 0 (own rule).
+    /// The policy with a number, counted from 0.
     #[tactic(auto, using(std::proofs::lemmas::Option::gets))]
     pub fn policy(&self, n: u32) -> &Policy
         requires { n < length self.now.policies }
@@ -380,7 +385,7 @@ impl Net {
         &self.parts.policies[n as usize].policy
     }
 
-    /// The title with a number, counted from 0 (own rule).
+    /// The title with a number, counted from 0.
     #[tactic(auto, using(std::proofs::lemmas::Option::gets))]
     pub fn title(&self, n: u32) -> &Name
         requires { n < length self.now.titles }
@@ -389,7 +394,7 @@ impl Net {
         &self.parts.titles[n as usize]
     }
 
-    /// The SID with a number, counted from 0 (own rule).
+    /// The SID with a number, counted from 0.
     #[tactic(auto, using(std::proofs::lemmas::Option::gets))]
     pub fn sid(&self, n: u32) -> &SidEntry
         requires { n < length self.now.sids }

@@ -3,7 +3,7 @@
 ghost use Rattle.std.specs.Prelude.{◌≡◌, [], List, option_copied};
 ghost use Rattle.std.specs.Option.{unwrap_or};
 ghost use Rattle.net_model.specs.Best.{Entry, longest, hit_of, lookup_of};
-ghost use Rattle.net_model.specs.Tables.{IsExact};
+ghost use Rattle.net_model.specs.LookupTables.{IsExact};
 
 use crate::net::{Hit, Net};
 use prefix_table::Table;
@@ -11,7 +11,7 @@ use srv6_rules::Family;
 use std::marker::Model;
 use v6_addr::Addr;
 
-/// A table of a node of a network, for many look-ups (own rule). It takes no memory.
+/// A table of a node of a network, for many look-ups. It takes no memory.
 #[derive(Debug, Drop)]
 pub struct NodeTable<'a> {
     net: &'a Net,
@@ -25,7 +25,7 @@ impl<'a> Model for NodeTable<'a> {
     ghost use Rattle.std.specs.Prelude.{[], option_copied};
     ghost use Rattle.std.specs.Option.{unwrap_or};
     ghost use Rattle.net_model.specs.Best.{entries_of};
-    ghost use Rattle.net_model.specs.Tables.{TableOf, IsExact};
+    ghost use Rattle.net_model.specs.LookupTables.{TableOf, IsExact};
 
     ghost Value = { TableOf };
 
@@ -54,21 +54,21 @@ impl<'a> NodeTable<'a> {
         }
     }
 
-    /// The network that has the table (own rule).
+    /// The network that has the table.
     pub fn net(&self) -> &'a Net
         ensures { result.now ≡ self.now.net }
     {
         self.net
     }
 
-    /// The family of the packets that it is for (own rule).
+    /// The family of the packets that it is for.
     pub fn family(&self) -> Family
         ensures { result ≡ self.now.family }
     {
         self.family
     }
 
-    /// What fits an address best, as `Net::lookup` gives it (own rule).
+    /// What fits an address best, as `Net::lookup` gives it.
     #[tactic(auto, unfolding(crate::specs::Best::lookup_of))]
     pub fn lookup(&self, a: Addr) -> Hit
         ensures { result ≡ lookup_of self.now.net self.now.node self.now.table self.now.family

@@ -8,7 +8,7 @@ use std::fmt;
 use std::marker::Model;
 use v6_addr::{Addr, Prefix};
 
-/// A node's, a link's, a policy's or a title's name (own rule). Contracts see its bytes, which are
+/// A node's, a link's, a policy's or a title's name. Contracts see its bytes, which are
 /// UTF-8.
 #[derive(Debug, Drop)]
 pub struct Name {
@@ -26,21 +26,21 @@ impl Model for Name {
 impl Name {
     ghost use Rattle.std.specs.Prelude.{string_bytes};
 
-    /// The name that a text writes (own rule).
+    /// The name that a text writes.
     pub fn new(text: String) -> Name
         ensures { result ≡ string_bytes text }
     {
         Name { text }
     }
 
-    /// The text (own rule).
+    /// The text.
     pub fn as_str(&self) -> &str
         ensures { result.now ≡ self.now }
     {
         self.text.as_str()
     }
 
-    /// The bytes of the text (own rule).
+    /// The bytes of the text.
     pub fn as_bytes(&self) -> &[u8]
         ensures { result.now ≡ self.now }
     {
@@ -74,7 +74,7 @@ pub enum BlockKind {
 /// A block of compressed SIDs (RFC 9800 section 3).
 #[derive(Clone, Copy, Debug)]
 pub struct Block {
-    /// The bits that its SIDs share, a multiple of 16 of them from 16 to 64 (own rule).
+    /// The bits that its SIDs share, a multiple of 16 of them from 16 to 64.
     pub prefix: Prefix,
     /// How its SIDs are compressed.
     pub kind: BlockKind,
@@ -82,7 +82,7 @@ pub struct Block {
     pub csid: u8,
 }
 
-/// A node (own rules).
+/// A node.
 #[derive(Debug, Drop)]
 pub struct Node {
     /// Its name.
@@ -93,7 +93,7 @@ pub struct Node {
     pub allow: TypeList,
 }
 
-/// A link from a node to a node, or out of the network (own rule).
+/// A link from a node to a node, or out of the network.
 #[derive(Debug, Drop)]
 pub struct Link {
     /// Its name.
@@ -106,7 +106,7 @@ pub struct Link {
     pub mtu: u32,
 }
 
-/// A route of one of a node's tables (own rules).
+/// A route of one of a node's tables.
 #[derive(Debug, Drop)]
 pub struct Route {
     /// The number of its node.
@@ -121,7 +121,7 @@ pub struct Route {
     pub via: LinkSet,
 }
 
-/// A policy with its name (own rule).
+/// A policy with its name.
 #[derive(Debug, Drop)]
 pub struct NamedPolicy {
     /// Its name.
@@ -130,7 +130,7 @@ pub struct NamedPolicy {
     pub policy: Policy,
 }
 
-/// The parts of a network; an item's number is its place in its list, counted from 0 (own rule).
+/// The parts of a network; an item's number is its place in its list, counted from 0.
 #[derive(Debug, Drop)]
 pub struct NetParts {
     /// The blocks of compressed SIDs.

@@ -2,9 +2,10 @@
 
 ghost use Rattle.std.specs.Prelude.{◌≡◌, ◌↔◌, IsTrue};
 ghost use Rattle.std.specs.List.{list_all, filter_map};
-ghost use Rattle.net_model.specs.Network.{network_of};
-ghost use Rattle.net_model.specs.Rules.{block_len_of, is_segment, keeps_node, title_of};
-ghost use Rattle.net_model.specs.Judging.{few, block_in_range, link_in_range, route_in_range, policy_in_range, sid_in_range, are_numbers, InRange};
+ghost use Rattle.net_model.specs.NetworkTerms.{network_of};
+ghost use Rattle.net_model.specs.NetworkRules.{block_len_of};
+ghost use Rattle.net_model.specs.NetworkRulesTerms.{is_segment, keeps_node, title_of};
+ghost use Rattle.net_model.specs.NetworkJudgingTerms.{few, block_in_range, link_in_range, route_in_range, policy_in_range, sid_in_range, are_numbers, InRange};
 
 use crate::limits::{
     MAX_BLOCKS, MAX_LINKS, MAX_LINKS_OF_SET, MAX_NODES, MAX_POLICIES, MAX_ROUTES, MAX_SIDS,
@@ -142,7 +143,7 @@ fn sids_in_range(blocks: &[Block], title_count: usize, sids: &[SidEntry]) -> boo
 }
 
 /// Whether the SIDs' titles are so many, numbered from 0 in the SIDs' order.
-#[tactic(auto, using(crate::proofs::NumberLemmas::numbering))]
+#[tactic(auto, using(crate::proofs::NetworkNumberLemmas::numbering))]
 fn are_numbered(title_count: usize, sids: &[SidEntry]) -> bool
     ensures { result ≡ are_numbers 0 title_count (filter_map title_of sids.now) }
 {
@@ -161,7 +162,7 @@ fn are_numbered(title_count: usize, sids: &[SidEntry]) -> bool
 /// Whether the parts are in the ranges that `Net::build` needs: their counts are at most those of
 /// a network, each name is one, each number, prefix and list is in its range, a SID tells the
 /// length of the block that it lies strictly inside (of the first in the list; 0 with none), and
-/// the titles are those of the SIDs, one for each SID with a title, in the SIDs' order (own rules).
+/// the titles are those of the SIDs, one for each SID with a title, in the SIDs' order.
 pub fn are_in_range(parts: &NetParts) -> bool
     ensures { IsTrue result ↔ InRange (network_of parts.now) }
 {

@@ -2,8 +2,8 @@
 
 ghost use Rattle.std.specs.Prelude.{◌≡◌, ◌∷◌, ◌++◌, [], List, IfOk, OnOk};
 ghost use Rattle.net_model.specs.declared.parts.Route.{Route};
-ghost use Rattle.net_model.specs.Rules.{same_route};
-ghost use Rattle.net_model.specs.Judging.{stands_before};
+ghost use Rattle.net_model.specs.NetworkRules.{same_route};
+ghost use Rattle.net_model.specs.NetworkJudging.{stands_before};
 ghost use Rattle.net_model.specs.EntryKeys.{entry_key, key_of, HasKeys};
 
 use crate::parts::Route;

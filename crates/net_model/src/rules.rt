@@ -3,16 +3,8 @@
 
 ghost use Rattle.std.specs.Prelude.{◌≡◌, Bool};
 ghost use Rattle.std.specs.List.{list_all, list_any};
-ghost use Rattle.net_model.specs.Rules.{are_distinct, same_bytes, is_between, is_name_byte, is_name, is_address, is_prefix};
-ghost use Rattle.net_model.specs.Rules.{is_block_len, is_csid_len, overlap};
-ghost use Rattle.net_model.specs.Rules.{is_segment, keeps_outer, same_policy_name};
-ghost use Rattle.net_model.specs.Rules.{suits_flavours, block_of, is_next_len, suits_next, suits_replace, suits_block};
-ghost use Rattle.net_model.specs.Rules.{keeps_node, same_node_name, same_node_address};
-ghost use Rattle.net_model.specs.Rules.{same_link_name};
-ghost use Rattle.net_model.specs.Rules.{starts_at, same_number, is_link_set};
-ghost use Rattle.net_model.specs.Rules.{is_mtu, is_table, is_prefix_of, same_prefix, same_family};
-ghost use Rattle.net_model.specs.Rules.{suits_table, is_title};
-ghost use Rattle.net_model.specs.Rules.{same_sid};
+ghost use Rattle.net_model.specs.NetworkRules.{are_distinct, same_bytes, is_between, is_name_byte, is_name, is_block_len, overlap, same_policy_name, suits_flavours, block_of, is_next_len, suits_next, suits_replace, suits_block, same_node_name, same_node_address, same_link_name, starts_at, same_number, is_link_set, same_prefix, same_family, same_sid};
+ghost use Rattle.net_model.specs.NetworkRulesTerms.{is_address, is_prefix, is_csid_len, is_segment, keeps_outer, keeps_node, is_mtu, is_table, is_prefix_of, suits_table, is_title};
 
 use crate::limits::{
     BLOCK_UNIT, LAST_FLOW_LABEL, LAST_OCTET, LAST_TABLE, LONG_CSID, MAX_ALLOWED_TYPES,
@@ -163,7 +155,7 @@ fn are_name_bytes(bytes: &[u8]) -> bool
 }
 
 /// Whether a text is a name: 1 to `MAX_NAME_BYTES` bytes, all of them letters, digits, `_`, `.` or
-/// `-` (own rule).
+/// `-`.
 pub fn is_name(name: &[u8]) -> bool
     ensures { result ≡ is_name name.now }
 {
@@ -171,7 +163,7 @@ pub fn is_name(name: &[u8]) -> bool
 }
 
 /// Always true: the type holds no other number.
-#[tactic(auto, unfolding(crate::specs::Rules::is_address))]
+#[tactic(auto, unfolding(crate::specs::NetworkRulesTerms::is_address))]
 pub(crate) fn is_address(a: Addr) -> bool
     ensures { result ≡ is_address a.value }
 {
@@ -180,7 +172,7 @@ pub(crate) fn is_address(a: Addr) -> bool
 }
 
 /// Always true: the type holds no other value.
-#[tactic(auto, unfolding(crate::specs::Rules::is_address, crate::specs::Rules::is_prefix))]
+#[tactic(auto, unfolding(crate::specs::NetworkRulesTerms::is_address, crate::specs::NetworkRulesTerms::is_prefix))]
 pub(crate) fn is_prefix(p: &Prefix) -> bool
     ensures { result ≡ is_prefix p.now }
 {
@@ -265,14 +257,14 @@ pub(crate) fn is_prefix_of(family: Family, p: &Prefix) -> bool
     }
 }
 
-/// Whether two families are one (own rule).
+/// Whether two families are one.
 pub fn same_family(a: Family, b: Family) -> bool
     ensures { result ≡ same_family a b }
 {
     a == b
 }
 
-/// Whether two prefixes are one: the same value and the same length (own rule).
+/// Whether two prefixes are one: the same value and the same length.
 pub fn same_prefix(p: &Prefix, q: &Prefix) -> bool
     ensures { result ≡ same_prefix p.now q.now }
 {

@@ -1,7 +1,7 @@
 //! How a SID of a description stands, as far as its entry does not tell.
 
 /// Which keys a SID of a description has, and whether it has a flavour twice: what judging needs to
-/// know of it beside its entry (own rules).
+/// know of it beside its entry.
 #[derive(Clone, Copy, Debug, PartialEq, Eq)]
 pub struct Standing {
     /// It has `links`.

@@ -6,15 +6,15 @@ use Rattle.std.proofs.lemmas.Bool.{and_parts}
 use Rattle.std.proofs.lemmas.List.{length_push}
 use Rattle.srv6_rules.specs.declared.sid.SidEntry.{SidEntry}
 use Rattle.srv6_rules.specs.Behaviours.{behaviour_takes_links, behaviour_table, behaviour_policy, behaviour_takes_flavours}
-use Rattle.text_faults.specs.declared.place.TableKind.TheVariants as tables
-use Rattle.text_faults.specs.declared.place.FaultPlace.{FaultPlace}
+use Rattle.text_faults.specs.declared.text_place.TableKind.TheVariants as tables
+use Rattle.text_faults.specs.declared.text_place.FaultPlace.{FaultPlace}
 use Rattle.text_faults.specs.declared.fault.TextFault.{TextFault}
-use Rattle.text_faults.specs.declared.kind.FaultKind.TheVariants as kinds
-use Rattle.text_faults.specs.Faults.{fault_at}
+use Rattle.text_faults.specs.declared.fault_kind.FaultKind.TheVariants as kinds
+use Rattle.text_faults.specs.TextFaults.{fault_at}
 use Rattle.net_model.specs.declared.standing.Standing.{Standing}
 use Rattle.net_model.specs.Network.{Network}
-use Rattle.net_model.specs.Rules.{suits_flavours, block_of}
-use Rattle.net_model.specs.Judging.{is_unknown, is_unknown_policy, is_set_of, suits_compression, first_of, and_then, judged, judge_block, judge_node, judge_link, judge_route, judge_policy, same_answer, fitting, standing_or, suits_keys, judge_joins, judge_flavours, judge_apart, judge_standing, judge_sid, judging}
+use Rattle.net_model.specs.NetworkRules.{suits_flavours, block_of}
+use Rattle.net_model.specs.NetworkJudging.{is_unknown, is_unknown_policy, is_set_of, suits_compression, first_of, and_then, judged, judge_block, judge_node, judge_link, judge_route, judge_policy, same_answer, fitting, standing_or, suits_keys, judge_joins, judge_flavours, judge_apart, judge_standing, judge_sid, judging}
 
 abbrev Verdict : Type 0
 Verdict = Result (Unit {0}) TextFault
@@ -35,9 +35,9 @@ row_passed : (b : Bool) (fault : TextFault) (rows : List (Bool × TextFault)) �
 row_passed true fault rows e = absurd (no_fault fault tt e)
 row_passed false fault rows e = (refl, e)
 
-not-false : (b : Bool) → not b ≡ false → b ≡ true
-not-false true e = refl
-not-false false e = cc
+not_false : (b : Bool) → not b ≡ false → b ≡ true
+not_false true e = refl
+not_false false e = cc
 
 answers_same : (a b : Bool) → same_answer a b ≡ true → a ≡ b
 answers_same true b e = sym e
@@ -83,7 +83,7 @@ stands_well net k before p s e =
     ∷ (not (suits_compression (block_of net.blocks s.prefix) s), flavour) ∷ [] in
     let node = row_passed (is_unknown (length net.nodes) s.node) unknown rows joins in
     let keys = row_passed (not (suits_keys k s)) structure parts node.1 in
-    keys_same k s (not-false (suits_keys k s) keys.0) (row_passed k.double_flavour flavour others fine).0
+    keys_same k s (not_false (suits_keys k s) keys.0) (row_passed k.double_flavour flavour others fine).0
 
 -- ---- all SIDs
 

@@ -8,7 +8,7 @@ use Rattle.net_model.specs.declared.parts.Link.{Link}
 use Rattle.net_model.specs.declared.parts.Route.{Route}
 use Rattle.net_model.specs.declared.parts.NamedPolicy.{NamedPolicy}
 use Rattle.net_model.specs.Network.{Network}
-use Rattle.net_words.specs.declared.description.Description.{Description}
+use Rattle.net_syntax.specs.declared.description.Description.{Description}
 use Rattle.net_reader.specs.Joining.{node_names, link_names, policy_names, joined_block, joined_node, joined_link, joined_route, joined_policy, title_in, joined_sids, joined}
 
 abbrev pub parts_of : List Block → List Node → List Link → List Route → List NamedPolicy → List (List ℕ) → List SidEntry → Network

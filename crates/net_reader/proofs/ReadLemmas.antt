@@ -6,28 +6,30 @@ use Rattle.std.proofs.lemmas.List.{length-map}
 use Rattle.net_model.specs.declared.limits.TheConstants.{MAX_NODES, MAX_LINKS, MAX_POLICIES, MAX_SIDS}
 use Rattle.text_faults.specs.declared.fault.TextFault.{TextFault}
 use Rattle.text_faults.specs.declared.fault.OrNoMemory.{OrNoMemory}
-use Rattle.text_faults.specs.declared.kind.FaultKind.TheVariants as kinds
-use Rattle.text_faults.specs.Faults.{fault_at}
+use Rattle.text_faults.specs.declared.fault_kind.FaultKind.TheVariants as kinds
+use Rattle.text_faults.specs.TextFaults.{fault_at}
 use Rattle.net_model.specs.Network.{Network}
-use Rattle.net_model.specs.Rules.{IsNetwork}
-use Rattle.net_model.specs.Judging.{InRange, judging}
+use Rattle.net_model.specs.NetworkRulesTerms.{IsNetwork}
+use Rattle.net_model.specs.NetworkJudging.{judging}
+use Rattle.net_model.specs.NetworkJudgingTerms.{InRange}
 use Rattle.net_model.proofs.PublicLaws.{exact_law, enough_law}
-use Rattle.text_faults.specs.Reading.{Gives}
-use Rattle.toml_words.specs.Reading.{◌>>=◌, or_fault, document_of}
-use Rattle.net_words.specs.declared.description.Description.{Description}
-use Rattle.net_words.specs.Description.{description_in, net_place}
+use Rattle.text_faults.specs.TextReading.{Gives}
+use Rattle.toml_reader.specs.TomlReading.{◌>>=◌, or_fault, document_of}
+use Rattle.net_syntax.specs.declared.description.Description.{Description}
+use Rattle.net_syntax.specs.DescriptionText.{description_in, net_place}
 use Rattle.net_reader.specs.Joining.{node_names, link_names, policy_names, joined_block, joined}
-use Rattle.net_reader.specs.Standings.{standing_of, standings_of, HaveTheirKeys}
-use Rattle.net_reader.specs.Reading.{judged_network, net_in}
-use Rattle.net_reader.proofs.YieldLemmas.{Yields, yielded, yields-behind}
-use Rattle.net_reader.proofs.DescribedLemmas.{Fits, description-fits}
-use Rattle.net_reader.proofs.RangeLemmas.{in_range, as_many}
+use Rattle.net_reader.specs.Standings.{standing_of, standings_of}
+use Rattle.net_reader.specs.StandingsTerms.{HaveTheirKeys}
+use Rattle.net_reader.specs.NetworkReading.{judged_network, net_in}
+use Rattle.net_reader.proofs.YieldLemmas.{Yields, yielded, yields_behind}
+use Rattle.net_reader.proofs.DescribedLemmas.{Fits, description_fits}
+use Rattle.net_reader.proofs.ReaderRangeLemmas.{in_range, as_many}
 use Rattle.net_reader.proofs.ExactLemmas.{well_from, judging_alike}
 
 -- ---- what a text describes
 
 text_fits : (text : List ℕ) → Yields Fits (description_in text)
-text_fits text = yields-behind Fits (or_fault (fault_at net_place kinds.NotToml) (document_of text)) _ description-fits
+text_fits text = yields_behind Fits (or_fault (fault_at net_place kinds.NotToml) (document_of text)) _ description_fits
 
 said_fits : (text : List ℕ) (said : Description) → description_in text ≡ Ok said → Fits said
 said_fits text said is = yielded Fits (description_in text) said (text_fits text) is
@@ -47,23 +49,23 @@ said_few text said is =
 
 -- ---- what is read
 
-pub read-judged : (text : List ℕ) (said : Description) (r : Result Network (OrNoMemory TextFault)) → description_in text ≡ Ok said
+pub read_judged : (text : List ℕ) (said : Description) (r : Result Network (OrNoMemory TextFault)) → description_in text ≡ Ok said
     → Gives (λ _. tt) r (judging (joined said) (standings_of said)) → IfOk r (λ net. net ≡ joined said) → Gives (λ net. net) r (net_in text)
-read-judged text said (Ok net) is fine same =
+read_judged text said (Ok net) is fine same =
     ap (λ d. ◌>>=◌ d judged_network) is ∙ ap (λ u. ◌>>=◌ u (λ v. Ok (joined said))) fine ∙ ap Ok (sym same)
-read-judged text said (Err why) is first same = λ fault other.
+read_judged text said (Err why) is first same = λ fault other.
     ap (λ d. ◌>>=◌ d judged_network) is ∙ ap (λ u. ◌>>=◌ u (λ v. Ok (joined said))) (first fault other)
 
-pub read-refused : (text : List ℕ) (fault : TextFault) → description_in text ≡ Err fault → net_in text ≡ Err fault
-read-refused text fault is = ap (λ d. ◌>>=◌ d judged_network) is
+pub read_refused : (text : List ℕ) (fault : TextFault) → description_in text ≡ Err fault → net_in text ≡ Err fault
+read_refused text fault is = ap (λ d. ◌>>=◌ d judged_network) is
 
 -- nothing is hidden in a network as it is built
-pub built-whole : (built : Network) (r : Result Network (OrNoMemory TextFault)) → built.hidden ≡ [] → IfOk r (λ net. net ≡ built)
+pub built_whole : (built : Network) (r : Result Network (OrNoMemory TextFault)) → built.hidden ≡ [] → IfOk r (λ net. net ≡ built)
     → IfOk r (λ net. net.hidden ≡ [])
-built-whole built (Ok net) whole same = ap (λ (n : Network). n.hidden) same ∙ whole
-built-whole built (Err why) whole same = tt
+built_whole built (Ok net) whole same = ap (λ (n : Network). n.hidden) same ∙ whole
+built_whole built (Err why) whole same = tt
 
-pub ruleset reading = (read-judged, read-refused)
+pub ruleset reading = (read_judged, read_refused)
 
 -- ---- laws
 
@@ -100,7 +102,7 @@ from_parts text net said is same rules keys =
     ap (judging (joined said)) keys ∙ judging_alike (joined said) ∙ (exact_law (joined said) (said_in_range text said is)).1 kept in
     ap (λ d. ◌>>=◌ d judged_network) is ∙ ap (λ u. ◌>>=◌ u (λ v. Ok (joined said))) fine ∙ ap Ok same
 
-pub exact-networks : (text : List ℕ) (net : Network) → (net_in text ≡ Ok net)
+pub exact_networks : (text : List ℕ) (net : Network) → (net_in text ≡ Ok net)
     ↔ ((said : Description) × (description_in text ≡ Ok said) × (joined said ≡ net) × IsNetwork net × HaveTheirKeys said)
-exact-networks text net =
+exact_networks text net =
     (λ e. by_parts text net (description_in text) refl e, λ h. from_parts text net h.0 h.1 h.2 h.3 h.4)

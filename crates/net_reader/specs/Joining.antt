@@ -1,4 +1,4 @@
--- The parts of a network that a description says, with numbers in place of names (own rules). Joining is total: a name that
+-- The parts of a network that a description says, with numbers in place of names. Joining is total: a name that
 -- nothing has becomes the count of what it might be, and a table or policy that is needed and absent becomes 0, so that judging
 -- refuses them.
 use Rattle.std.specs.Prelude.{ℕ, ◌+◌, Bool, true, false, List, [], ◌∷◌, map, Option, Some, None, option_map}
@@ -12,18 +12,18 @@ use Rattle.net_model.specs.declared.parts.Link.{Link}
 use Rattle.net_model.specs.declared.parts.Route.{Route}
 use Rattle.net_model.specs.declared.parts.NamedPolicy.{NamedPolicy}
 use Rattle.net_model.specs.Network.{Network}
-use Rattle.net_model.specs.Rules.{block_of, block_len_of}
-use Rattle.net_words.specs.declared.block.DescribedBlock.{DescribedBlock}
-use Rattle.net_words.specs.declared.node.DescribedNode.{DescribedNode}
-use Rattle.net_words.specs.declared.link.DescribedLink.{DescribedLink}
-use Rattle.net_words.specs.declared.route.DescribedRoute.{DescribedRoute}
-use Rattle.net_words.specs.declared.policy.DescribedPolicy.{DescribedPolicy}
-use Rattle.net_words.specs.declared.sid.DescribedSid.{DescribedSid}
-use Rattle.net_words.specs.declared.sid.BehaviourWord.{BehaviourWord}
-use Rattle.net_words.specs.declared.sid.BehaviourWord.TheVariants as words
-use Rattle.net_words.specs.declared.sid.Flavour.{Flavour}
-use Rattle.net_words.specs.declared.sid.Flavour.TheVariants.{Psp, Usp, Usd}
-use Rattle.net_words.specs.declared.description.Description.{Description}
+use Rattle.net_model.specs.NetworkRules.{block_of, block_len_of}
+use Rattle.net_syntax.specs.declared.block_table.DescribedBlock.{DescribedBlock}
+use Rattle.net_syntax.specs.declared.node_table.DescribedNode.{DescribedNode}
+use Rattle.net_syntax.specs.declared.link_table.DescribedLink.{DescribedLink}
+use Rattle.net_syntax.specs.declared.route_table.DescribedRoute.{DescribedRoute}
+use Rattle.net_syntax.specs.declared.policy_table.DescribedPolicy.{DescribedPolicy}
+use Rattle.net_syntax.specs.declared.sid_table.DescribedSid.{DescribedSid}
+use Rattle.net_syntax.specs.declared.sid_table.BehaviourWord.{BehaviourWord}
+use Rattle.net_syntax.specs.declared.sid_table.BehaviourWord.TheVariants as words
+use Rattle.net_syntax.specs.declared.sid_table.Flavour.{Flavour}
+use Rattle.net_syntax.specs.declared.sid_table.Flavour.TheVariants.{Psp, Usp, Usd}
+use Rattle.net_syntax.specs.declared.description.Description.{Description}
 use Rattle.net_reader.specs.Numbering.{number_of}
 
 -- ---- names

@@ -1,4 +1,6 @@
 pub mod Numbering
+pub mod NumberingTerms
 pub mod Joining
 pub mod Standings
-pub mod Reading
+pub mod StandingsTerms
+pub mod NetworkReading

@@ -1,12 +1,10 @@
--- How the SIDs of a description stand, as far as their entries don't tell (own rules).
-use Rattle.std.specs.Prelude.{◌≡◌, Bool, true, false, ◌||◌, nat_lt, count_by, List, map, is_some}
+-- How the SIDs of a description stand, as far as their entries don't tell.
+use Rattle.std.specs.Prelude.{Bool, true, false, ◌||◌, nat_lt, count_by, List, map, is_some}
 use Rattle.net_model.specs.declared.standing.Standing.{Standing}
-use Rattle.net_model.specs.Judging.{fitting}
-use Rattle.net_words.specs.declared.sid.DescribedSid.{DescribedSid}
-use Rattle.net_words.specs.declared.sid.Flavour.{Flavour}
-use Rattle.net_words.specs.declared.sid.Flavour.TheVariants.{Psp, Usp, Usd}
-use Rattle.net_words.specs.declared.description.Description.{Description}
-use Rattle.net_reader.specs.Joining.{joined}
+use Rattle.net_syntax.specs.declared.sid_table.DescribedSid.{DescribedSid}
+use Rattle.net_syntax.specs.declared.sid_table.Flavour.{Flavour}
+use Rattle.net_syntax.specs.declared.sid_table.Flavour.TheVariants.{Psp, Usp, Usd}
+use Rattle.net_syntax.specs.declared.description.Description.{Description}
 
 abbrev pub same_flavour : Flavour → Flavour → Bool
 same_flavour Psp Psp = true
@@ -37,7 +35,3 @@ standing_of s = record {
 
 abbrev pub standings_of : Description → List Standing
 standings_of said = map standing_of said.sids
-
--- each SID has the keys that its behaviour takes, and no flavour twice
-abbrev pub HaveTheirKeys : Description → Type 0
-HaveTheirKeys said = standings_of said ≡ map fitting (joined said).sids

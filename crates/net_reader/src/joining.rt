@@ -7,7 +7,7 @@ ghost use Rattle.net_reader.specs.Joining.{joined_block, joined_node, joined_lin
 use crate::numbering::Numbering;
 use base::Seq;
 use net_model::{Block, Link, Name, NamedPolicy, Node, Route};
-use net_words::{DescribedBlock, DescribedLink, DescribedNode, DescribedPolicy, DescribedRoute};
+use net_syntax::{DescribedBlock, DescribedLink, DescribedNode, DescribedPolicy, DescribedRoute};
 use srv6_rules::{LinkSet, Policy};
 use std::alloc::{AllocError, Global};
 

@@ -2,7 +2,7 @@
 //!
 //! A description is TOML: arrays of tables `block`, `node`, `link`, `route`, `policy` and `sid`,
 //! each of which may be absent, and whose items name one another by their names. `read_net` reads
-//! it in three steps: what the text says (`net_words`), numbers in place of names, and judging the
+//! it in three steps: what the text says (`net_syntax`), numbers in place of names, and judging the
 //! parts (`net_model`), and gives exactly the first fault. `specs/` has the same steps as functions
 //! on the text. The laws about the definitions are the contracts of empty functions.
 //!
@@ -11,15 +11,15 @@
 //! apart when the parts are judged. `Numbering` has the names of items, read once into a map.
 #![tactic(auto)]
 
+mod joined_parts;
+mod joined_sids;
 mod joining;
 mod laws;
 mod numbering;
-mod parts;
 mod read;
-mod sids;
 mod standings;
 
+pub use joined_parts::join;
 pub use laws::{described_parts_are_in_range, networks_keep_the_rules, titles_have_their_numbers};
 pub use numbering::{Named, Numbering};
-pub use parts::join;
 pub use read::read_net;

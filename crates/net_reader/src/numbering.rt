@@ -1,15 +1,16 @@
 //! The numbers of names.
 
 ghost use Rattle.std.specs.Prelude.{◌≡◌, ◌<◌, ◌^◌, List, ℕ, IfOk, map, length};
-ghost use Rattle.net_reader.specs.Numbering.{HasNumbers, number_of};
+ghost use Rattle.net_reader.specs.Numbering.{number_of};
+ghost use Rattle.net_reader.specs.NumberingTerms.{HasNumbers};
 
 use net_model::Name;
-use net_words::{DescribedLink, DescribedNode, DescribedPolicy};
+use net_syntax::{DescribedLink, DescribedNode, DescribedPolicy};
 use std::alloc::{AllocError, Global};
 use std::collections::BTreeMap;
 use std::marker::Model;
 
-/// What has a name (own rule).
+/// What has a name.
 pub trait Named {
     /// The name.
     ghost name: { Self → List ℕ };
@@ -69,7 +70,7 @@ fn numbers_of<'a>(alloc: Global, names: &[&'a str]) -> Result<BTreeMap<&'a str, 
 }
 
 /// The number that a map has for a name, and the count where it has none.
-#[tactic(auto, using(crate::proofs::NumberLemmas::looking))]
+#[tactic(auto, using(crate::proofs::ReaderNumberLemmas::looking))]
 fn number_in(numbers: &BTreeMap<&str, u32>, count: u32, name: &str) -> u32
     ensures { (names : List (List ℕ)) → HasNumbers numbers.now names → length names ≡ count
         → result ≡ number_of names name.now }
@@ -80,7 +81,7 @@ fn number_in(numbers: &BTreeMap<&str, u32>, count: u32, name: &str) -> u32
     }
 }
 
-/// The names of the items of a kind (own rule). Contracts see them as a list, in the order of the
+/// The names of the items of a kind. Contracts see them as a list, in the order of the
 /// items.
 #[derive(Debug, Drop)]
 pub struct Numbering<'a> {
@@ -90,7 +91,7 @@ pub struct Numbering<'a> {
 
 impl<'a> Model for Numbering<'a> {
     ghost use Rattle.std.specs.Prelude.{List, ℕ, ◌<◌, ◌^◌, map, length};
-    ghost use Rattle.net_reader.specs.Numbering.{HasNumbers};
+    ghost use Rattle.net_reader.specs.NumberingTerms.{HasNumbers};
 
     ghost Value = { List (List ℕ) };
 
@@ -104,7 +105,7 @@ impl<'a> Numbering<'a> {
     ghost use Rattle.std.specs.Prelude.{◌≡◌, ◌<◌, ◌^◌, IfOk, map, length};
     ghost use Rattle.net_reader.specs.Numbering.{number_of};
 
-    /// The names of items (own rule).
+    /// The names of items.
     pub fn of<X: Named>(alloc: Global, items: &'a [X]) -> Result<Numbering<'a>, AllocError>
         requires { length items.now < 2 ^ 32 }
         ensures { IfOk result (λ names. names ≡ map X.name items.now) }
@@ -115,7 +116,7 @@ impl<'a> Numbering<'a> {
     }
 
     /// The number of a name: the place of the first item that has it, and the count of the items
-    /// where none has it (own rule).
+    /// where none has it.
     pub fn number(&self, name: &Name) -> u32
         ensures { result ≡ number_of self.now name.now }
     {

@@ -1,21 +1,21 @@
 //! From the text of a description to its network.
 
 ghost use Rattle.std.specs.Prelude.{◌≡◌, [], IfOk};
-ghost use Rattle.text_faults.specs.Reading.{Gives};
-ghost use Rattle.net_reader.specs.Reading.{net_in};
+ghost use Rattle.text_faults.specs.TextReading.{Gives};
+ghost use Rattle.net_reader.specs.NetworkReading.{net_in};
 
-use crate::parts::join;
+use crate::joined_parts::join;
 use crate::standings::standings;
 use net_model::Net;
-use net_words::read_description;
+use net_syntax::read_description;
 use std::alloc::Global;
 use text_faults::NetFault;
 
-/// The network that a description's text gives, or its first fault (own rules).
+/// The network that a description's text gives, or its first fault.
 ///
 /// `NotToml` comes exactly where the bytes are not UTF-8 or not TOML. Else the faults of shape come
 /// first: `UnknownKey` of the whole, and then those of the tables block, node, link, route, policy
-/// and sid in this order, as `net_words::describe` says them. Where there is none in any table, the
+/// and sid in this order, as `net_syntax::describe` says them. Where there is none in any table, the
 /// faults of the parts come, the tables once more in this order, as `net_model::Net::build` says
 /// them. `NoMemory` may come at any time, and says nothing about the text.
 #[tactic(auto, using(crate::proofs::ReadLemmas::reading))]

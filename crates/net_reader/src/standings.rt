@@ -4,7 +4,7 @@ ghost use Rattle.std.specs.Prelude.{◌≡◌, IfOk, map};
 ghost use Rattle.net_reader.specs.Standings.{same_flavour, is_twice, has_double, standing_of};
 
 use net_model::Standing;
-use net_words::{DescribedSid, Flavour};
+use net_syntax::{DescribedSid, Flavour};
 use std::alloc::{AllocError, Global};
 
 /// Whether two flavours are one.

@@ -9,19 +9,19 @@ use Rattle.srv6_rules.specs.declared.compression.Compression.{Compression}
 use Rattle.srv6_rules.specs.Packet.{Packet, V6, content_of, address_bytes}
 use Rattle.srv6_rules.specs.Compressed.{argument_of, shift_of}
 use Rattle.srv6_rules.specs.CompressedSteps.{is_next, shifts, shifted}
-use Rattle.ip6_headers.proofs.PublicLaws.{read-hop_limit, read-destination}
+use Rattle.ip6_headers.proofs.PublicLaws.{read_hop_limit, read_destination}
 
 -- ---- the argument
 
-pub argument-field : (d len : ℕ) → len ≤ 128 → field_of d len (128 - len) ≡ argument_of d len
+pub argument_field : (d len : ℕ) → len ≤ 128 → field_of d len (128 - len) ≡ argument_of d len
 unfolding field_of argument_of
-argument-field d len within =
+argument_field d len within =
     let none : 128 - len - (128 - len) ≡ 0 = omega arith in
     ap (λ n. d / 2 ^ n % 2 ^ (128 - len)) none ∙ ap (λ n. n % 2 ^ (128 - len)) (div-one d)
 
-pub argument-none : (d len : ℕ) → len ≡ 128 → 0 ≡ argument_of d len
+pub argument_none : (d len : ℕ) → len ≡ 128 → 0 ≡ argument_of d len
 unfolding argument_of
-argument-none d len whole =
+argument_none d len whole =
     let none : 128 - len ≡ 0 = omega arith in
     let one : d % 1 ≡ 0 = omega arith in
     sym (ap (λ n. d % 2 ^ n) none ∙ one)
@@ -30,7 +30,7 @@ pub argument_below : (d len : ℕ) → argument_of d len < 2 ^ (128 - len)
 unfolding argument_of
 argument_below d len = mod_below d (2 ^ (128 - len)) (pow_pos (128 - len))
 
-pub ruleset arguments = (argument-field, argument-none)
+pub ruleset arguments = (argument_field, argument_none)
 
 -- ---- the shift
 
@@ -70,11 +70,11 @@ moved_is d block len a r longer within is =
     ∙ ap (λ n. d / 2 ^ (128 - block) * 2 ^ (r + (128 - len)) + a * 2 ^ n + d % 2 ^ n) rest
 
 -- both give the shift
-pub shift-fields : (d block len : ℕ) → block < len → len ≤ 128
+pub shift_fields : (d block len : ℕ) → block < len → len ≤ 128
     → with_field_of (with_field_of d block (128 - len) (argument_of d len)) (128 - (len - block)) (len - block) 0
     ≡ shift_of d block len
 unfolding shift_of
-shift-fields d block len longer within =
+shift_fields d block len longer within =
     let r : ℕ = len - block in
     let a : ℕ = argument_of d len in
     let h : ℕ = d / 2 ^ (128 - block) in
@@ -85,12 +85,12 @@ shift-fields d block len longer within =
     ∙ ap (λ n. h * 2 ^ n + a * 2 ^ r) sum
 
 -- the same, as the code writes them
-pub shift-written : (d block len a w x y : ℕ) → block < len → len ≤ 128 → a ≡ argument_of d len → w ≡ len - block
+pub shift_written : (d block len a w x y : ℕ) → block < len → len ≤ 128 → a ≡ argument_of d len → w ≡ len - block
     → x ≡ with_field_of d block (128 - len) a → y ≡ with_field_of x (128 - w) w 0 → y ≡ shift_of d block len
-shift-written d block len a w x y longer within is_a is_w is_x is_y =
+shift_written d block len a w x y longer within is_a is_w is_x is_y =
     is_y ∙ ap (λ n. with_field_of n (128 - w) w 0) (is_x ∙ ap (λ n. with_field_of d block (128 - len) n) is_a)
     ∙ ap (λ n. with_field_of (with_field_of d block (128 - len) (argument_of d len)) (128 - n) n 0) is_w
-    ∙ shift-fields d block len longer within
+    ∙ shift_fields d block len longer within
 
 -- ---- packets
 
@@ -101,21 +101,21 @@ some_argument true false e = refl
 some_argument false zero e = cc
 
 -- so its SID is shorter than an address
-pub shifts-shorter : (c : Compression) (d : ℕ) → c.prefix_len ≤ 128 → shifts c d ≡ true → c.prefix_len < 128
-shifts-shorter c d within is =
+pub shifts_shorter : (c : Compression) (d : ℕ) → c.prefix_len ≤ 128 → shifts c d ≡ true → c.prefix_len < 128
+shifts_shorter c d within is =
     let some = some_argument (is_next c.kind) (argument_of d c.prefix_len == 0) is in
     let P : c.prefix_len ≡ 128 → ⊥ =
-    λ whole. eqb-false (argument_of d c.prefix_len) 0 some (sym (argument-none d c.prefix_len whole)) in
+    λ whole. eqb-false (argument_of d c.prefix_len) 0 some (sym (argument_none d c.prefix_len whole)) in
     elim (eq-or-lt_of_le within) [ inl whole ↦ absurd (P whole) | inr less ↦ less ]
 
-pub shift-content : (c : Compression) (bytes : List ℕ) (p : Packet) (hop_limit destination : ℕ) → content_of bytes ≡ V6 p
+pub shift_content : (c : Compression) (bytes : List ℕ) (p : Packet) (hop_limit destination : ℕ) → content_of bytes ≡ V6 p
     → hop_limit ≡ p.hop_limit - 1 → destination ≡ shift_of p.destination c.block_len c.prefix_len → destination < 2 ^ 128
     → content_of (take 24 (slice_set bytes 7 hop_limit) ++ (address_bytes destination ++ drop 40 (slice_set bytes 7 hop_limit)))
     ≡ V6 (shifted c p)
-shift-content c bytes p hop_limit destination reads hop is below =
-    let lowered = read-hop_limit bytes p reads hop_limit in
-    read-destination (slice_set bytes 7 hop_limit) (record p { hop_limit = hop_limit }) lowered destination below
+shift_content c bytes p hop_limit destination reads hop is below =
+    let lowered = read_hop_limit bytes p reads hop_limit in
+    read_destination (slice_set bytes 7 hop_limit) (record p { hop_limit = hop_limit }) lowered destination below
     ∙ ap (λ n. V6 (record p { hop_limit = n; destination = destination })) hop
     ∙ ap (λ n. V6 (record p { hop_limit = p.hop_limit - 1; destination = n })) is
 
-pub ruleset shifting = (shifts-shorter, shift-content)
+pub ruleset shifting = (shifts_shorter, shift_content)

@@ -1,11 +1,13 @@
+-- Need not be believed: helps proofs and other laws.
 -- A packet's bytes before and after a shift (RFC 9800 section 4.1).
 use Rattle.std.specs.Prelude.{◌≡◌, ℕ, List, Some, None}
 use Rattle.srv6_rules.specs.declared.compression.Compression.{Compression}
 use Rattle.srv6_rules.specs.declared.reason.Reason.TheVariants as reasons
 use Rattle.srv6_rules.specs.Packet.{V6, content_of, packet_at}
-use Rattle.srv6_rules.specs.CompressedSteps.{hop_limit_fault, shifted, with_hop_and_destination}
-use Rattle.next_csid.specs.declared.next.ShiftOutcome.{ShiftOutcome}
-use Rattle.next_csid.specs.declared.next.ShiftOutcome.TheVariants as outcomes
+use Rattle.srv6_rules.specs.CompressedSteps.{hop_limit_fault, shifted}
+use Rattle.srv6_rules.specs.CompressedStepsTerms.{with_hop_and_destination}
+use Rattle.next_csid.specs.declared.next_step.ShiftOutcome.{ShiftOutcome}
+use Rattle.next_csid.specs.declared.next_step.ShiftOutcome.TheVariants as outcomes
 
 -- the hop limit could be lowered: the packet is the one that the shift gives, and the bytes are those with its hop limit and destination
 pub record IsShifted (c : Compression) (old new : List ℕ) : Type 0 where

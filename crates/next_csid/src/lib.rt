@@ -7,6 +7,6 @@
 //! address's highest bit.
 #![tactic(auto)]
 
-mod next;
+mod next_step;
 
-pub use next::{ShiftOutcome, argument, shift, shifts};
+pub use next_step::{ShiftOutcome, argument, shift, shifts};

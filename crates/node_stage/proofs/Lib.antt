@@ -3,4 +3,4 @@ pub mod ReadingLemmas
 pub mod ReadingLemmas4
 pub mod EndpointLemmas
 pub mod StageLemmas
-pub mod FrontLemmas
+pub mod StageFrontLemmas

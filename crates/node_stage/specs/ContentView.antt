@@ -1,4 +1,5 @@
--- What is held at a node in a buffer: a packet, or bytes that do not read as one, and how many bytes are spare in front (own rule).
+-- Need not be believed: helps proofs and other laws.
+-- What is held at a node in a buffer: a packet, or bytes that do not read as one, and how many bytes are spare in front.
 use Rattle.srv6_rules.specs.Packet as packets
 use Rattle.node_stage.specs.declared.content_buf.Held.{Held}
 use Rattle.node_stage.specs.declared.content_buf.Held.TheVariants.{V6, V4, Unreadable}

@@ -1,29 +1,17 @@
--- Packets with spare bytes in front of them, and what is spare after a stage (own rule).
+-- Packets with spare bytes in front of them, and what is spare after a stage.
 use Rattle.std.specs.Prelude.{ℕ, ◌+◌, ◌-◌, max, List, length, slice_get, Option, Some, None}
 use Rattle.srv6_rules.specs.declared.sid.Behaviour.{Behaviour}
 use Rattle.srv6_rules.specs.declared.sid.SidEntry.{SidEntry}
 use Rattle.srv6_rules.specs.Behaviours.{behaviour_policy, behaviour_reduces}
 use Rattle.srv6_rules.specs.Encapsulation.{header_bytes}
 use Rattle.srv6_rules.specs.Endpoint.{Endpoint, Onward, Exposed, Delivered, Refused, at_sid}
-use Rattle.srv6_rules.specs.Packet.{Content, Packet, V6, V4, Unreadable, packet_at, spelling}
-use Rattle.srv6_rules.specs.Packet4.{Packet4}
-use Rattle.pkt_buf.specs.BufferView.{Buffer}
-use Rattle.policy_encap.specs.declared.headers.TheConstants.{MAX_FRONT}
+use Rattle.srv6_rules.specs.Packet.{Content, Packet, V6, V4, Unreadable, spelling}
+use Rattle.policy_encap.specs.declared.policy_headers.TheConstants.{MAX_FRONT}
 use Rattle.net_model.specs.Network.{Network}
 use Rattle.net_model.specs.declared.parts.NamedPolicy.{NamedPolicy}
 use Rattle.walk_rules.specs.Treatment.{allow_of}
 use Rattle.walk_rules.specs.declared.place.Outcome.{Outcome}
 use Rattle.walk_rules.specs.declared.place.Outcome.TheVariants.{Send, Again, Hand, Local, Drop}
-
--- an IPv6 packet, and how many bytes are spare in front of it
-pub record FrontedPacket : Type 0 where
-  pub packet : Packet
-  pub front : ℕ
-
--- an IPv4 packet, and how many bytes are spare in front of it
-pub record FrontedPacket4 : Type 0 where
-  pub packet : Packet4
-  pub front : ℕ
 
 -- a packet of either family, or bytes that do not read as one, and how many bytes are spare in front
 pub record FrontedContent : Type 0 where
@@ -33,15 +21,11 @@ pub record FrontedContent : Type 0 where
 abbrev pub fronted : Content → ℕ → FrontedContent
 fronted content front = record { content = content; front = front }
 
--- a packet in a buffer
-abbrev pub fronted_at : Buffer → FrontedContent
-fronted_at b = fronted (V6 (packet_at b.bytes)) b.front
-
 -- as many bytes as the longest header of a policy has
 abbrev pub most_front : ℕ
 most_front = MAX_FRONT
 
--- what is spare after a packet went on from a SID: as many as before; where the SID binds a policy, first at least as many as the longest
+-- what is spare after a packet went on from a SID: as many as before; where it is a binding SID, first at least as many as the longest
 -- header has, and then less by the policy's header
 
 abbrev pub front_pushed : Behaviour → Option NamedPolicy → ℕ → ℕ

@@ -1,4 +1,5 @@
 pub mod Alone4
 pub mod Fronted
+pub mod FrontedTerms
 pub mod ContentView
-pub mod Staging
+pub mod StageAnswers

@@ -1,11 +1,12 @@
 //! What a node holds, in a buffer.
 
 ghost use Rattle.std.specs.Prelude.{◌≡◌, ◌^◌, ◌<◌, max, All, IfOk, OnErr, OnOk};
-ghost use Rattle.srv6_rules.specs.Packet.{bytes_of, IsContent};
+ghost use Rattle.srv6_rules.specs.Packet.{bytes_of};
+ghost use Rattle.srv6_rules.specs.PacketTerms.{IsContent};
 ghost use Rattle.node_stage.specs.Fronted.{fronted};
 
-use crate::packet::Packet;
-use crate::packet4::Packet4;
+use crate::ip4_packet::Packet4;
+use crate::ip6_packet::Packet;
 use base::NoMemory;
 use pkt_buf::PktBuf;
 use policy_encap::MAX_FRONT;
@@ -22,7 +23,7 @@ pub(crate) enum Held {
 }
 
 /// A packet of IPv6 or IPv4, or bytes that do not read as one and why, with how many bytes are
-/// spare in front (own rule).
+/// spare in front.
 #[derive(Debug, Drop)]
 pub struct ContentBuf {
     pub(crate) held: Held,
@@ -80,7 +81,7 @@ impl ContentBuf {
         mem::replace(self, ContentBuf::unreadable(empty, Reason::Truncated))
     }
 
-    /// The same content once more, in memory of its own, with none spare in front (own rule).
+    /// The same content once more, in memory of its own, with none spare in front.
     pub fn copy(&self, alloc: Global) -> Result<ContentBuf, AllocError>
         ensures { IfOk result (λ copy. copy ≡ fronted self.now.content 0) }
     {
@@ -94,8 +95,7 @@ impl ContentBuf {
         }
     }
 
-    /// The bytes in their buffer: those that spell the packet, or those that do not read (own
-    /// rule).
+    /// The bytes in their buffer: those that spell the packet, or those that do not read.
     pub fn into_bytes(self) -> PktBuf
         ensures bytes { result.bytes ≡ bytes_of self.content }
         ensures front { result.front ≡ self.front }
@@ -107,7 +107,7 @@ impl ContentBuf {
         }
     }
 
-    /// The bytes: those that spell the packet, or those that do not read (own rule).
+    /// The bytes: those that spell the packet, or those that do not read.
     pub fn bytes(&self) -> &[u8]
         ensures { result.now ≡ bytes_of self.now.content }
     {
@@ -118,7 +118,7 @@ impl ContentBuf {
         }
     }
 
-    /// How many bytes are spare in front (own rule).
+    /// How many bytes are spare in front.
     pub fn front(&self) -> usize
         ensures { result ≡ self.now.front }
     {
@@ -131,7 +131,7 @@ impl ContentBuf {
 
     /// Gives at least 2,080 spare bytes in front, as many as the longest header of a policy has;
     /// what is held stays. Where as many are spare nothing changes and no memory is taken; with
-    /// want of memory nothing changes either (own rule).
+    /// want of memory nothing changes either.
     pub fn reserve(&mut self) -> Result<(), NoMemory>
         ensures content { self.new.content ≡ self.old.content }
         ensures room { OnOk result (self.new.front ≡ max MAX_FRONT self.old.front) }
@@ -146,7 +146,7 @@ impl ContentBuf {
     }
 
     /// Bytes can spell what is held: a packet's fields fit their widths, and each byte is a byte
-    /// (own rule). For the callers' proofs.
+    ///. For the callers' proofs.
     pub fn keeps_rules(&self)
         ensures { IsContent self.now.content }
     {

@@ -2,28 +2,31 @@
 
 ghost use Rattle.std.specs.Prelude.{◌≡◌, ℕ, true, false, ◌<◌, ◌≤◌, ◌-◌, List, Some, None, length, max, slice_get};
 ghost use Rattle.srv6_rules.specs.Behaviours.{behaviour_policy, behaviour_reduces, goes_on};
-ghost use Rattle.srv6_rules.specs.CompressedSteps.{SuitsCompression, is_next};
+ghost use Rattle.srv6_rules.specs.CompressedSteps.{is_next};
+ghost use Rattle.srv6_rules.specs.CompressedStepsTerms.{SuitsCompression};
 ghost use Rattle.srv6_rules.specs.Endpoint.{Onward, at_address, at_sid};
 ghost use Rattle.srv6_rules.specs.Packet.{Packet as PacketValue, V6, content_of, packet_at};
 ghost use Rattle.srv6_rules.specs.Encapsulation.{header_bytes};
 ghost use Rattle.srv6_rules.specs.declared.family.Family.TheVariants.{V6 as V6Family};
-ghost use Rattle.srv6_rules.specs.Policies.{IsPolicy, Outer, pushed_by};
+ghost use Rattle.srv6_rules.specs.Policies.{Outer, pushed_by};
+ghost use Rattle.srv6_rules.specs.PoliciesTerms.{IsPolicy};
 ghost use Rattle.net_model.specs.Network.{Network};
 ghost use Rattle.pkt_buf.specs.BufferView.{Buffer};
 ghost use Rattle.net_model.specs.declared.parts.NamedPolicy.{NamedPolicy};
 ghost use Rattle.walk_rules.specs.Treatment.{allow_of, goes, onward_from, treated_at_address, treated_at_sid, treated_in};
 ghost use Rattle.walk_rules.specs.declared.place.Outcome.TheVariants.{Again};
 ghost use Rattle.endpoint_chain.specs.declared.outcome.EndOutcome.TheVariants.{On};
-ghost use Rattle.endpoint_chain.specs.Fronts.{FrontAfter};
+ghost use Rattle.endpoint_chain.specs.ChainFronts.{FrontAfter};
 ghost use Rattle.endpoint_chain.specs.Outcomes.{ComesOf, HoldsAlone};
-ghost use Rattle.policy_encap.specs.Answers.{Makes};
-ghost use Rattle.node_stage.specs.declared.staged.Staged.TheVariants.{Drops};
-ghost use Rattle.node_stage.specs.Fronted.{FrontedContent, front_behind, fronted, fronted_at};
-ghost use Rattle.node_stage.specs.Staging.{FrontOf, IsBigAfter, Stages, StagesAll, gave_of};
+ghost use Rattle.policy_encap.specs.EncapAnswers.{Makes};
+ghost use Rattle.node_stage.specs.declared.stage_result.Staged.TheVariants.{Drops};
+ghost use Rattle.node_stage.specs.Fronted.{FrontedContent, front_behind, fronted};
+ghost use Rattle.node_stage.specs.FrontedTerms.{fronted_at};
+ghost use Rattle.node_stage.specs.StageAnswers.{FrontOf, IsBigAfter, Stages, StagesAll, gave_of};
 
 use crate::content_buf::ContentBuf;
-use crate::packet::Packet;
-use crate::staged::{Staged, dropped_for, refused};
+use crate::ip6_packet::Packet;
+use crate::stage_result::{Staged, dropped_for, refused};
 use base::NoMemory;
 use decap_behaviours::decap_step;
 use end_behaviours::{end_step, onward_len};
@@ -125,7 +128,7 @@ fn given(sid: u32, entry: &SidEntry, outcome: EndOutcome, bytes: PktBuf) -> Stag
 }
 
 /// At a SID with a number, of a node that takes some upper layers at its SIDs; the packet does not
-/// go on from the SID where the SID binds a policy.
+/// go on from the SID where it is a binding SID.
 fn treated_at_sid(sid: u32, entry: &SidEntry, allow: &[u8], packet: Packet) -> Staged
     requires unbound { (q : PacketValue) → at_sid entry.now allow.now packet.packet ≡ Onward q
         → behaviour_policy entry.now.behaviour ≡ None }

@@ -1,9 +1,9 @@
 //! The set of equal next hops of a stage.
 
 ghost use Rattle.std.specs.Prelude.{◌≡◌, ℕ, ◌<◌, length, Contains};
-ghost use Rattle.walk_rules.specs.Laws.{hops_at, set_of};
+ghost use Rattle.walk_rules.specs.WalkLaws.{hops_at, set_of};
 ghost use Rattle.walk_rules.specs.Relation.{IsPlace};
-ghost use Rattle.walk_rules.specs.Way.{IsWayFrom, way_in};
+ghost use Rattle.walk_rules.specs.WayTerms.{IsWayFrom, way_in};
 
 use crate::content::Content;
 use crate::content_buf::{ContentBuf, Held};
@@ -16,7 +16,7 @@ fn links_of<'a>(way: Way<'a>) -> &'a [u32]
 {
     match way {
         Way::Over { links, .. } => links,
-        Way::Away { .. } | Way::Own | Way::Into { .. } => &[],
+        Way::NoWay { .. } | Way::Own | Way::Into { .. } => &[],
     }
 }
 
@@ -33,7 +33,7 @@ fn next_hops_of<'a>(net: &'a Net, place: &Place, content: &ContentBuf) -> &'a [u
 }
 
 /// The numbers of the links over which what stands at a place may be sent: the equal next hops of
-/// its way, and none where it goes over no links (own rule).
+/// its way, and none where it goes over no links.
 pub fn next_hops<'a>(net: &'a Net, place: &Place, content: &Content) -> &'a [u32]
     requires { IsPlace net.now place.now }
     ensures { result.now ≡ hops_at net.now place.now content.now }

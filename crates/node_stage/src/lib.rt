@@ -11,16 +11,16 @@
 mod content;
 mod content_buf;
 mod endpoint;
-mod error;
 mod hops;
-mod packet;
-mod packet4;
-mod reading;
+mod ip4_packet;
+mod ip6_packet;
+mod packet_reading;
 mod sending;
-mod staged;
-mod stages;
+mod stage_error;
+mod stage_result;
+mod treatment;
 
 pub use content::Content;
 pub use content_buf::ContentBuf;
 pub use hops::next_hops;
-pub use stages::{stage, stage_buf};
+pub use treatment::{stage, stage_buf};

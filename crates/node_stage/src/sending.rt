@@ -5,12 +5,12 @@ ghost use Rattle.srv6_rules.specs.Packet.{V4, V6};
 ghost use Rattle.srv6_rules.specs.Packet4.{ttl};
 ghost use Rattle.walk_rules.specs.Treatment.{judged, lowered, member_of, sent, sent4, ttl_lowered};
 ghost use Rattle.node_stage.specs.Fronted.{fronted};
-ghost use Rattle.node_stage.specs.Staging.{FrontOf, gave_of};
+ghost use Rattle.node_stage.specs.StageAnswers.{FrontOf, gave_of};
 
 use crate::content_buf::ContentBuf;
-use crate::packet::Packet;
-use crate::packet4::Packet4;
-use crate::staged::{Staged, dropped_for, too_long};
+use crate::ip4_packet::Packet4;
+use crate::ip6_packet::Packet;
+use crate::stage_result::{Staged, dropped_for, too_long};
 use net_model::Net;
 use srv6_rules::Reason;
 use walk_rules::{Outcome, mtu_at};

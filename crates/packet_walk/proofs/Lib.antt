@@ -1,9 +1,9 @@
-pub mod Numbers
-pub mod Rests
+pub mod FlightNumbers
+pub mod FlightRests
 pub mod Moves
-pub mod Walking
+pub mod FlightWalking
 pub mod Schedules
-pub mod Comings
+pub mod FlightComings
 pub mod Due
 pub mod PublicLaws
-pub mod Rooms
+pub mod FlightRooms

@@ -1,4 +1,5 @@
--- A packet's own walk from where it stands, and what turns of all packets give each (own rules).
+-- Need not be believed: helps proofs and other laws.
+-- A packet's own walk from where it stands, and what turns of all packets give each.
 use Rattle.std.specs.Prelude.{◌≡◌, ℕ, suc, ◌-◌, ◌≤◌, Bool, false, if◌then◌else◌, nat_eq, List, [], ◌∷◌, ◌++◌, replicate, Option, Some, None, Result, Ok, Err, IfSome}
 use Rattle.base.specs.declared.no_memory.NoMemory.{NoMemory}
 use Rattle.net_model.specs.Network.{Network}
@@ -6,7 +7,8 @@ use Rattle.walk_rules.specs.declared.place.Ended.{Ended}
 use Rattle.walk_rules.specs.declared.place.Place.{Place}
 use Rattle.walk_rules.specs.Walk.{Stage, walk_of, choice_at, end_of}
 use Rattle.walk_rules.specs.declared.limits.TheConstants.{MAX_STAGES}
-use Rattle.packet_walk.specs.Flight.{InFlight, Flight, stage_in, packet_of, turned, entered}
+use Rattle.packet_walk.specs.Flight.{InFlight, Flight, stage_in, packet_of, turned}
+use Rattle.packet_walk.specs.FlightTerms.{entered}
 
 -- where a packet goes on, if it has not ended
 abbrev pub place_where : Place → Option Ended → Option Place

@@ -2,7 +2,7 @@
 
 use walk_rules::Outcome;
 
-/// One stage of a packet in flight (own rule).
+/// One stage of a packet in flight.
 #[derive(Clone, Copy, Debug, PartialEq, Eq)]
 pub struct Event {
     /// The packet's number, from 1.

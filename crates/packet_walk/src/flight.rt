@@ -1,11 +1,12 @@
 //! Packets side by side in a network.
 
 ghost use Rattle.std.specs.Prelude.{◌≡◌, ◌+◌, ◌≤◌, ◌<◌, ◌^◌, [], length, IfSome, None, Ok};
-ghost use Rattle.net_model.specs.Keeps.{Keeps};
+ghost use Rattle.net_model.specs.NetworkKeeps.{Keeps};
 ghost use Rattle.srv6_rules.specs.Packet.{bytes_of, entered as entered_as};
 ghost use Rattle.walk_rules.specs.Relation.{IsPlace};
 ghost use Rattle.node_stage.specs.Fronted.{fronted, most_front};
-ghost use Rattle.packet_walk.specs.Flight.{Enters, IsGiven, IsInFlight, Reserves, Turns, entering, packet_of, room_where};
+ghost use Rattle.packet_walk.specs.Flight.{entering, packet_of};
+ghost use Rattle.packet_walk.specs.FlightTerms.{Enters, IsGiven, IsInFlight, Reserves, Turns, room_where};
 ghost use Rattle.packet_walk.specs.Rest.{Walks};
 
 use crate::event::Event;
@@ -20,7 +21,7 @@ use std::marker::Model;
 use walk_rules::{Ended, Place};
 
 /// Packets in flight in a network. They have numbers from 1, in the order in which they entered,
-/// and each takes its own walk, whatever turns the others have in between (own rule).
+/// and each takes its own walk, whatever turns the others have in between.
 #[derive(Debug, Drop)]
 pub struct Flight<'a> {
     net: &'a Net,
@@ -28,7 +29,8 @@ pub struct Flight<'a> {
 }
 
 impl<'a> Model for Flight<'a> {
-    ghost use Rattle.packet_walk.specs.Flight.{ArePlaced, Flight as FlightValue, within};
+    ghost use Rattle.packet_walk.specs.Flight.{Flight as FlightValue, within};
+    ghost use Rattle.packet_walk.specs.FlightTerms.{ArePlaced};
 
     ghost Value = { FlightValue };
 
@@ -38,7 +40,7 @@ impl<'a> Model for Flight<'a> {
 }
 
 impl<'a> Flight<'a> {
-    /// No packets yet; takes no memory (own rule).
+    /// No packets yet; takes no memory.
     pub fn new(alloc: Global, net: &'a Net) -> Flight<'a>
         ensures { result ≡ record { net = net.now; error = []; packets = [] } }
     {
@@ -48,14 +50,14 @@ impl<'a> Flight<'a> {
         }
     }
 
-    /// How many packets entered (own rule).
+    /// How many packets entered.
     pub fn count(&self) -> u32
         ensures { result ≡ length self.now.packets }
     {
         self.packets.count()
     }
 
-    /// The network keeps its rules, and a packet is at a place of it (own rule). For the callers'
+    /// The network keeps its rules, and a packet is at a place of it. For the callers'
     /// proofs.
     pub fn keeps_rules(&self, number: u32)
         requires { IsGiven self.now number }
@@ -67,7 +69,7 @@ impl<'a> Flight<'a> {
     }
 
     /// What stands at a place enters there, with the choices of its decisions: decision d, from 0,
-    /// takes the choice at d modulo their number (own rule). The answer is its number, the next one
+    /// takes the choice at d modulo their number. The answer is its number, the next one
     /// from 1. `NoMemory` leaves the flight as it was.
     pub fn enter_content(
         &mut self,
@@ -85,7 +87,7 @@ impl<'a> Flight<'a> {
 
     /// A packet's bytes enter at a place, in place: they are read as a packet of the place's
     /// family, and what stands after its end is cut; of bytes that do not read at most 65,575 are
-    /// kept (own rule). The choices, the answer and `NoMemory` are as in `enter_content`; for want
+    /// kept. The choices, the answer and `NoMemory` are as in `enter_content`; for want
     /// of memory the buffer is given up.
     pub fn enter(&mut self, buf: PktBuf, place: Place, choices: &'a [u32]) -> Result<u32, NoMemory>
         requires place { IsPlace self.old.net place }
@@ -98,8 +100,7 @@ impl<'a> Flight<'a> {
         self.packets.enter(buf, place, choices)
     }
 
-    /// How many bytes are spare in front of a packet in flight, and 0 of one that has ended (own
-    /// rule).
+    /// How many bytes are spare in front of a packet in flight, and 0 of one that has ended.
     pub fn room(&self, number: u32) -> usize
         requires { IsGiven self.now number }
         ensures { IfSome (packet_of self.now number) (λ p. result ≡ room_where p.front p.ended) }
@@ -108,8 +109,7 @@ impl<'a> Flight<'a> {
     }
 
     /// Makes room in front of a packet in flight, at least 2,080 bytes, as many as the longest
-    /// header of a policy has; nothing else changes, and nothing of a packet that has ended (own
-    /// rule). `NoMemory` comes only where there is less room, and leaves the flight as it was.
+    /// header of a policy has; nothing else changes, and nothing of a packet that has ended. `NoMemory` comes only where there is less room, and leaves the flight as it was.
     pub fn reserve(&mut self, number: u32) -> Result<(), NoMemory>
         requires { IsGiven self.old number }
         ensures { IfSome (packet_of self.old number) (λ p.
@@ -119,7 +119,7 @@ impl<'a> Flight<'a> {
     }
 
     /// The next stage of a packet that has ended or has room in front of it, as `turn` has it;
-    /// takes no memory (own rule).
+    /// takes no memory.
     pub fn turn_ready(&mut self, number: u32) -> Option<Event>
         requires given { IsGiven self.old number }
         requires ready { IfSome (packet_of self.old number) (λ p.
@@ -131,7 +131,7 @@ impl<'a> Flight<'a> {
     }
 
     /// The next stage of a packet, unless it has ended: then there is none, and nothing changes
-    /// (own rule). A stage changes this packet and the last error alone; there is room in front of
+    ///. A stage changes this packet and the last error alone; there is room in front of
     /// the packet before it. `NoMemory`, which comes only where there is less room, leaves the
     /// flight as it was.
     pub fn turn(&mut self, number: u32) -> Result<Option<Event>, NoMemory>
@@ -142,7 +142,7 @@ impl<'a> Flight<'a> {
         self.packets.turn(self.net, number)
     }
 
-    /// The bytes of what stands where a packet stands, or ended (own rule).
+    /// The bytes of what stands where a packet stands, or ended.
     pub fn bytes(&self, number: u32) -> &[u8]
         requires { IsGiven self.now number }
         ensures { IfSome (packet_of self.now number) (λ p. result.now ≡ bytes_of p.content) }
@@ -159,7 +159,7 @@ impl<'a> Flight<'a> {
         self.packets.error()
     }
 
-    /// How a packet ended, if it has (own rule).
+    /// How a packet ended, if it has.
     pub fn ended(&self, number: u32) -> Option<Ended>
         requires { IsGiven self.now number }
         ensures { IfSome (packet_of self.now number) (λ p. result ≡ p.ended) }
@@ -169,7 +169,7 @@ impl<'a> Flight<'a> {
 
     /// Takes a packet to its end, which is that of its walk of at most 10,000 stages, and gives it;
     /// where it has ended nothing changes. After `NoMemory` the turns before it stand, and the last
-    /// error is that of the last of them (own rule).
+    /// error is that of the last of them.
     pub fn walk(&mut self, number: u32) -> Result<Ended, NoMemory>
         requires { IsGiven self.old number }
         ensures { IfSome (packet_of self.old number) (λ p.

@@ -3,10 +3,12 @@
 ghost use Rattle.std.specs.Prelude.{◌≡◌, ◌<◌, ◌≤◌, length, None, Some, [], IsSome, IfOk, OnOk, OnErr};
 ghost use Rattle.node_stage.specs.Fronted.{most_front};
 ghost use Rattle.icmp6_errors.specs.Answer.{error_bytes};
-ghost use Rattle.srv6_rules.specs.Packet.{IsContent, bytes_of};
+ghost use Rattle.srv6_rules.specs.Packet.{bytes_of};
+ghost use Rattle.srv6_rules.specs.PacketTerms.{IsContent};
 ghost use Rattle.walk_rules.specs.Relation.{IsPlace};
 ghost use Rattle.walk_rules.specs.Walk.{choice_at, decisions, takes_member};
-ghost use Rattle.packet_walk.specs.Flight.{IsCounted, IsInFlight, ReservesAs, StagesAs, advanced, entering, fronted_of, stage_in, staged};
+ghost use Rattle.packet_walk.specs.Flight.{advanced, entering, fronted_of, stage_in, staged};
+ghost use Rattle.packet_walk.specs.FlightTerms.{IsCounted, IsInFlight, ReservesAs, StagesAs};
 
 use base::NoMemory;
 use icmp6_errors::IcmpSlot;
@@ -29,7 +31,8 @@ pub(crate) struct InFlight<'a> {
 }
 
 impl<'a> Model for InFlight<'a> {
-    ghost use Rattle.packet_walk.specs.Flight.{InFlight as InFlightValue, IsCounted, packet_value};
+    ghost use Rattle.packet_walk.specs.Flight.{InFlight as InFlightValue};
+    ghost use Rattle.packet_walk.specs.FlightTerms.{IsCounted, packet_value};
 
     ghost Value = { InFlightValue };
 
@@ -68,7 +71,6 @@ fn takes_member(reason: Reason) -> bool
 }
 
 /// The decisions that an outcome takes: one where a member of a set of equal next hops is taken
-/// (own rule).
 pub fn decisions_of(outcome: &Outcome) -> usize
     ensures taken { result ≡ decisions outcome.now }
     ensures few { result ≤ 1 }

@@ -2,9 +2,11 @@
 
 ghost use Rattle.std.specs.Prelude.{◌≡◌, ℕ, ◌+◌, ◌≤◌, ◌<◌, ◌^◌, [], length, IfSome, None, Ok, Some};
 ghost use Rattle.net_model.specs.Network.{Network};
-ghost use Rattle.srv6_rules.specs.Packet.{IsContent, bytes_of, entered as entered_as};
+ghost use Rattle.srv6_rules.specs.Packet.{bytes_of, entered as entered_as};
+ghost use Rattle.srv6_rules.specs.PacketTerms.{IsContent};
 ghost use Rattle.node_stage.specs.Fronted.{fronted, most_front};
-ghost use Rattle.packet_walk.specs.Flight.{ArePlaced, Enters, IsCounted, IsNumber, Reserves, StagesIn, Turns, entering, packet_in, room_where, within};
+ghost use Rattle.packet_walk.specs.Flight.{entering, packet_in, within};
+ghost use Rattle.packet_walk.specs.FlightTerms.{ArePlaced, Enters, IsCounted, IsNumber, Reserves, StagesIn, Turns, room_where};
 
 use crate::event::Event;
 use crate::in_flight::InFlight;
@@ -19,7 +21,7 @@ use std::marker::Model;
 use walk_rules::{Ended, Outcome, Place};
 
 /// Packets in flight, apart from their network: each turn goes by the tables that it is given. They
-/// have numbers from 1, in the order in which they entered (own rule).
+/// have numbers from 1, in the order in which they entered.
 #[derive(Debug, Drop)]
 pub struct Packets<'a> {
     alloc: Global,
@@ -39,7 +41,7 @@ impl<'a> Model for Packets<'a> {
 }
 
 impl<'a> Packets<'a> {
-    /// No packets yet; takes no memory (own rule).
+    /// No packets yet; takes no memory.
     pub fn new(alloc: Global) -> Packets<'a>
         ensures { result ≡ record { error = []; packets = [] } }
     {
@@ -50,14 +52,14 @@ impl<'a> Packets<'a> {
         }
     }
 
-    /// How many packets entered (own rule).
+    /// How many packets entered.
     pub fn count(&self) -> u32
         ensures { result ≡ length self.now.packets }
     {
         self.packets.len() as u32
     }
 
-    /// What is so of a packet's counts and of what stands where it does (own rule). For the
+    /// What is so of a packet's counts and of what stands where it does. For the
     /// callers' proofs.
     pub fn keeps_rules(&self, number: u32)
         requires { IsNumber self.now.packets number }
@@ -76,7 +78,7 @@ impl<'a> Packets<'a> {
     }
 
     /// What stands at a place enters there, with the choices of its decisions: decision d, from 0,
-    /// takes the choice at d modulo their number (own rule). The answer is its number, the next one
+    /// takes the choice at d modulo their number. The answer is its number, the next one
     /// from 1. `NoMemory` leaves the packets as they were.
     pub fn enter_content(
         &mut self,
@@ -95,7 +97,7 @@ impl<'a> Packets<'a> {
 
     /// A packet's bytes enter at a place, in place: they are read as a packet of the place's
     /// family, and what stands after its end is cut; of bytes that do not read at most 65,575 are
-    /// kept (own rule). The choices, the answer and `NoMemory` are as in `enter_content`; for want
+    /// kept. The choices, the answer and `NoMemory` are as in `enter_content`; for want
     /// of memory the buffer is given up.
     pub fn enter(&mut self, buf: PktBuf, place: Place, choices: &'a [u32]) -> Result<u32, NoMemory>
         requires choices { 0 < length choices.now }
@@ -107,8 +109,7 @@ impl<'a> Packets<'a> {
         self.enter_content(ContentBuf::enter_buf(place.family, buf), place, choices)
     }
 
-    /// How many bytes are spare in front of a packet in flight, and 0 of one that has ended (own
-    /// rule).
+    /// How many bytes are spare in front of a packet in flight, and 0 of one that has ended.
     pub fn room(&self, number: u32) -> usize
         requires { IsNumber self.now.packets number }
         ensures { IfSome (packet_in self.now.packets number) (λ p.
@@ -121,8 +122,7 @@ impl<'a> Packets<'a> {
     }
 
     /// Makes room in front of a packet in flight, at least 2,080 bytes, as many as the longest
-    /// header of a policy has; nothing else changes, and nothing of a packet that has ended (own
-    /// rule). `NoMemory` comes only where there is less room, and leaves all as it was.
+    /// header of a policy has; nothing else changes, and nothing of a packet that has ended. `NoMemory` comes only where there is less room, and leaves all as it was.
     pub fn reserve(&mut self, number: u32) -> Result<(), NoMemory>
         requires { IsNumber self.old.packets number }
         ensures room { (net : Network) → IfSome (packet_in self.old.packets number) (λ p.
@@ -150,7 +150,7 @@ impl<'a> Packets<'a> {
     }
 
     /// The next stage of a packet that has ended or has room in front of it, by the tables of a
-    /// network, as `turn` has it; takes no memory (own rule).
+    /// network, as `turn` has it; takes no memory.
     pub fn turn_ready(&mut self, net: &Net, number: u32) -> Option<Event>
         requires given { IsNumber self.old.packets number }
         requires places { ArePlaced net.now self.old.packets }
@@ -173,7 +173,7 @@ impl<'a> Packets<'a> {
     }
 
     /// The next stage of a packet by the tables of a network, unless the packet has ended: then
-    /// there is none, and nothing changes (own rule). A stage changes this packet and the last
+    /// there is none, and nothing changes. A stage changes this packet and the last
     /// error alone; there is room in front of the packet before it. `NoMemory`, which comes only
     /// where there is less room, leaves all as it was.
     pub fn turn(&mut self, net: &Net, number: u32) -> Result<Option<Event>, NoMemory>
@@ -189,7 +189,7 @@ impl<'a> Packets<'a> {
         }
     }
 
-    /// The bytes of what stands where a packet stands, or ended (own rule).
+    /// The bytes of what stands where a packet stands, or ended.
     pub fn bytes(&self, number: u32) -> &[u8]
         requires { IsNumber self.now.packets number }
         ensures { IfSome (packet_in self.now.packets number)
@@ -207,7 +207,7 @@ impl<'a> Packets<'a> {
         self.error.as_slice()
     }
 
-    /// How a packet ended, if it has (own rule).
+    /// How a packet ended, if it has.
     pub fn ended(&self, number: u32) -> Option<Ended>
         requires { IsNumber self.now.packets number }
         ensures { IfSome (packet_in self.now.packets number) (λ p. result ≡ p.ended) }

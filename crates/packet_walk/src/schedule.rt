@@ -4,7 +4,7 @@ ghost use Rattle.std.specs.Prelude.{◌≡◌, ◌≤◌, ℕ, [], length};
 ghost use Rattle.std.specs.Bool.{Decides};
 ghost use Rattle.std.specs.List.Sorted.{IsStrictlyIncreasing};
 ghost use Rattle.packet_walk.specs.Flight.{Flight as FlightValue};
-ghost use Rattle.packet_walk.specs.Schedule.{EntriesGive, EntryGives, IsNext, IsOf, progress};
+ghost use Rattle.packet_walk.specs.ScheduleTerms.{EntriesGive, EntryGives, IsNext, IsOf, progress};
 
 use crate::flight::Flight;
 use std::marker::Model;
@@ -12,7 +12,7 @@ use std::marker::Model;
 /// Whose turn is next among a flight's packets, which a schedule names by the numbers of their
 /// frames. An entry gives the named packet one stage; one that names no packet in flight takes
 /// none. After the last entry the packets still in flight are run to their ends in the order of
-/// their numbers. (own rule)
+/// their numbers.
 #[derive(Debug, Drop)]
 pub struct Turns<'a> {
     schedule: &'a [u32],
@@ -22,7 +22,7 @@ pub struct Turns<'a> {
 
 impl<'a> Model for Turns<'a> {
     ghost use Rattle.std.specs.List.Sorted.{IsStrictlyIncreasing};
-    ghost use Rattle.packet_walk.specs.Schedule.{Progress, progress};
+    ghost use Rattle.packet_walk.specs.ScheduleTerms.{Progress, progress};
 
     ghost Value = { Progress };
 
@@ -31,7 +31,7 @@ impl<'a> Model for Turns<'a> {
     ghost invariant = { λ t. IsStrictlyIncreasing t.numbers.now };
 }
 
-/// Whether numbers rise, each above the one before it (own rule).
+/// Whether numbers rise, each above the one before it.
 pub fn are_rising(numbers: &[u32]) -> bool
     ensures { Decides result (IsStrictlyIncreasing numbers.now) }
 {
@@ -40,7 +40,7 @@ pub fn are_rising(numbers: &[u32]) -> bool
 
 impl<'a> Turns<'a> {
     /// A schedule's entries, and the frames' numbers of a flight's packets in the order of
-    /// entering, in which they rise, as `are_rising` tells. It takes no memory (own rule).
+    /// entering, in which they rise, as `are_rising` tells. It takes no memory.
     pub fn new(schedule: &'a [u32], numbers: &'a [u32]) -> Turns<'a>
         requires { IsStrictlyIncreasing numbers.now }
         ensures is { result ≡ progress schedule.now numbers.now 0 }
@@ -105,7 +105,7 @@ impl<'a> Turns<'a> {
     /// The number of the packet whose turn is next, in the order of entering as `Flight::turn`
     /// takes it: it has not ended. None exactly where all packets have ended. The turn is to be
     /// taken before the next call. A call takes a step for each entry that it passes over, with a
-    /// search among the numbers, and for each packet that it passes (own rule).
+    /// search among the numbers, and for each packet that it passes.
     pub fn next(&mut self, flight: &Flight<'_>) -> Option<u32>
         requires { IsOf flight.now self.old }
         ensures { IsNext self.old flight.now result self.new }

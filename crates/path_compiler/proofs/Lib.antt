@@ -1,7 +1,7 @@
 pub mod Costs
-pub mod Answering
-pub mod Checking
-pub mod Handing
+pub mod CompilerAnswering
+pub mod CompilerChecking
+pub mod CompilerHanding
 pub mod Certifying
 pub mod OneAnswer
 pub mod PublicLaws

@@ -1,21 +1,12 @@
--- What the verdict on a certificate says of lists. (own rule)
-use Rattle.std.specs.Prelude.{◌≡◌, ℕ, List, length, Result, Ok, Err}
+-- What the verdict on a certificate says of lists.
+use Rattle.std.specs.Prelude.{◌≡◌, ℕ, List, length}
 use Rattle.net_model.specs.Network.{Network}
-use Rattle.intent_reader.specs.declared.intent.Intent.{Intent}
 use Rattle.list_pack.specs.declared.types.Container.{Container}
-use Rattle.list_pack.specs.declared.types.Solution.{Solution}
 use Rattle.list_pack.specs.Costs.{AtMost}
 use Rattle.list_pack.specs.Paths.{cost_with}
 use Rattle.list_pack.specs.SidLists.{IsLegalList}
-use Rattle.list_pack.specs.Value.{LegsValue}
-use Rattle.list_certificate.specs.declared.types.Verdict.{Verdict}
-use Rattle.list_certificate.specs.declared.types.Verdict.TheVariants.{Least, NoList, No}
-use Rattle.list_certificate.specs.Certs.{certificate_of}
-use Rattle.list_certificate.specs.Verdicts.{IsVerdict}
-use Rattle.leg_table.specs.Realizes.{ListHands}
-use Rattle.path_compiler.specs.declared.compiled.Compiled.{Compiled}
-use Rattle.path_compiler.specs.declared.compiled.CompileFault.{CompileFault}
-use Rattle.path_compiler.specs.declared.compiled.CompileFault.TheVariants as compile_faults
+use Rattle.list_certificate.specs.declared.certificate_types.Verdict.{Verdict}
+use Rattle.list_certificate.specs.declared.certificate_types.Verdict.TheVariants.{Least, NoList, No}
 use Rattle.path_compiler.specs.Compiled.{IsWhole}
 use Rattle.path_compiler.specs.Handing.{IsLeastOfHanding, NoneHandsOver}
 
@@ -40,21 +31,3 @@ abbrev pub SaysOver : Network → (List Container → ℕ → Type 0) → Verdic
 SaysOver net Hands (Least containers need) = IsLeastOfHanding net Hands containers need
 SaysOver net Hands NoList = NoneHandsOver net Hands
 SaysOver net Hands (No line why) = Unit {0}
-
--- over the strict steps of an intent
-abbrev pub SaysOfHanding : Network → Intent → Verdict → Type 0
-SaysOfHanding net intent verdict = SaysOver net (ListHands net intent) verdict
-
--- the verdict on the certificate of what a search over legs found, wherever its head stands
-abbrev pub CertifiesOver : LegsValue → Solution → Verdict → Type 0
-CertifiesOver v s verdict = (head : ℕ) → IsVerdict v (certificate_of head s) verdict
-
--- with an answer of the compiler comes a certificate whose verdict is the answer's: its list's containers and need, also where the list is
--- over a bound of the intent, or that there is none
-abbrev pub CertifiesAnswerOver : LegsValue → Result Compiled CompileFault → Type 0
-CertifiesAnswerOver v (Ok c) = CertifiesOver v c.solution (Least c.containers c.need)
-CertifiesAnswerOver v (Err (compile_faults.NotFlat why)) = Unit {0}
-CertifiesAnswerOver v (Err (compile_faults.NoList s)) = CertifiesOver v s NoList
-CertifiesAnswerOver v (Err (compile_faults.TooLong found)) = CertifiesOver v found.solution (Least found.containers found.need)
-CertifiesAnswerOver v (Err (compile_faults.HopLimit found)) = CertifiesOver v found.solution (Least found.containers found.need)
-CertifiesAnswerOver v (Err compile_faults.NoMemory) = Unit {0}

@@ -1,37 +1,21 @@
 -- What an intent is compiled to, and when it is refused. (own rule; containers are those of RFC 9800 sections 6.2 to 6.4, the header is
 -- that of RFC 8986 sections 5.1 and 5.2)
-use Rattle.std.specs.Prelude.{◌≡◌, ℕ, ◌<◌, ◌≤◌, Bool, false, List, [], length, slice_get, Some, Result, Ok, Err}
-use Rattle.std.specs.Option.{option_map}
+use Rattle.std.specs.Prelude.{◌≡◌, ℕ, ◌<◌, ◌≤◌, Bool, false, List, [], length, Result, Ok, Err}
 use Rattle.srv6_rules.specs.Encapsulation.{header_bytes}
 use Rattle.net_model.specs.Network.{Network}
-use Rattle.flat_networks.specs.Flat.{flatness_of}
+use Rattle.net_flatness.specs.Flat.{flatness_of}
 use Rattle.intent_reader.specs.declared.intent.Intent.{Intent}
 use Rattle.list_pack.specs.declared.types.Container.{Container}
-use Rattle.list_pack.specs.declared.types.Cost.{Cost}
-use Rattle.list_pack.specs.declared.types.Potential.{Potential}
 use Rattle.list_pack.specs.declared.types.Solution.{Solution}
 use Rattle.list_pack.specs.Costs.{AtMost}
 use Rattle.list_pack.specs.Least.{IsSolution, path_before}
 use Rattle.list_pack.specs.SidLists.{IsLegalList, prefixes_in, steps_in}
-use Rattle.list_pack.specs.Value.{LegsValue}
+use Rattle.list_pack.specs.LegsValue.{LegsValue}
 use Rattle.list_pack.specs.Paths.{cost_with}
-use Rattle.list_pack.specs.PathLists.{list_of}
-use Rattle.leg_table.specs.Realizes.{ListRealizes, ListExecutes, ListHands}
-use Rattle.leg_table.specs.Value.{legs_value}
 use Rattle.path_compiler.specs.declared.compiled.Compiled.{Compiled}
 use Rattle.path_compiler.specs.declared.compiled.CompileFault.{CompileFault}
 use Rattle.path_compiler.specs.declared.compiled.CompileFault.TheVariants as faults
 use Rattle.path_compiler.specs.Handing.{IsLeastOfHanding, NoneHandsOver}
-
-abbrev pub cost_in : Potential → Cost
-cost_in q = q.cost
-
--- the list of a path, with its header bytes, and the cost of the first state that is listed
-pub record IsListIn (net : Network) (reduced : Bool) (s : Solution) (c : Compiled) : Type 0 where
-  pub list : c.list ≡ list_of net s.path
-  pub cost : option_map cost_in (slice_get s.potentials 0) ≡ Some (cost_with c.containers c.need)
-  pub header : c.header ≡ header_bytes reduced c.containers
-  pub solution : c.solution ≡ s
 
 -- Below, a relation says that a list realizes with a need, and another that as many SIDs of a list are executed.
 
@@ -106,11 +90,6 @@ AnswersOver v net Realizes Executes intent (Err (faults.TooLong c)) = IsTooLong 
 AnswersOver v net Realizes Executes intent (Err (faults.HopLimit c)) = IsOverHopLimit v net Realizes Executes intent c
 AnswersOver v net Realizes Executes intent (Err faults.NoMemory) = Unit {0}
 
--- over the strict steps of an intent, which the laws of `intent_legs` compare with
-abbrev pub CompileAnswers : Network → Intent → Result Compiled CompileFault → Type 0
-CompileAnswers net intent answer =
-    AnswersOver (legs_value net intent) net (ListRealizes net intent) (ListExecutes net intent) intent answer
-
 -- ---- the lists that hand over even one packet
 
 -- the chosen list is the least of these: none needs fewer header bytes, nor has fewer containers, or as many at a hop limit that is not
@@ -127,7 +106,3 @@ NoneLessOver net Hands reduced (Err (faults.NoList s)) = NoneHandsOver net Hands
 NoneLessOver net Hands reduced (Err (faults.TooLong c)) = IsLeastOver net Hands reduced c
 NoneLessOver net Hands reduced (Err (faults.HopLimit c)) = IsLeastOver net Hands reduced c
 NoneLessOver net Hands reduced (Err faults.NoMemory) = Unit {0}
-
--- over the strict steps of an intent
-abbrev pub NoLessHandsOver : Network → Intent → Result Compiled CompileFault → Type 0
-NoLessHandsOver net intent answer = NoneLessOver net (ListHands net intent) intent.reduced answer

@@ -1,5 +1,5 @@
 -- The legal lists that hand over even one packet, which the least list is compared with too. Below, a relation says that a list hands over
--- even one packet at a hop limit. (own rule)
+-- even one packet at a hop limit.
 use Rattle.std.specs.Prelude.{ℕ, ◌+◌, List, length}
 use Rattle.net_model.specs.Network.{Network}
 use Rattle.list_pack.specs.declared.types.Container.{Container}

@@ -1,3 +1,5 @@
 pub mod Handing
 pub mod Compiled
+pub mod CompiledTerms
 pub mod Checked
+pub mod CheckedTerms

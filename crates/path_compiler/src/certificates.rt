@@ -1,6 +1,6 @@
 //! Certificates judged for what they say of lists.
 
-ghost use Rattle.list_certificate.specs.Certs.{IsCert};
+ghost use Rattle.list_certificate.specs.CertsTerms.{IsCert};
 ghost use Rattle.list_certificate.specs.Verdicts.{IsVerdict};
 ghost use Rattle.path_compiler.specs.Checked.{Says, SaysOver};
 
@@ -10,8 +10,7 @@ use list_pack::{Legs, ListLegs};
 /// What a certificate shows over any legs that mean lists: the first of its tests that fails, or
 /// the least pair of containers and need of a legal list that realizes what the legs are for, or
 /// that none does; the pair is the least of the legal lists too that hand over even one packet,
-/// with a hop limit in the place of a need one higher, or there are none. It takes no memory. (own
-/// rule)
+/// with a hop limit in the place of a need one higher, or there are none. It takes no memory.
 pub fn checked_over<L: ListLegs>(legs: &L, cert: &Cert) -> Verdict
     requires { IsCert (L.seen legs.now) cert.now }
     ensures verdict { IsVerdict (L.seen legs.now) cert.now result }

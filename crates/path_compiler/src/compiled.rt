@@ -1,9 +1,9 @@
 //! Compiled lists, and when an intent is refused.
 
-use flat_networks::NotFlat;
 use list_pack::{SidList, Solution};
+use net_flatness::NotFlat;
 
-/// A list of segments that an intent is compiled to. (own rule)
+/// A list of segments that an intent is compiled to.
 #[derive(Debug, Drop)]
 pub struct Compiled {
     /// The list as containers, the SID that is executed first in front.
@@ -20,7 +20,7 @@ pub struct Compiled {
     pub solution: Solution,
 }
 
-/// Why an intent is not compiled. The refusals come in this order (own rule); want of memory may
+/// Why an intent is not compiled. The refusals come in this order; want of memory may
 /// come in place of any answer.
 #[derive(Debug, Drop)]
 pub enum CompileFault {

@@ -2,9 +2,10 @@
 
 ghost use Rattle.std.specs.Prelude.{◌≡◌, ◌<◌, [], length, slice_get, Some, IfOk, Ok};
 ghost use Rattle.std.specs.Option.{option_map};
-ghost use Rattle.flat_networks.specs.Flat.{flatness_of};
+ghost use Rattle.net_flatness.specs.Flat.{flatness_of};
 ghost use Rattle.list_pack.specs.Least.{IsSolution};
-ghost use Rattle.path_compiler.specs.Compiled.{AnswersOver, IsFound, IsListIn, NoneLessOver, cost_in};
+ghost use Rattle.path_compiler.specs.Compiled.{AnswersOver, IsFound, NoneLessOver};
+ghost use Rattle.path_compiler.specs.CompiledTerms.{IsListIn, cost_in};
 
 use crate::compiled::{CompileFault, Compiled};
 use base::NoMemory;
@@ -15,7 +16,6 @@ use net_model::Net;
 use std::alloc::Global;
 
 /// The cost of the state that is listed first: the start, where a path leads from it to the end.
-/// (own rule)
 fn first_cost(potentials: &[Potential]) -> Cost
     requires { 0 < length potentials.now }
     ensures { option_map cost_in (slice_get potentials.now 0) ≡ Some result }
@@ -23,7 +23,7 @@ fn first_cost(potentials: &[Potential]) -> Cost
     potentials[0].cost
 }
 
-/// The list of a solution's path, with its numbers. (own rule)
+/// The list of a solution's path, with its numbers.
 fn compiled_of(
     alloc: Global,
     net: &Net,
@@ -44,7 +44,7 @@ fn compiled_of(
     })
 }
 
-/// The chosen list, where there is a path. (own rule)
+/// The chosen list, where there is a path.
 fn found_over<L: ListLegs>(
     alloc: Global,
     net: &Net,
@@ -62,7 +62,7 @@ fn found_over<L: ListLegs>(
     compiled_of(alloc, net, reduced, solution)
 }
 
-/// The answer over any legs of a flat network. (own rule)
+/// The answer over any legs of a flat network.
 fn answer_over<L: ListLegs>(
     alloc: Global,
     net: &Net,

@@ -7,7 +7,7 @@
 //! header bytes. It gives that list with the bytes of its header, the hop limit that it needs, and
 //! what the search found. `checked_over` says what a certificate from anywhere shows over them. The
 //! functions of `laws` do nothing: their contracts say that the certificate of what the search
-//! found tells what was compiled. `intent_legs` builds the legs that an intent asks for.
+//! found tells what was compiled. `intent_compiler` builds the legs that an intent asks for.
 #![tactic(auto)]
 
 mod certificates;

@@ -1,12 +1,12 @@
 -- A reader that is fed a capture in pieces.
 use Rattle.std.proofs.Common.{◌≡◌, ℕ, ◌+◌, true, List, Some, Ok, sym, ap, ◌∙◌, subst}
 use Rattle.pcap_io.specs.Frames.{Spelled, numbered}
-use Rattle.pcap_io.specs.Capture.{Reader, HasFrame, next_frame, after_frame}
-use Rattle.pcap_io.specs.Pieces.{fed}
+use Rattle.pcap_io.specs.CaptureTerms.{Reader, HasFrame, next_frame, after_frame}
+use Rattle.pcap_io.specs.FedPieces.{fed}
 use Rattle.pcap_io.specs.declared.pieces.Feeding.{Feeding}
 use Rattle.pcap_io.specs.declared.pieces.FrameNext.TheVariants as nexts
 use Rattle.pcap_io.specs.Feeding.{GoesOn, PiecesSeen, Readies, all_fed, pieces_seen}
-use Rattle.pcap_io.proofs.PieceLemmas.{behind-more, first_frame-more, longer}
+use Rattle.pcap_io.proofs.CapturePieceLemmas.{behind_more, first_frame_more, longer}
 
 -- what a reader has, it has when more is fed
 pub frame_fed : (r : Reader) (more : List ℕ) → HasFrame r → HasFrame (fed r more)
@@ -14,12 +14,12 @@ frame_fed r more has = (has.0, longer r.head 0 0 r.rest more has.1)
 
 pub next_fed : (r : Reader) (more : List ℕ) → HasFrame r → next_frame (fed r more) ≡ next_frame r
 next_fed r more has =
-    ap (λ (f : Spelled). numbered r.head.link (r.taken + 1) f) (first_frame-more r.head.little r.rest more has.1)
+    ap (λ (f : Spelled). numbered r.head.link (r.taken + 1) f) (first_frame_more r.head.little r.rest more has.1)
 
 pub after_fed : (r : Reader) (more : List ℕ) → HasFrame r → fed (after_frame r) more ≡ after_frame (fed r more)
 after_fed r more has =
     ap (λ (rest : List ℕ). let made : Reader = record { head = r.head; taken = r.taken + 1; rest = rest } in made)
-    (sym (behind-more r.head 0 0 r.rest more has.1))
+    (sym (behind_more r.head 0 0 r.rest more has.1))
 
 -- so a frame that is whole is the next of a capture
 pub found_frame : (old : PiecesSeen) (first new : Feeding) → old.left ≡ all_fed first → Readies first (Ok nexts.Frame) new

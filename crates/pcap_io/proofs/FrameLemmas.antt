@@ -4,11 +4,12 @@ use Rattle.std.specs.List.{flat_map}
 use Rattle.std.proofs.lemmas.Bool.{cases_lt}
 use Rattle.std.proofs.lemmas.List.{append_assoc, append-nil, drop_at, take_at, drop-drop, take-append-drop, length-take-le}
 use Rattle.std.proofs.lemmas.List.Elements.{All-nil, All-cons, All-head, All-tail, All-drop}
-use Rattle.pcap_io.specs.declared.head.CaptureHead.{CaptureHead}
+use Rattle.pcap_io.specs.declared.capture_head.CaptureHead.{CaptureHead}
 use Rattle.pcap_io.specs.Numbers.{number_of, number_bytes}
-use Rattle.pcap_io.specs.Frames.{Spelled, Fits, Reading, Splits, HoldsNoFrame, numbers_of_frame, frame_bytes, frame_len, first_frame, behind, numbered, numbered_from, with_front, frames_of}
-use Rattle.pcap_io.proofs.NumberLemmas.{number_of-below, number_of-bytes, number_bytes-length, number_bytes-of}
-use Rattle.pcap_io.proofs.Reading.{frames_of-zero, frames_of-whole, frames_of-none}
+use Rattle.pcap_io.specs.Frames.{Spelled, Reading, numbers_of_frame, frame_bytes, frame_len, first_frame, behind, numbered, with_front, frames_of}
+use Rattle.pcap_io.specs.FramesTerms.{Fits, Splits, HoldsNoFrame, numbered_from}
+use Rattle.pcap_io.proofs.CaptureNumberLemmas.{number_of_below, number_of_bytes, number_bytes_length, number_bytes_of}
+use Rattle.pcap_io.proofs.CaptureReading.{frames_of_zero, frames_of_whole, frames_of_none}
 
 -- ---- four numbers of 4 bytes, and more
 
@@ -34,47 +35,47 @@ spelled_from little f rest =
     number_bytes little 4 f.seconds ++ (number_bytes little 4 f.fraction ++
     (number_bytes little 4 (length f.captured) ++ (number_bytes little 4 f.original ++ (f.captured ++ rest))))
 
-frame_bytes-spelled : (little : Bool) (f : Spelled) (rest : List ℕ) → frame_bytes little f ++ rest ≡ spelled_from little f rest
+frame_bytes_spelled : (little : Bool) (f : Spelled) (rest : List ℕ) → frame_bytes little f ++ rest ≡ spelled_from little f rest
 unfolding numbers_of_frame spelled_from
-frame_bytes-spelled little f rest =
+frame_bytes_spelled little f rest =
     regroup (number_bytes little 4 f.seconds) (number_bytes little 4 f.fraction) (number_bytes little 4 (length f.captured))
     (number_bytes little 4 f.original) f.captured rest
 
 module _ (little : Bool) (f : Spelled) (rest : List ℕ) (fits : Fits f) where
   seconds_at : number_of little 4 (spelled_from little f rest) ≡ f.seconds
   unfolding spelled_from
-  seconds_at = number_of-bytes little 4 f.seconds _ fits.seconds
+  seconds_at = number_of_bytes little 4 f.seconds _ fits.seconds
 
   fraction_at : number_of little 4 (drop 4 (spelled_from little f rest)) ≡ f.fraction
   unfolding spelled_from
   fraction_at =
       ap (number_of little 4) (drop4 (number_bytes little 4 f.seconds) (number_bytes little 4 f.fraction)
       (number_bytes little 4 (length f.captured)) (number_bytes little 4 f.original) (f.captured ++ rest)
-      (number_bytes-length little 4 _) (number_bytes-length little 4 _) (number_bytes-length little 4 _) (number_bytes-length little 4 _))
-      ∙ number_of-bytes little 4 f.fraction _ fits.fraction
+      (number_bytes_length little 4 _) (number_bytes_length little 4 _) (number_bytes_length little 4 _) (number_bytes_length little 4 _))
+      ∙ number_of_bytes little 4 f.fraction _ fits.fraction
 
   captured_at : number_of little 4 (drop 8 (spelled_from little f rest)) ≡ length f.captured
   unfolding spelled_from
   captured_at =
       ap (number_of little 4) (drop8 (number_bytes little 4 f.seconds) (number_bytes little 4 f.fraction)
       (number_bytes little 4 (length f.captured)) (number_bytes little 4 f.original) (f.captured ++ rest)
-      (number_bytes-length little 4 _) (number_bytes-length little 4 _) (number_bytes-length little 4 _) (number_bytes-length little 4 _))
-      ∙ number_of-bytes little 4 (length f.captured) _ fits.captured
+      (number_bytes_length little 4 _) (number_bytes_length little 4 _) (number_bytes_length little 4 _) (number_bytes_length little 4 _))
+      ∙ number_of_bytes little 4 (length f.captured) _ fits.captured
 
   original_at : number_of little 4 (drop 12 (spelled_from little f rest)) ≡ f.original
   unfolding spelled_from
   original_at =
       ap (number_of little 4) (drop12 (number_bytes little 4 f.seconds) (number_bytes little 4 f.fraction)
       (number_bytes little 4 (length f.captured)) (number_bytes little 4 f.original) (f.captured ++ rest)
-      (number_bytes-length little 4 _) (number_bytes-length little 4 _) (number_bytes-length little 4 _) (number_bytes-length little 4 _))
-      ∙ number_of-bytes little 4 f.original _ fits.original
+      (number_bytes_length little 4 _) (number_bytes_length little 4 _) (number_bytes_length little 4 _) (number_bytes_length little 4 _))
+      ∙ number_of_bytes little 4 f.original _ fits.original
 
   bytes_at : drop 16 (spelled_from little f rest) ≡ f.captured ++ rest
   unfolding spelled_from
   bytes_at =
       drop16 (number_bytes little 4 f.seconds) (number_bytes little 4 f.fraction)
       (number_bytes little 4 (length f.captured)) (number_bytes little 4 f.original) (f.captured ++ rest)
-      (number_bytes-length little 4 _) (number_bytes-length little 4 _) (number_bytes-length little 4 _) (number_bytes-length little 4 _)
+      (number_bytes_length little 4 _) (number_bytes_length little 4 _) (number_bytes_length little 4 _) (number_bytes_length little 4 _)
 
   len_spelled : frame_len little (spelled_from little f rest) ≡ 16 + length f.captured
   unfolding frame_len
@@ -90,10 +91,10 @@ module _ (little : Bool) (f : Spelled) (rest : List ℕ) (fits : Fits f) where
   length_spelled : length (spelled_from little f rest) ≡ 16 + length f.captured + length rest
   unfolding spelled_from
   length_spelled =
-      let a = number_bytes-length little 4 f.seconds in
-      let b = number_bytes-length little 4 f.fraction in
-      let d = number_bytes-length little 4 (length f.captured) in
-      let e = number_bytes-length little 4 f.original in
+      let a = number_bytes_length little 4 f.seconds in
+      let b = number_bytes_length little 4 f.fraction in
+      let d = number_bytes_length little 4 (length f.captured) in
+      let e = number_bytes_length little 4 f.original in
       simp length-append (omega (arith, a, b, d, e))
 
   behind_spelled : behind little (spelled_from little f rest) ≡ rest
@@ -109,51 +110,51 @@ whole_spelled : (little : Bool) (f : Spelled) (rest : List ℕ) → Fits f
 whole_spelled little f rest fits =
     let len = len_spelled little f rest fits in
     let all = length_spelled little f rest fits in
-    rw (frame_bytes-spelled little f rest) (omega (arith, len, all))
+    rw (frame_bytes_spelled little f rest) (omega (arith, len, all))
 
-first-frame_bytes : (little : Bool) (f : Spelled) (rest : List ℕ) → Fits f → first_frame little (frame_bytes little f ++ rest) ≡ f
-first-frame_bytes little f rest fits = ap (first_frame little) (frame_bytes-spelled little f rest) ∙ first_spelled little f rest fits
+first_frame_bytes : (little : Bool) (f : Spelled) (rest : List ℕ) → Fits f → first_frame little (frame_bytes little f ++ rest) ≡ f
+first_frame_bytes little f rest fits = ap (first_frame little) (frame_bytes_spelled little f rest) ∙ first_spelled little f rest fits
 
-behind-frame_bytes : (little : Bool) (f : Spelled) (rest : List ℕ) → Fits f → behind little (frame_bytes little f ++ rest) ≡ rest
-behind-frame_bytes little f rest fits = ap (behind little) (frame_bytes-spelled little f rest) ∙ behind_spelled little f rest fits
+behind_frame_bytes : (little : Bool) (f : Spelled) (rest : List ℕ) → Fits f → behind little (frame_bytes little f ++ rest) ≡ rest
+behind_frame_bytes little f rest fits = ap (behind little) (frame_bytes_spelled little f rest) ∙ behind_spelled little f rest fits
 
 -- a frame that is spelled is the first that is read
-pub frames_of-frame_bytes : (head : CaptureHead) (most n : ℕ) (f : Spelled) (rest : List ℕ) → Fits f
+pub frames_of_frame_bytes : (head : CaptureHead) (most n : ℕ) (f : Spelled) (rest : List ℕ) → Fits f
     → frames_of head (suc most) n (frame_bytes head.little f ++ rest)
     ≡ with_front (numbered head.link n f ∷ []) (frames_of head most (n + 1) rest)
-frames_of-frame_bytes head most n f rest fits =
+frames_of_frame_bytes head most n f rest fits =
     let bytes = frame_bytes head.little f ++ rest in
-    frames_of-whole head most n bytes (whole_spelled head.little f rest fits)
+    frames_of_whole head most n bytes (whole_spelled head.little f rest fits)
     ∙ ap (λ g. with_front (numbered head.link n g ∷ []) (frames_of head most (n + 1) (behind head.little bytes)))
-    (first-frame_bytes head.little f rest fits)
-    ∙ ap (λ bs. with_front (numbered head.link n f ∷ []) (frames_of head most (n + 1) bs)) (behind-frame_bytes head.little f rest fits)
+    (first_frame_bytes head.little f rest fits)
+    ∙ ap (λ bs. with_front (numbered head.link n f ∷ []) (frames_of head most (n + 1) bs)) (behind_frame_bytes head.little f rest fits)
 
 -- frames that are spelled one after the other are read
-pub frames_of-spelled : (head : CaptureHead) (most n : ℕ) (frames : List Spelled) (rest : List ℕ) → All Fits frames → length frames ≤ most
+pub frames_of_spelled : (head : CaptureHead) (most n : ℕ) (frames : List Spelled) (rest : List ℕ) → All Fits frames → length frames ≤ most
     → (length frames < most → HoldsNoFrame head.little rest)
     → frames_of head most n (flat_map (frame_bytes head.little) frames ++ rest)
     ≡ record { frames = numbered_from head.link n frames; rest = rest }
-frames_of-spelled head zero n [] rest fit within none = frames_of-zero head n rest
-frames_of-spelled head (suc most) n [] rest fit within none = frames_of-none head (suc most) n rest (none (omega arith))
-frames_of-spelled head zero n (f ∷ fs) rest fit within none = absurd (omega arith)
-frames_of-spelled head (suc most) n (f ∷ fs) rest fit within none =
+frames_of_spelled head zero n [] rest fit within none = frames_of_zero head n rest
+frames_of_spelled head (suc most) n [] rest fit within none = frames_of_none head (suc most) n rest (none (omega arith))
+frames_of_spelled head zero n (f ∷ fs) rest fit within none = absurd (omega arith)
+frames_of_spelled head (suc most) n (f ∷ fs) rest fit within none =
     let more = flat_map (frame_bytes head.little) fs in
-    let again = frames_of-spelled head most (n + 1) fs rest (All-tail Fits f fs fit) (omega arith) (λ below. none (omega arith)) in
+    let again = frames_of_spelled head most (n + 1) fs rest (All-tail Fits f fs fit) (omega arith) (λ below. none (omega arith)) in
     ap (frames_of head (suc most) n) (append_assoc (frame_bytes head.little f) more rest)
-    ∙ frames_of-frame_bytes head most n f (more ++ rest) (All-head Fits f fs fit)
+    ∙ frames_of_frame_bytes head most n f (more ++ rest) (All-head Fits f fs fit)
     ∙ ap (with_front (numbered head.link n f ∷ [])) again
 
-pub splits-read : (head : CaptureHead) (most n : ℕ) (bytes : List ℕ) (frames : List Spelled) (read : Reading)
+pub splits_read : (head : CaptureHead) (most n : ℕ) (bytes : List ℕ) (frames : List Spelled) (read : Reading)
     → Splits head most n bytes frames read → frames_of head most n bytes ≡ read
-splits-read head most n bytes frames read s =
+splits_read head most n bytes frames read s =
     ap (frames_of head most n) s.whole
-    ∙ frames_of-spelled head most n frames read.rest s.fit s.within s.partial
+    ∙ frames_of_spelled head most n frames read.rest s.fit s.within s.partial
     ∙ ap (λ fs. let made : Reading = record { frames = fs; rest = read.rest } in made) (sym s.held)
 
 -- no frame stands at the front of fewer bytes than its numbers say
-pub none-spelled : (little : Bool) (bytes more : List ℕ) (f : Spelled) → HoldsNoFrame little bytes → Fits f
+pub none_spelled : (little : Bool) (bytes more : List ℕ) (f : Spelled) → HoldsNoFrame little bytes → Fits f
     → bytes ≡ frame_bytes little f ++ more → ⊥
-none-spelled little bytes more f none fits is =
+none_spelled little bytes more f none fits is =
     let short : HoldsNoFrame little (frame_bytes little f ++ more) = subst (λ bs. HoldsNoFrame little bs) is none in
     let whole = whole_spelled little f more fits in
     omega arith
@@ -164,7 +165,7 @@ none-spelled little bytes more f none fits is =
 pub piece : (little : Bool) (n : ℕ) (bytes : List ℕ) → n ≤ length bytes → All (λ b. b < 2 ^ 8) bytes
     → bytes ≡ number_bytes little n (number_of little n bytes) ++ drop n bytes
 piece little n bytes h all =
-    sym (take-append-drop n bytes) ∙ ap (λ front. front ++ drop n bytes) (sym (number_bytes-of little n bytes h all))
+    sym (take-append-drop n bytes) ∙ ap (λ front. front ++ drop n bytes) (sym (number_bytes_of little n bytes h all))
 
 -- the number in the n bytes from a place on, and what is after it
 pub piece_at : (little : Bool) (at n : ℕ) (bytes : List ℕ) → at + n ≤ length bytes → All (λ b. b < 2 ^ 8) bytes
@@ -187,11 +188,11 @@ module _ (little : Bool) (bytes : List ℕ) (all : All (λ b. b < 2 ^ 8) bytes) 
       length-take-le (number_of little 4 (drop 8 bytes)) (drop 16 bytes) (omega (arith, len))
 
   below_at : (at : ℕ) → number_of little 4 (drop at bytes) < 256 ^ 4
-  below_at at = number_of-below little 4 (drop at bytes) (All-drop (λ b. b < 2 ^ 8) at bytes all)
+  below_at at = number_of_below little 4 (drop at bytes) (All-drop (λ b. b < 2 ^ 8) at bytes all)
 
-  pub first-fits : Fits (first_frame little bytes)
+  pub first_fits : Fits (first_frame little bytes)
   unfolding first_frame
-  first-fits = record {
+  first_fits = record {
     seconds = below_at 0;
     fraction = below_at 4;
     original = below_at 12;
@@ -227,8 +228,8 @@ module _ (little : Bool) (bytes : List ℕ) (all : All (λ b. b < 2 ^ 8) bytes) 
   unfolding frame_len
   behind_is = sym (drop-drop (number_of little 4 (drop 8 bytes)) 16 bytes)
 
-  pub first-spelled : bytes ≡ frame_bytes little (first_frame little bytes) ++ behind little bytes
-  first-spelled =
+  pub first_spelled_law : bytes ≡ frame_bytes little (first_frame little bytes) ++ behind little bytes
+  first_spelled_law =
       let numbers = numbers_of_frame little (number_of little 4 bytes) (number_of little 4 (drop 4 bytes))
       (number_of little 4 (drop 8 bytes)) (number_of little 4 (drop 12 bytes)) in
       let cut = number_of little 4 (drop 8 bytes) in
@@ -239,15 +240,15 @@ module _ (little : Bool) (bytes : List ℕ) (all : All (λ b. b < 2 ^ 8) bytes) 
       ∙ ap (λ r. frame_bytes little (first_frame little bytes) ++ r) (sym behind_is)
 
 -- a whole frame at the front was spelled
-pub some-spelled : (little : Bool) (bytes : List ℕ) → All (λ b. b < 2 ^ 8) bytes → frame_len little bytes ≤ length bytes
+pub some_spelled : (little : Bool) (bytes : List ℕ) → All (λ b. b < 2 ^ 8) bytes → frame_len little bytes ≤ length bytes
     → (f : Spelled) × Fits f × (bytes ≡ frame_bytes little f ++ behind little bytes)
-some-spelled little bytes all whole =
-    (first_frame little bytes, first-fits little bytes all whole, first-spelled little bytes all whole)
+some_spelled little bytes all whole =
+    (first_frame little bytes, first_fits little bytes all whole, first_spelled_law little bytes all whole)
 
 -- where no frame stands at the front, there are none
-splits-none : (head : CaptureHead) (most n : ℕ) (bytes : List ℕ) (read : Reading) → (0 < most → HoldsNoFrame head.little bytes)
+splits_none : (head : CaptureHead) (most n : ℕ) (bytes : List ℕ) (read : Reading) → (0 < most → HoldsNoFrame head.little bytes)
     → read ≡ record { frames = []; rest = bytes } → Splits head most n bytes [] read
-splits-none head most n bytes read none is = rw is (record {
+splits_none head most n bytes read none is = rw is (record {
   fit = All-nil Fits;
   within = omega arith;
   whole = refl;
@@ -256,10 +257,10 @@ splits-none head most n bytes read none is = rw is (record {
 })
 
 -- a whole frame in front of frames
-splits-first : (head : CaptureHead) (most n : ℕ) (bytes more : List ℕ) (f : Spelled) (fs : List Spelled) (read all : Reading) → Fits f
+splits_first : (head : CaptureHead) (most n : ℕ) (bytes more : List ℕ) (f : Spelled) (fs : List Spelled) (read all : Reading) → Fits f
     → bytes ≡ frame_bytes head.little f ++ more → Splits head most (n + 1) more fs read
     → all ≡ with_front (numbered head.link n f ∷ []) read → Splits head (suc most) n bytes (f ∷ fs) all
-splits-first head most n bytes more f fs read all fits first s is = rw is (record {
+splits_first head most n bytes more f fs read all fits first s is = rw is (record {
   fit = All-cons Fits f fs fits s.fit;
   within = let h = s.within in omega arith;
   whole = first ∙ ap (λ r. frame_bytes head.little f ++ r) s.whole
@@ -269,23 +270,23 @@ splits-first head most n bytes more f fs read all fits first s is = rw is (recor
 })
 
 -- what is read is frames that stand in the bytes one after the other
-pub frames-spelled : (head : CaptureHead) (most n : ℕ) (bytes : List ℕ) → All (λ b. b < 2 ^ 8) bytes
+pub frames_spelled : (head : CaptureHead) (most n : ℕ) (bytes : List ℕ) → All (λ b. b < 2 ^ 8) bytes
     → (frames : List Spelled) × Splits head most n bytes frames (frames_of head most n bytes)
-frames-spelled head zero n bytes all =
-    ([], splits-none head zero n bytes (frames_of head zero n bytes) (λ some. absurd (omega arith)) (frames_of-zero head n bytes))
-frames-spelled head (suc most) n bytes all = elim (cases_lt (length bytes) (frame_len head.little bytes)) [
+frames_spelled head zero n bytes all =
+    ([], splits_none head zero n bytes (frames_of head zero n bytes) (λ some. absurd (omega arith)) (frames_of_zero head n bytes))
+frames_spelled head (suc most) n bytes all = elim (cases_lt (length bytes) (frame_len head.little bytes)) [
   | inl none ↦ (
     [],
-    splits-none head (suc most) n bytes (frames_of head (suc most) n bytes) (λ some. none)
-        (frames_of-none head (suc most) n bytes none),
+    splits_none head (suc most) n bytes (frames_of head (suc most) n bytes) (λ some. none)
+        (frames_of_none head (suc most) n bytes none),
   )
   | inr whole ↦
       let f = first_frame head.little bytes in
       let more = behind head.little bytes in
-      let later = frames-spelled head most (n + 1) more (All-drop (λ b. b < 2 ^ 8) (frame_len head.little bytes) bytes all) in (
+      let later = frames_spelled head most (n + 1) more (All-drop (λ b. b < 2 ^ 8) (frame_len head.little bytes) bytes all) in (
         f ∷ later.0,
-        splits-first head most n bytes more f later.0 (frames_of head most (n + 1) more) (frames_of head (suc most) n bytes)
-            (first-fits head.little bytes all whole) (first-spelled head.little bytes all whole) later.1
-            (frames_of-whole head most n bytes whole),
+        splits_first head most n bytes more f later.0 (frames_of head most (n + 1) more) (frames_of head (suc most) n bytes)
+            (first_fits head.little bytes all whole) (first_spelled_law head.little bytes all whole) later.1
+            (frames_of_whole head most n bytes whole),
       )
 ]

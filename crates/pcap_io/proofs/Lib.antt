@@ -1,8 +1,8 @@
-pub mod Reading
-pub mod NumberLemmas
+pub mod CaptureReading
+pub mod CaptureNumberLemmas
 pub mod FrameLemmas
 pub mod HeadLemmas
 pub mod WrittenLemmas
 pub mod PublicLaws
-pub mod PieceLemmas
+pub mod CapturePieceLemmas
 pub mod FeedingLemmas

@@ -1,5 +1,5 @@
 -- The laws of this crate as lemmas, each the proof of a clause of `laws`: what crates above cite.
-pub use Rattle.pcap_io.proofs.FrameLemmas.{splits-read, frames-spelled, none-spelled, some-spelled}
-pub use Rattle.pcap_io.proofs.HeadLemmas.{head-read, head-spelled}
-pub use Rattle.pcap_io.proofs.Reading.{frames_of-zero, frames_of-whole, frames_of-none}
-pub use Rattle.pcap_io.proofs.WrittenLemmas.{written_head-read, written_frame-read, written_capture-read}
+pub use Rattle.pcap_io.proofs.FrameLemmas.{splits_read, frames_spelled, none_spelled, some_spelled}
+pub use Rattle.pcap_io.proofs.HeadLemmas.{head_read, head_spelled}
+pub use Rattle.pcap_io.proofs.CaptureReading.{frames_of_zero, frames_of_whole, frames_of_none}
+pub use Rattle.pcap_io.proofs.WrittenLemmas.{written_head_read, written_frame_read, written_capture_read}

@@ -1,15 +1,16 @@
--- The frames of a capture that stands in memory whole, one by one (own rule).
+-- Need not be believed: helps proofs and other laws.
+-- The frames of a capture that stands in memory whole, one by one.
 use Rattle.std.specs.Prelude.{◌≡◌, ℕ, ◌+◌, ◌<◌, Bool, true, false, List, length, Option, Some, None, Result, Ok, Err, ⊤}
 use Rattle.base.specs.declared.no_memory.NoMemory.{NoMemory}
 use Rattle.pcap_io.specs.declared.frame.Frame.{Frame}
-use Rattle.pcap_io.specs.declared.head.CaptureHead.{CaptureHead}
+use Rattle.pcap_io.specs.declared.capture_head.CaptureHead.{CaptureHead}
 use Rattle.pcap_io.specs.declared.pieces.CaptureEnd.{CaptureEnd}
 use Rattle.pcap_io.specs.declared.pieces.CaptureEnd.TheVariants as ends
 use Rattle.pcap_io.specs.declared.pieces.Feeding.{Feeding}
 use Rattle.pcap_io.specs.declared.pieces.FrameNext.{FrameNext}
 use Rattle.pcap_io.specs.declared.pieces.FrameNext.TheVariants as nexts
-use Rattle.pcap_io.specs.Capture.{Reader, HasFrame, IsAtLimit, IsDone, next_frame, after_frame}
-use Rattle.pcap_io.specs.Pieces.{fed}
+use Rattle.pcap_io.specs.CaptureTerms.{Reader, HasFrame, IsAtLimit, IsDone, next_frame, after_frame}
+use Rattle.pcap_io.specs.FedPieces.{fed}
 
 -- the frame at hand, if one is, and a reader that was fed all bytes and has taken this frame
 pub record PiecesSeen : Type 0 where

@@ -1,13 +1,12 @@
 -- The frames of a classic capture, one after the other after its head: four numbers and the captured bytes (own rule
 -- for the format that is read).
-use Rattle.std.specs.Prelude.{◌≡◌, ℕ, zero, suc, ◌+◌, ◌/◌, ◌^◌, ◌<◌, ◌≤◌, ◌==◌, nat_lt, nat_le, if◌then◌else◌, Bool, true, false, List, [], ◌∷◌, ◌++◌, length, take, drop, slice_index, All}
-use Rattle.std.specs.List.{flat_map}
+use Rattle.std.specs.Prelude.{ℕ, zero, suc, ◌+◌, ◌/◌, ◌==◌, nat_lt, nat_le, if◌then◌else◌, Bool, true, false, List, [], ◌∷◌, ◌++◌, length, take, drop, slice_index}
 use Rattle.pcap_io.specs.declared.frame.Body.{Body}
 use Rattle.pcap_io.specs.declared.frame.Body.TheVariants.{V6, V4, ShortFrame, NotIp}
 use Rattle.pcap_io.specs.declared.frame.Frame.{Frame}
-use Rattle.pcap_io.specs.declared.head.CaptureHead.{CaptureHead}
-use Rattle.pcap_io.specs.declared.head.LinkType.{LinkType}
-use Rattle.pcap_io.specs.declared.head.LinkType.TheVariants as links
+use Rattle.pcap_io.specs.declared.capture_head.CaptureHead.{CaptureHead}
+use Rattle.pcap_io.specs.declared.capture_head.LinkType.{LinkType}
+use Rattle.pcap_io.specs.declared.capture_head.LinkType.TheVariants as links
 use Rattle.pcap_io.specs.declared.numbers.TheConstants.{ETHERTYPE_V6, ETHERTYPE_V4}
 use Rattle.pcap_io.specs.Numbers.{number_of, number_bytes}
 
@@ -17,13 +16,6 @@ pub record Spelled : Type 0 where
   pub fraction : ℕ
   pub original : ℕ
   pub captured : List ℕ
-
--- what has a spelling
-pub record Fits (f : Spelled) : Type 0 where
-  pub seconds : f.seconds < 2 ^ 32
-  pub fraction : f.fraction < 2 ^ 32
-  pub original : f.original < 2 ^ 32
-  pub captured : length f.captured < 2 ^ 32
 
 -- the numbers of a frame: seconds, fraction, captured and original length
 unfoldable pub numbers_of_frame : Bool → ℕ → ℕ → ℕ → ℕ → List ℕ
@@ -38,10 +30,6 @@ frame_bytes little f = numbers_of_frame little f.seconds f.fraction (length f.ca
 -- the length of the frame at the front in bytes, as its numbers say
 unfoldable pub frame_len : Bool → List ℕ → ℕ
 frame_len little bytes = 16 + number_of little 4 (drop 8 bytes)
-
--- no whole frame stands at the front
-abbrev pub HoldsNoFrame : Bool → List ℕ → Type 0
-HoldsNoFrame little bytes = length bytes < frame_len little bytes
 
 -- the frame at the front, where it is whole
 unfoldable pub first_frame : Bool → List ℕ → Spelled
@@ -85,11 +73,6 @@ body_of link f = if nat_lt (length f.captured) f.original then ShortFrame else p
 abbrev pub numbered : LinkType → ℕ → Spelled → Frame
 numbered link n f = record { number = n; body = body_of link f }
 
--- frames that stand one after the other, with their numbers from n on
-abbrev pub numbered_from : LinkType → ℕ → List Spelled → List Frame
-numbered_from link n [] = []
-numbered_from link n (f ∷ fs) = numbered link n f ∷ numbered_from link (n + 1) fs
-
 -- the first frames of bytes, and what is after them
 pub record Reading : Type 0 where
   pub frames : List Frame
@@ -107,12 +90,3 @@ frames_of head (suc most) n bytes =
           (frames_of head most (n + 1) (behind head.little bytes))
       | false ↦ record { frames = []; rest = bytes }
     ]
-
--- The bytes are these frames one after the other, at most so many, and a rest that begins with no whole frame unless
--- they are so many; `read` has what the frames hold, numbered from n on, and the rest.
-pub record Splits (head : CaptureHead) (most n : ℕ) (bytes : List ℕ) (frames : List Spelled) (read : Reading) : Type 0 where
-  pub fit : All Fits frames
-  pub within : length frames ≤ most
-  pub whole : bytes ≡ flat_map (frame_bytes head.little) frames ++ read.rest
-  pub held : read.frames ≡ numbered_from head.link n frames
-  pub partial : length frames < most → HoldsNoFrame head.little read.rest

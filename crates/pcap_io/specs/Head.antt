@@ -1,12 +1,12 @@
 -- The head of a classic capture: 24 bytes with the magic, the version, three numbers that are not looked at, and the
 -- link type in the low half of the last number (own rule for the format that is read).
-use Rattle.std.specs.Prelude.{ℕ, ◌+◌, ◌*◌, ◌%◌, ◌^◌, ◌<◌, ◌==◌, ◌&&◌, nat_lt, if◌then◌else◌, Bool, true, false, List, ◌++◌, length, drop, Option, Some, None, Result, Ok, Err}
+use Rattle.std.specs.Prelude.{ℕ, ◌+◌, ◌*◌, ◌%◌, ◌==◌, ◌&&◌, nat_lt, if◌then◌else◌, Bool, true, false, List, ◌++◌, length, drop, Option, Some, None, Result, Ok, Err}
 use Rattle.pcap_io.specs.declared.fault.CaptureFault.{CaptureFault}
 use Rattle.pcap_io.specs.declared.fault.CaptureFault.TheVariants.{CutHead, PcapNg, BadMagic, BadVersion, BadLink}
-use Rattle.pcap_io.specs.declared.head.CaptureHead.{CaptureHead}
-use Rattle.pcap_io.specs.declared.head.LinkType.{LinkType}
-use Rattle.pcap_io.specs.declared.head.LinkType.TheVariants as links
-use Rattle.pcap_io.specs.declared.head.Magic.{Magic}
+use Rattle.pcap_io.specs.declared.capture_head.CaptureHead.{CaptureHead}
+use Rattle.pcap_io.specs.declared.capture_head.LinkType.{LinkType}
+use Rattle.pcap_io.specs.declared.capture_head.LinkType.TheVariants as links
+use Rattle.pcap_io.specs.declared.capture_head.Magic.{Magic}
 use Rattle.pcap_io.specs.declared.numbers.TheConstants.{HEAD_LEN, MICROS_MAGIC, NANOS_MAGIC, PCAPNG_MAGIC, MAJOR, MINOR, ETHERNET, RAW_IP, IPV6}
 use Rattle.pcap_io.specs.Numbers.{number_of, number_bytes}
 
@@ -16,12 +16,6 @@ pub record Unread : Type 0 where
   pub sigfigs : ℕ
   pub snaplen : ℕ
   pub high : ℕ
-
-pub record FitsHead (u : Unread) : Type 0 where
-  pub zone : u.zone < 2 ^ 32
-  pub sigfigs : u.sigfigs < 2 ^ 32
-  pub snaplen : u.snaplen < 2 ^ 32
-  pub high : u.high < 2 ^ 16
 
 -- the magic for microseconds, and for nanoseconds
 abbrev pub magic_number : Bool → ℕ

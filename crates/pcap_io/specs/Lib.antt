@@ -1,7 +1,10 @@
 pub mod Numbers
 pub mod Head
+pub mod HeadTerms
 pub mod Frames
+pub mod FramesTerms
 pub mod Capture
-pub mod Lending
-pub mod Pieces
+pub mod CaptureTerms
+pub mod FrameLending
+pub mod FedPieces
 pub mod Feeding

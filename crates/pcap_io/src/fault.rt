@@ -2,7 +2,7 @@
 
 use base::NoMemory;
 
-/// Why bytes are no capture. (own rules)
+/// Why bytes are no capture.
 #[derive(Debug, Clone, Copy, PartialEq, Eq)]
 pub enum CaptureFault {
     /// Fewer than 4 bytes, or a known magic and fewer than 24 bytes.
@@ -22,7 +22,7 @@ pub enum CaptureFault {
     FrameLimit,
 }
 
-/// Why `FrameReader::take` gives no answer. (own rules)
+/// Why `FrameReader::take` gives no answer.
 #[derive(Debug, Clone, Copy, PartialEq, Eq)]
 pub enum TakeFault {
     /// 65,536 frames were taken, and a further byte is there.
@@ -31,11 +31,11 @@ pub enum TakeFault {
     NoMemory,
 }
 
-/// 65,536 frames were taken, and a further byte is there. (own rule)
+/// 65,536 frames were taken, and a further byte is there.
 #[derive(Debug, Clone, Copy, PartialEq, Eq)]
 pub struct FrameLimit;
 
-/// Bytes are left over, and they are no whole frame. (own rule)
+/// Bytes are left over, and they are no whole frame.
 #[derive(Debug, Clone, Copy, PartialEq, Eq)]
 pub struct CutFrame {
     /// The number of the frame that is cut, from 1 on.

@@ -1,15 +1,16 @@
 //! What the frames of a capture hold.
 
 ghost use Rattle.std.specs.Prelude.{◌≡◌, ◌+◌, ◌<◌, ◌≤◌, length, take, drop, IfOk, MatchOption};
-ghost use Rattle.pcap_io.specs.Frames.{HoldsNoFrame, by_ethertype, by_version, packet_in, body_of, first_frame, frame_len};
+ghost use Rattle.pcap_io.specs.Frames.{by_ethertype, by_version, packet_in, body_of, first_frame, frame_len};
+ghost use Rattle.pcap_io.specs.FramesTerms.{HoldsNoFrame};
 
-use crate::head::LinkType;
+use crate::capture_head::LinkType;
 use crate::numbers::{ETHERTYPE_V4, ETHERTYPE_V6, four_at, two_at};
 use base::{NoMemory, Seq};
 use std::alloc::Global;
 
 /// What a frame holds. The bytes are those after the link header, as they are in the capture:
-/// bytes after a packet's own end are among them. (own rule)
+/// bytes after a packet's own end are among them.
 #[derive(Debug, Drop)]
 pub enum Body {
     /// An IPv6 packet.
@@ -24,7 +25,7 @@ pub enum Body {
     NotIp,
 }
 
-/// A frame of a capture. (own rule)
+/// A frame of a capture.
 #[derive(Debug, Drop)]
 pub struct Frame {
     /// Its number in the capture, from 1 on.
@@ -73,7 +74,7 @@ fn by_version(alloc: Global, bytes: &[u8]) -> Result<Body, NoMemory>
 }
 
 /// The packet in the captured bytes of a frame that is whole, by the link type: of an Ethernet
-/// frame by its EtherType, of a raw packet by its first half byte. (own rule)
+/// frame by its EtherType, of a raw packet by its first half byte.
 #[tactic(auto, unfolding(crate::specs::Frames::packet_in))]
 pub fn packet_in(alloc: Global, link: LinkType, bytes: &[u8]) -> Result<Body, NoMemory>
     ensures { IfOk result (λ body. body ≡ packet_in link bytes.now) }

@@ -2,21 +2,24 @@
 
 ghost use Rattle.std.specs.Prelude.{◌≡◌, ◌<◌, ◌≤◌, ◌+◌, ◌^◌, ℕ, suc, Bool, List, [], ◌∷◌, ◌++◌, length, drop, All, Ok};
 ghost use Rattle.std.specs.List.{flat_map};
-ghost use Rattle.pcap_io.specs.declared.head.CaptureHead.{CaptureHead};
+ghost use Rattle.pcap_io.specs.declared.capture_head.CaptureHead.{CaptureHead};
 ghost use Rattle.pcap_io.specs.declared.numbers.TheConstants.{HEAD_LEN, MAX_FRAMES, SNAPLEN, PIECE, MICROS_MAGIC, NANOS_MAGIC, PCAPNG_MAGIC, MAJOR, MINOR, ETHERNET, RAW_IP, IPV6, ETHERTYPE_V6, ETHERTYPE_V4};
 ghost use Rattle.srv6_rules.specs.declared.numbers.TheConstants.{MAX_PACKET_LEN};
-ghost use Rattle.pcap_io.specs.Head.{Unread, FitsHead, head_bytes, head_of};
-ghost use Rattle.pcap_io.specs.Frames.{Spelled, Fits, Reading, Splits, HoldsNoFrame, frame_bytes, frame_len, behind, by_version, with_front, numbered_from, frames_of};
-ghost use Rattle.pcap_io.specs.Pieces.{FrameCall, Runs, bytes_fed, coming, frames_taken, fresh_reader};
-ghost use Rattle.pcap_io.specs.Capture.{IsAtLimit, IsDone, Reader, written_head, written_head_bytes, written_frame_bytes};
+ghost use Rattle.pcap_io.specs.Head.{Unread, head_bytes, head_of};
+ghost use Rattle.pcap_io.specs.HeadTerms.{FitsHead};
+ghost use Rattle.pcap_io.specs.Frames.{Spelled, Reading, frame_bytes, frame_len, behind, by_version, with_front, frames_of};
+ghost use Rattle.pcap_io.specs.FramesTerms.{Fits, Splits, HoldsNoFrame, numbered_from};
+ghost use Rattle.pcap_io.specs.FedPieces.{FrameCall, Runs, bytes_fed, coming, frames_taken, fresh_reader};
+ghost use Rattle.pcap_io.specs.Capture.{written_head, written_head_bytes, written_frame_bytes};
+ghost use Rattle.pcap_io.specs.CaptureTerms.{IsAtLimit, IsDone, Reader};
 
-/// A head that is spelled is read, whatever follows it. (own rule)
+/// A head that is spelled is read, whatever follows it.
 pub fn spelled_heads_are_read()
     ensures { (head : CaptureHead) (u : Unread) (rest : List ℕ) → FitsHead u
         → head_of (head_bytes head u ++ rest) ≡ Ok head }
 {}
 
-/// What is read as a head is spelled so, each byte of it. (own rule)
+/// What is read as a head is spelled so, each byte of it.
 pub fn heads_are_spelled()
     ensures { (bytes : List ℕ) (head : CaptureHead) → All (λ b. b < 2 ^ 8) bytes
         → head_of bytes ≡ Ok head
@@ -24,13 +27,13 @@ pub fn heads_are_spelled()
 {}
 
 /// The frames that are read are those that stand in the bytes one after the other, up to a rest
-/// that begins with no whole frame, or up to the limit: no byte is lost or read twice. (own rule)
+/// that begins with no whole frame, or up to the limit: no byte is lost or read twice.
 pub fn frames_are_spelled()
     ensures { (head : CaptureHead) (most n : ℕ) (bytes : List ℕ) → All (λ b. b < 2 ^ 8) bytes
         → (frames : List Spelled) × Splits head most n bytes frames (frames_of head most n bytes) }
 {}
 
-/// There is one way only to split bytes into frames, and reading gives it. (own rule)
+/// There is one way only to split bytes into frames, and reading gives it.
 pub fn spelled_frames_are_read()
     ensures { (head : CaptureHead) (most n : ℕ) (bytes : List ℕ) (frames : List Spelled)
         (read : Reading) → Splits head most n bytes frames read
@@ -40,7 +43,7 @@ pub fn spelled_frames_are_read()
 /// However the bytes after a head are cut into pieces, and whenever frames are asked for: the
 /// frames that were taken are the first of those of all bytes, and what is still to come is what
 /// comes of the reader; where nothing more is fed and no frame is left, they are all; at the limit
-/// they are all, whatever is fed later. (own rule)
+/// they are all, whatever is fed later.
 pub fn frames_do_not_depend_on_pieces()
     ensures frames { (head : CaptureHead) (r : Reader) (calls : List FrameCall) (more : List ℕ)
         → Runs (fresh_reader head) calls r
@@ -56,8 +59,7 @@ pub fn frames_do_not_depend_on_pieces()
         ≡ record { frames = frames_taken calls; rest = r.rest ++ more } }
 {}
 
-/// No frame is spelled at the front exactly where the bytes are fewer than its numbers say. (own
-/// rule)
+/// No frame is spelled at the front exactly where the bytes are fewer than its numbers say.
 pub fn no_frame_is_spelled_there()
     ensures none { (little : Bool) (bytes more : List ℕ) (f : Spelled)
         → HoldsNoFrame little bytes → Fits f → bytes ≡ frame_bytes little f ++ more → ⊥ }
@@ -67,7 +69,7 @@ pub fn no_frame_is_spelled_there()
 {}
 
 /// What is written reads back, whatever follows: the head, and each frame as its packet where the
-/// packet's first half byte is 6 or 4, else as none; and all frames of a capture. (own rule)
+/// packet's first half byte is 6 or 4, else as none; and all frames of a capture.
 pub fn written_captures_are_read()
     ensures head { (rest : List ℕ) → head_of (written_head_bytes ++ rest) ≡ Ok written_head }
     ensures frame { (number link most n : ℕ) (packet rest : List ℕ)

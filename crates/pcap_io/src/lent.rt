@@ -2,14 +2,14 @@
 
 ghost use Rattle.std.specs.Prelude.{◌≡◌, ◌+◌, ◌≤◌, length};
 ghost use Rattle.pcap_io.specs.Frames.{by_ethertype, by_version, packet_in, body_of, first_frame, frame_len};
-ghost use Rattle.pcap_io.specs.Lending.{body_lent};
+ghost use Rattle.pcap_io.specs.FrameLending.{body_lent};
 
-use crate::head::LinkType;
+use crate::capture_head::LinkType;
 use crate::numbers::{ETHERTYPE_V4, ETHERTYPE_V6, four_at, two_at};
 use std::marker::Model;
 
 /// What a frame holds, lent. The bytes are those after the link header, as they are in the
-/// capture: bytes after a packet's own end are among them. (own rule)
+/// capture: bytes after a packet's own end are among them.
 #[derive(Clone, Copy, Debug, Drop)]
 pub enum LentBody<'a> {
     /// An IPv6 packet.
@@ -25,7 +25,6 @@ pub enum LentBody<'a> {
 }
 
 /// A frame of a capture, lent: its number, from 1 on, and what it holds. It is seen as a `Frame`.
-/// (own rule)
 #[derive(Debug, Drop)]
 pub struct LentFrame<'a> {
     number: u32,
@@ -37,27 +36,27 @@ impl<'a> Model for LentFrame<'a> {
 
     ghost Value = { Frame };
 
-    ghost use Rattle.pcap_io.specs.Lending.{body_lent};
+    ghost use Rattle.pcap_io.specs.FrameLending.{body_lent};
 
     ghost view = { λ f. record { number = f.number; body = body_lent f.body } };
 }
 
 impl<'a> LentFrame<'a> {
-    /// A frame of a number, from 1 on. (own rule)
+    /// A frame of a number, from 1 on.
     pub fn new(number: u32, body: LentBody<'a>) -> LentFrame<'a>
         ensures { result ≡ record { number = number; body = body_lent body.entry } }
     {
         LentFrame { number, body }
     }
 
-    /// Its number in the capture, from 1 on. (own rule)
+    /// Its number in the capture, from 1 on.
     pub fn number(&self) -> u32
         ensures { result ≡ self.now.number }
     {
         self.number
     }
 
-    /// What it holds, lent for as long as the capture's bytes. (own rule)
+    /// What it holds, lent for as long as the capture's bytes.
     pub fn body(&self) -> LentBody<'a>
         ensures { body_lent result ≡ self.now.body }
     {

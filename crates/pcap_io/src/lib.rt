@@ -6,9 +6,9 @@
 //! contracts of empty functions.
 #![tactic(auto)]
 
+mod capture_head;
 mod fault;
 mod frame;
-mod head;
 mod laws;
 mod lent;
 mod numbers;
@@ -16,9 +16,9 @@ mod pieces;
 mod reader;
 mod write;
 
+pub use capture_head::{CaptureHead, LinkType, link_of, read_head};
 pub use fault::{CaptureFault, CutFrame, FrameLimit, TakeFault};
 pub use frame::{Body, Frame, packet_in};
-pub use head::{CaptureHead, LinkType, link_of, read_head};
 pub use laws::{
     captures_have_their_figures, frames_are_spelled, frames_do_not_depend_on_pieces,
     heads_are_spelled, no_frame_is_spelled_there, spelled_frames_are_read, spelled_heads_are_read,

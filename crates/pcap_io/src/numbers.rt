@@ -9,13 +9,13 @@ use byteorder::{BigEndian, ByteOrder, LittleEndian};
 /// Bytes of a capture's head (libpcap's savefile format).
 pub const HEAD_LEN: usize = 24;
 
-/// Frames of a capture that are read. (own rule)
+/// Frames of a capture that are read.
 pub const MAX_FRAMES: u32 = 65536;
 
-/// The longest frame that the head says that is written, in bytes. (own rule)
+/// The longest frame that the head says that is written, in bytes.
 pub const SNAPLEN: u32 = 262_144;
 
-/// The bytes of the pieces in which a whole capture is fed: 64 KiB. (own rule)
+/// The bytes of the pieces in which a whole capture is fed: 64 KiB.
 pub(crate) const PIECE: usize = 65_536;
 
 /// The magic of a capture with microseconds.
@@ -49,7 +49,7 @@ pub(crate) const ETHERTYPE_V6: u16 = 0x86dd;
 pub(crate) const ETHERTYPE_V4: u16 = 0x0800;
 
 /// The number in the 2 bytes from a place on, counted from 0; `little` says that the lowest byte
-/// comes first. (own rule)
+/// comes first.
 #[tactic(auto, unfolding(crate::specs::Numbers::number_of))]
 pub fn two_at(little: bool, bytes: &[u8], at: usize) -> u16
     requires { at + 2 ≤ length bytes.now }
@@ -64,7 +64,7 @@ pub fn two_at(little: bool, bytes: &[u8], at: usize) -> u16
 }
 
 /// The number in the 4 bytes from a place on, counted from 0; `little` says that the lowest byte
-/// comes first. (own rule)
+/// comes first.
 #[tactic(auto, unfolding(crate::specs::Numbers::number_of))]
 pub fn four_at(little: bool, bytes: &[u8], at: usize) -> u32
     requires { at + 4 ≤ length bytes.now }

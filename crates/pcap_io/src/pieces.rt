@@ -1,11 +1,11 @@
 //! The frames of a capture that stands in memory whole, fed in pieces.
 
 ghost use Rattle.std.specs.Prelude.{◌≡◌};
-ghost use Rattle.pcap_io.specs.Capture.{IsDone};
+ghost use Rattle.pcap_io.specs.CaptureTerms.{IsDone};
 ghost use Rattle.pcap_io.specs.Feeding.{EndsWith, HasAtHand, after_hand};
 
+use crate::capture_head::CaptureHead;
 use crate::fault::FrameLimit;
-use crate::head::CaptureHead;
 use crate::lent::LentFrame;
 use crate::numbers::PIECE;
 use crate::reader::FrameReader;
@@ -13,7 +13,7 @@ use base::NoMemory;
 use std::alloc::Global;
 use std::marker::Model;
 
-/// How a capture ends. (own rules)
+/// How a capture ends.
 #[derive(Debug, Clone, Copy, PartialEq, Eq)]
 pub enum CaptureEnd {
     /// With its last whole frame, or before any.
@@ -24,7 +24,7 @@ pub enum CaptureEnd {
     AtLimit,
 }
 
-/// What `CapturePieces::next` finds. (own rule)
+/// What `CapturePieces::next` finds.
 #[derive(Debug, Clone, Copy, PartialEq, Eq)]
 pub enum FrameNext {
     /// A frame, which is at hand until the next call.
@@ -94,7 +94,7 @@ impl Feeding<'_> {
 }
 
 /// Gives the frames of a capture one by one, lent, whose bytes it feeds to a reader in pieces of
-/// 65,536 (own rule). It is seen as the frame at hand, and as a reader that was fed all and has
+/// 65,536. It is seen as the frame at hand, and as a reader that was fed all and has
 /// taken this frame.
 #[derive(Drop)]
 pub struct CapturePieces<'a> {
@@ -116,7 +116,7 @@ impl<'a> CapturePieces<'a> {
     ghost use Rattle.std.specs.Prelude.{◌≡◌};
     ghost use Rattle.pcap_io.specs.Feeding.{GoesOn, before_all};
 
-    /// The frames after a capture's head, of all that follows its 24 bytes. (own rule)
+    /// The frames after a capture's head, of all that follows its 24 bytes.
     pub fn new(alloc: Global, head: CaptureHead, bytes: &'a [u8]) -> CapturePieces<'a>
         ensures { result ≡ before_all head bytes.now }
     {
@@ -130,7 +130,7 @@ impl<'a> CapturePieces<'a> {
     }
 
     /// Goes to the next frame, which is at hand then. The end comes exactly where no whole frame is
-    /// left, or 65,536 came. After want of memory nothing is said of the frames. (own rules)
+    /// left, or 65,536 came. After want of memory nothing is said of the frames.
     pub fn next(&mut self) -> Result<FrameNext, NoMemory>
         ensures { GoesOn self.old result self.new }
     {
@@ -143,7 +143,7 @@ impl<'a> CapturePieces<'a> {
         Ok(found)
     }
 
-    /// The frame at hand, lent, if one is. (own rule)
+    /// The frame at hand, lent, if one is.
     pub fn frame(&self) -> Option<LentFrame<'_>>
         ensures { result ≡ self.now.at }
     {

@@ -1,8 +1,8 @@
 //! The frames of a capture that is fed in pieces, one by one.
 
+use crate::capture_head::CaptureHead;
 use crate::fault::{CutFrame, FrameLimit, TakeFault};
 use crate::frame::{Frame, captured_len, first_body};
-use crate::head::CaptureHead;
 use crate::lent::{LentFrame, lent_body};
 use crate::numbers::MAX_FRAMES;
 use base::NoMemory;
@@ -10,7 +10,7 @@ use std::alloc::Global;
 use std::marker::Model;
 
 /// Takes the frames of a capture one by one, whose bytes after the head are fed in pieces; the
-/// frames don't depend on where they are cut (own rule). It is seen as the head, the number of
+/// frames don't depend on where they are cut. It is seen as the head, the number of
 /// frames taken, and the bytes fed that no frame has taken.
 #[derive(Drop)]
 pub struct FrameReader {
@@ -23,7 +23,7 @@ pub struct FrameReader {
 
 impl Model for FrameReader {
     ghost use Rattle.std.specs.Prelude.{◌≤◌, length, drop};
-    ghost use Rattle.pcap_io.specs.Capture.{Reader};
+    ghost use Rattle.pcap_io.specs.CaptureTerms.{Reader};
     ghost use Rattle.pcap_io.specs.declared.numbers.TheConstants.{MAX_FRAMES};
 
     ghost Value = { Reader };
@@ -35,10 +35,10 @@ impl Model for FrameReader {
 
 impl FrameReader {
     ghost use Rattle.std.specs.Prelude.{◌≡◌, ◌+◌, ◌<◌, ◌≤◌, length, MatchResult, OnErr, OnOk};
-    ghost use Rattle.pcap_io.specs.Capture.{HasFrame, IsDone, Takes, after_frame};
-    ghost use Rattle.pcap_io.specs.Pieces.{Peeks, fed, fresh_reader};
+    ghost use Rattle.pcap_io.specs.CaptureTerms.{HasFrame, IsDone, Takes, after_frame};
+    ghost use Rattle.pcap_io.specs.FedPieces.{Peeks, fed, fresh_reader};
 
-    /// A reader that was fed nothing of what follows the 24 bytes of a capture's head. (own rule)
+    /// A reader that was fed nothing of what follows the 24 bytes of a capture's head.
     pub fn new(alloc: Global, head: CaptureHead) -> FrameReader
         ensures { result ≡ fresh_reader head }
     {
@@ -64,7 +64,6 @@ impl FrameReader {
     }
 
     /// Feeds the bytes that follow those fed so far. After want of memory the reader is as it was.
-    /// (own rule)
     pub fn feed(&mut self, piece: &[u8]) -> Result<(), NoMemory>
         ensures ok { OnOk result (self.new ≡ fed self.old piece.now) }
         ensures err { OnErr result (self.new ≡ self.old) }
@@ -76,7 +75,7 @@ impl FrameReader {
 
     /// The next frame, lent; its number is the number of frames taken before and 1. `FrameLimit`
     /// comes exactly where 65,536 frames were taken and a further byte is there; else `None` comes
-    /// exactly where the bytes fed hold no further whole frame. (own rules)
+    /// exactly where the bytes fed hold no further whole frame.
     #[tactic(auto, unfolding(crate::specs::Frames::frame_len))]
     pub fn peek(&self) -> Result<Option<LentFrame<'_>>, FrameLimit>
         ensures { Peeks self.now result }
@@ -95,7 +94,7 @@ impl FrameReader {
         Ok(Some(LentFrame::new(self.taken + 1, body)))
     }
 
-    /// Takes the next frame, which `peek` lends. (own rule)
+    /// Takes the next frame, which `peek` lends.
     #[tactic(auto, unfolding(crate::specs::Frames::frame_len))]
     pub fn pass(&mut self)
         requires { HasFrame self.old }
@@ -109,7 +108,7 @@ impl FrameReader {
     }
 
     /// The next frame, which is taken; as `peek` has it. Where no frame is given, the reader stays
-    /// as it was. (own rules)
+    /// as it was.
     #[tactic(auto, unfolding(crate::specs::Frames::frame_len))]
     pub fn take(&mut self) -> Result<Option<Frame>, TakeFault>
         ensures { Takes self.old self.new result }
@@ -134,7 +133,7 @@ impl FrameReader {
     }
 
     /// That no byte is left over, where `take` would give `None`. `CutFrame` comes exactly where a
-    /// byte is left over, with the number of the frame that is cut. (own rule)
+    /// byte is left over, with the number of the frame that is cut.
     pub fn finish(&self) -> Result<(), CutFrame>
         requires { IsDone self.now }
         ensures { MatchResult result (λ _. length self.now.rest ≡ 0)

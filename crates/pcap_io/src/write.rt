@@ -39,7 +39,6 @@ fn frame_head(number: u32, link: u32, len: u32) -> [u8; 16]
 
 /// Writes the head of a capture at the end: little-endian, with microseconds, version 2.4, zone 0,
 /// sigfigs 0, snaplen 262,144 and link type 101. After want of memory nothing is written.
-/// (own rules)
 pub fn write_head(out: &mut Vec<u8>) -> Result<(), NoMemory>
     ensures ok { OnOk result (out.new.items ≡ out.old.items ++ written_head_bytes) }
     ensures err { OnErr result (out.new.items ≡ out.old.items) }
@@ -50,8 +49,7 @@ pub fn write_head(out: &mut Vec<u8>) -> Result<(), NoMemory>
 
 /// Writes the frame of a packet at the end: the packet's number as seconds, `link` as
 /// microseconds, the packet's length in bytes twice, and the packet. After want of memory nothing
-/// is written; none is wanting where there is room for the frame, and no room is given back. (own
-/// rules)
+/// is written; none is wanting where there is room for the frame, and no room is given back.
 pub fn write_frame(out: &mut Vec<u8>, number: u32, link: u32, packet: &[u8]) -> Result<(), NoMemory>
     requires { length packet.now ≤ MAX_PACKET_LEN }
     ensures ok { OnOk result (out.new.items

@@ -1,10 +1,10 @@
 pub mod Prefix
-pub mod Steps
-pub mod Passed
+pub mod NgSteps
+pub mod NgPassed
 pub mod RunLemmas
 pub mod SpelledBlocks
 pub mod SpelledLemmas
 pub mod Numbered
-pub mod PieceLemmas
+pub mod NgPieceLemmas
 pub mod PublicLaws
 pub mod EachFrame

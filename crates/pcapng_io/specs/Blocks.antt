@@ -1,20 +1,20 @@
 -- The blocks of a pcapng file (draft-ietf-opsawg-pcapng sections 3.1 and 4): type, total length, body, and the total length
--- once more, 4 bytes each but the body. Numbers have the byte order of their section; offsets count from the block's first byte (own rule).
+-- once more, 4 bytes each but the body. Numbers have the byte order of their section; offsets count from the block's first byte.
 use Rattle.std.specs.Prelude.{ℕ, ◌+◌, ◌-◌, ◌*◌, ◌/◌, ◌%◌, min, ◌==◌, ◌&&◌, nat_lt, nat_le, if◌then◌else◌, Bool, true, false, List, [], length, take, drop, slice_get, Option, Some, None, Result, Ok, Err}
 use Rattle.pcap_io.specs.declared.fault.CaptureFault.{CaptureFault}
 use Rattle.pcap_io.specs.declared.frame.Body.{Body}
 use Rattle.pcap_io.specs.declared.frame.Body.TheVariants.{ShortFrame, NotIp}
-use Rattle.pcap_io.specs.declared.head.LinkType.{LinkType}
+use Rattle.pcap_io.specs.declared.capture_head.LinkType.{LinkType}
 use Rattle.pcap_io.specs.Head.{link_of}
 use Rattle.pcap_io.specs.Numbers.{number_of}
 use Rattle.pcap_io.specs.Frames.{packet_in}
-use Rattle.pcapng_io.specs.declared.block.BlockContent.{BlockContent}
-use Rattle.pcapng_io.specs.declared.block.BlockContent.TheVariants as blocks
-use Rattle.pcapng_io.specs.declared.block.BlockType.{BlockType}
-use Rattle.pcapng_io.specs.declared.block.BlockType.TheVariants as types
-use Rattle.pcapng_io.specs.declared.block.Interface.{Interface}
-use Rattle.pcapng_io.specs.declared.block.BlockPacket.{BlockPacket}
-use Rattle.pcapng_io.specs.declared.block.WholeBlock.{WholeBlock}
+use Rattle.pcapng_io.specs.declared.ng_block.BlockContent.{BlockContent}
+use Rattle.pcapng_io.specs.declared.ng_block.BlockContent.TheVariants as blocks
+use Rattle.pcapng_io.specs.declared.ng_block.BlockType.{BlockType}
+use Rattle.pcapng_io.specs.declared.ng_block.BlockType.TheVariants as types
+use Rattle.pcapng_io.specs.declared.ng_block.Interface.{Interface}
+use Rattle.pcapng_io.specs.declared.ng_block.BlockPacket.{BlockPacket}
+use Rattle.pcapng_io.specs.declared.ng_block.WholeBlock.{WholeBlock}
 use Rattle.pcapng_io.specs.declared.fault.BlockFault.{BlockFault}
 use Rattle.pcapng_io.specs.declared.fault.BlockFault.TheVariants as faults
 use Rattle.pcapng_io.specs.declared.numbers.TheConstants.{SECTION, INTERFACE, OLD_PACKET, SIMPLE_PACKET, ENHANCED_PACKET, ORDER_MAGIC, MAJOR, MIN_BLOCK, MIN_SECTION, MIN_INTERFACE, MIN_SIMPLE, MIN_ENHANCED, SIMPLE_START, ENHANCED_START}

@@ -1,7 +1,8 @@
 pub mod Blocks
-pub mod Reading
+pub mod NgReading
+pub mod NgReadingTerms
 pub mod Taking
 pub mod Passing
 pub mod Runs
 pub mod Spelled
-pub mod Pieces
+pub mod NgPieces

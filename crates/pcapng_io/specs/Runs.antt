@@ -1,4 +1,5 @@
--- Calls of a reader one after the other, however the bytes are cut into pieces (own rule).
+-- Need not be believed: helps proofs and other laws.
+-- Calls of a reader one after the other, however the bytes are cut into pieces.
 use Rattle.std.specs.Prelude.{◌≡◌, ℕ, List, [], ◌∷◌, ◌++◌, Some, None, Ok}
 use Rattle.pcap_io.specs.declared.frame.Frame.{Frame}
 use Rattle.pcapng_io.specs.Taking.{NgSeen, after_feed, Takes}

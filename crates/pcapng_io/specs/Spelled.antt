@@ -1,9 +1,10 @@
+-- Need not be believed: helps proofs and other laws.
 -- How a pcapng file is spelled: one section with one interface, and enhanced packets of it (draft-ietf-opsawg-pcapng sections
--- 3.1 and 4.1 to 4.3) (own rule).
+-- 3.1 and 4.1 to 4.3).
 use Rattle.std.specs.Prelude.{◌≡◌, ℕ, ◌+◌, ◌%◌, ◌^◌, ◌<◌, nat_lt, if◌then◌else◌, Bool, Option, List, [], ◌∷◌, ◌++◌, length}
 use Rattle.std.specs.List.{flat_map}
 use Rattle.pcap_io.specs.declared.frame.Frame.{Frame}
-use Rattle.pcap_io.specs.declared.head.LinkType.{LinkType}
+use Rattle.pcap_io.specs.declared.capture_head.LinkType.{LinkType}
 use Rattle.pcap_io.specs.Numbers.{number_bytes}
 use Rattle.pcap_io.specs.declared.frame.Body.TheVariants.{ShortFrame}
 use Rattle.pcapng_io.specs.declared.numbers.TheConstants.{SECTION, INTERFACE, ENHANCED_PACKET, ORDER_MAGIC, MAJOR}

@@ -1,10 +1,11 @@
--- What is seen of a reader, and what its calls give (own rule).
+-- Need not be believed: helps proofs and other laws.
+-- What is seen of a reader, and what its calls give.
 use Rattle.std.specs.Prelude.{◌≡◌, ℕ, ◌+◌, List, [], ◌∷◌, ◌++◌, length, Option, Some, None, Result, Ok, Err}
 use Rattle.pcap_io.specs.declared.frame.Frame.{Frame}
 use Rattle.pcapng_io.specs.declared.fault.NgFault.{NgFault}
 use Rattle.pcapng_io.specs.declared.fault.NgFault.TheVariants as ng
 use Rattle.pcapng_io.specs.declared.end.NgEnd.TheVariants.{Faulty}
-use Rattle.pcapng_io.specs.Reading.{NgPlace, start, NgReading, Ends, end_at, step, with_front, ended, reading}
+use Rattle.pcapng_io.specs.NgReading.{NgPlace, start, NgReading, Ends, end_at, step, with_front, ended, reading}
 
 -- a reader: how many bytes were fed, those of them that no block has taken, what the blocks before say, and the fault met
 pub record NgSeen : Type 0 where

@@ -1,12 +1,12 @@
 //! How a pcapng file ends.
 
 ghost use Rattle.std.specs.Prelude.{◌≡◌};
-ghost use Rattle.pcapng_io.specs.Reading.{end_at_start, start, step};
+ghost use Rattle.pcapng_io.specs.NgReading.{end_at_start, start, step};
 
-use crate::block::block_at;
 use crate::fault::NgFault;
+use crate::ng_block::block_at;
 
-/// How a file ends. Blocks are numbered from 1 on over all sections. (own rules)
+/// How a file ends. Blocks are numbered from 1 on over all sections.
 #[derive(Debug, Clone, Copy, PartialEq, Eq)]
 pub enum NgEnd {
     /// With its last block, or before any.
@@ -18,8 +18,8 @@ pub enum NgEnd {
 }
 
 /// How a file ends whose first block is cut or faulty; `None` where that block is whole. No memory
-/// is taken. (own rule)
-#[tactic(auto, unfolding(crate::specs::Reading::step))]
+/// is taken.
+#[tactic(auto, unfolding(crate::specs::NgReading::step))]
 pub fn end_at_start(bytes: &[u8]) -> Option<NgEnd>
     ensures { result ≡ end_at_start bytes.now }
 {

@@ -3,7 +3,7 @@
 use base::NoMemory;
 use std::alloc::AllocFailed;
 
-/// What is wrong with a block. (own rules)
+/// What is wrong with a block.
 #[derive(Debug, Clone, Copy, PartialEq, Eq)]
 pub(crate) enum BlockFault {
     /// The magic of a section reads 1a2b3c4d in neither byte order.
@@ -19,8 +19,7 @@ pub(crate) enum BlockFault {
     Interface,
 }
 
-/// Why `NgReader::take` gives no answer. Blocks are numbered from 1 on over all sections. (own
-/// rules)
+/// Why `NgReader::take` gives no answer. Blocks are numbered from 1 on over all sections.
 #[derive(Debug, Clone, Copy, PartialEq, Eq)]
 pub enum NgFault {
     /// The magic of a section reads 1a2b3c4d in neither byte order.
@@ -56,7 +55,7 @@ pub enum NgFault {
     NoMemory,
 }
 
-/// Bytes are left over, and they are no whole block. (own rule)
+/// Bytes are left over, and they are no whole block.
 #[derive(Debug, Clone, Copy, PartialEq, Eq)]
 pub struct NgCut {
     /// The number of the block that is cut, from 1 on over all sections.
@@ -65,7 +64,7 @@ pub struct NgCut {
 
 impl BlockFault {
     ghost use Rattle.std.specs.Prelude.{◌≡◌};
-    ghost use Rattle.pcapng_io.specs.Reading.{fault_in};
+    ghost use Rattle.pcapng_io.specs.NgReading.{fault_in};
 
     /// The fault of the block of a number.
     pub(crate) fn of_block(self, block: u32) -> NgFault

@@ -2,14 +2,15 @@
 
 ghost use Rattle.std.specs.Prelude.{◌≡◌, ◌≤◌, ℕ, true, false, List, [], ◌∷◌, ◌++◌, length, All, Some, Err};
 ghost use Rattle.pcap_io.specs.declared.numbers.TheConstants.{MAX_FRAMES};
-ghost use Rattle.pcapng_io.specs.declared.block.BlockType.TheVariants as types;
+ghost use Rattle.pcapng_io.specs.declared.ng_block.BlockType.TheVariants as types;
 ghost use Rattle.pcapng_io.specs.declared.fault.NgFault.{NgFault};
 ghost use Rattle.pcapng_io.specs.declared.fault.NgFault.TheVariants as ng;
 ghost use Rattle.pcapng_io.specs.declared.numbers.TheConstants.{MAJOR, MAX_INPUT, PIECE, SIMPLE_START, ENHANCED_START};
 ghost use Rattle.pcapng_io.specs.Blocks.{type_of, least_of, order_of, link_in};
 ghost use Rattle.pcapng_io.specs.declared.end.NgEnd.{NgEnd};
 ghost use Rattle.pcapng_io.specs.declared.end.NgEnd.TheVariants.{Whole, Faulty};
-ghost use Rattle.pcapng_io.specs.Reading.{AreFrom, NgFrames, end_at, end_at_start, with_front, ng_capture_of};
+ghost use Rattle.pcapng_io.specs.NgReading.{end_at, end_at_start, with_front, ng_capture_of};
+ghost use Rattle.pcapng_io.specs.NgReadingTerms.{AreFrom, NgFrames};
 ghost use Rattle.pcapng_io.specs.Taking.{NgSeen, fresh, coming, IsDone, Takes};
 ghost use Rattle.pcapng_io.specs.Runs.{NgCall, Runs, bytes_fed, frames_taken};
 ghost use Rattle.pcapng_io.specs.Spelled.{NgHead, NgSpelled, FitsNgHead, FitsNgPacket, ng_bytes, frames_read};
@@ -17,7 +18,7 @@ ghost use Rattle.pcapng_io.specs.Spelled.{NgHead, NgSpelled, FitsNgHead, FitsNgP
 /// However bytes are cut into pieces, and whenever frames are asked for: the frames that `take`
 /// gave are the first of those of all bytes, and what is still to come is what comes of the reader;
 /// where nothing more is fed, they are all, and the end is the one that `finish` tells; where a
-/// fault comes, it is the end, whatever is fed later. (own rule)
+/// fault comes, it is the end, whatever is fed later.
 pub fn frames_do_not_depend_on_pieces()
     ensures frames { (calls : List NgCall) (r : NgSeen) (more : List ℕ) → Runs fresh calls r
         → ng_capture_of (bytes_fed calls ++ more)
@@ -30,20 +31,20 @@ pub fn frames_do_not_depend_on_pieces()
 {}
 
 /// A file that is spelled with one section, one interface and enhanced packets of it, with any
-/// options and in either byte order, is read as its frames. (own rule)
+/// options and in either byte order, is read as its frames.
 pub fn spelled_files_are_read()
     ensures { (h : NgHead) (packets : List NgSpelled) → FitsNgHead h
         → All (FitsNgPacket h.little) packets → length packets ≤ MAX_FRAMES
         → NgFrames (ng_bytes h packets) (frames_read (link_in h.link) 1 packets) Whole }
 {}
 
-/// A file whose first block is cut or faulty has no frames, and ends there. (own rule)
+/// A file whose first block is cut or faulty has no frames, and ends there.
 pub fn first_block_decides()
     ensures { (bytes : List ℕ) (end : NgEnd) → end_at_start bytes ≡ Some end
         → NgFrames bytes [] end }
 {}
 
-/// The frames of a file are numbered from 1 on, over all sections. (own rule)
+/// The frames of a file are numbered from 1 on, over all sections.
 pub fn frames_are_numbered()
     ensures { (bytes : List ℕ) → AreFrom 1 (ng_capture_of bytes).frames }
 {}

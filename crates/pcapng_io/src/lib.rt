@@ -6,18 +6,18 @@
 //! whole.
 #![tactic(auto)]
 
-mod block;
+mod cursor;
 mod end;
 mod fault;
 mod laws;
-mod mark;
+mod ng_block;
+mod ng_pieces;
 mod numbers;
-mod pieces;
 mod reader;
 
 pub use end::{NgEnd, end_at_start};
 pub use fault::{NgCut, NgFault};
 pub use laws::{blocks_have_their_figures, frames_do_not_depend_on_pieces, spelled_files_are_read};
+pub use ng_pieces::{NgNext, NgPieces};
 pub use numbers::MAX_INPUT;
-pub use pieces::{NgNext, NgPieces};
 pub use reader::NgReader;

@@ -1,9 +1,9 @@
 //! Numbers of the format. The definitions cite the constants, and so does the code.
 
-/// The most bytes that a reader is fed: 64 MiB. (own rule)
+/// The most bytes that a reader is fed: 64 MiB.
 pub const MAX_INPUT: usize = 67_108_864;
 
-/// The bytes of the pieces in which a whole file is fed: 64 KiB. (own rule)
+/// The bytes of the pieces in which a whole file is fed: 64 KiB.
 pub(crate) const PIECE: usize = 65_536;
 
 /// The type of a section header block, the same in either byte order (draft-ietf-opsawg-pcapng

@@ -1,14 +1,14 @@
 //! The frames of a pcapng file, one by one.
 
-use crate::block::Interface;
+use crate::cursor::{NgCursor, next_frame};
 use crate::fault::{NgCut, NgFault};
-use crate::mark::{NgMark, next_frame};
+use crate::ng_block::Interface;
 use base::NoMemory;
 use pcap_io::Frame;
 use std::alloc::Global;
 use std::marker::Model;
 
-/// Takes the frames of a pcapng file one by one, which is fed in pieces (own rule). It is seen as
+/// Takes the frames of a pcapng file one by one, which is fed in pieces. It is seen as
 /// the number of bytes fed, those of them that no block has taken, what the blocks before say to
 /// those after (byte order and interfaces of the section, numbers of blocks and packets), and the
 /// fault that was met. A file begins with a section; a block before one is read with the highest
@@ -19,7 +19,7 @@ pub struct NgReader {
     gone: usize,
     input: Vec<u8>,
     described: Vec<Interface>,
-    mark: NgMark,
+    cursor: NgCursor,
     fault: Option<NgFault>,
 }
 
@@ -33,13 +33,13 @@ impl Model for NgReader {
 
     ghost view = { λ r. record {
       fed = r.gone + length r.input.items;
-      rest = drop r.mark.at r.input.items;
-      place = place_of r.mark r.described.items;
+      rest = drop r.cursor.at r.input.items;
+      place = place_of r.cursor r.described.items;
       fault = r.fault;
     } };
 
-    ghost invariant = { λ r. Lies r.mark r.described.items r.input.items
-        × (12 * r.mark.blocks ≤ r.gone + r.mark.at) × (r.gone + length r.input.items ≤ MAX_INPUT) };
+    ghost invariant = { λ r. Lies r.cursor r.described.items r.input.items
+        × (12 * r.cursor.blocks ≤ r.gone + r.cursor.at) × (r.gone + length r.input.items ≤ MAX_INPUT) };
 }
 
 impl NgReader {
@@ -48,7 +48,7 @@ impl NgReader {
     ghost use Rattle.pcapng_io.specs.declared.numbers.TheConstants.{MAX_INPUT};
     ghost use Rattle.pcapng_io.specs.Taking.{fresh, after_feed, Takes, IsDone};
 
-    /// A reader that was fed nothing. (own rule)
+    /// A reader that was fed nothing.
     pub fn new(alloc: Global) -> NgReader
         ensures { result ≡ fresh }
     {
@@ -57,7 +57,7 @@ impl NgReader {
             gone: 0,
             input: Vec::new(alloc),
             described: Vec::new(alloc),
-            mark: NgMark {
+            cursor: NgCursor {
                 at: 0,
                 little: false,
                 first: 0,
@@ -73,16 +73,15 @@ impl NgReader {
     fn let_go(&mut self)
         ensures { self.new ≡ self.old }
     {
-        let at = self.mark.at;
+        let at = self.cursor.at;
         if at > self.input.len() - at {
             self.input.drain(..at);
             self.gone += at;
-            self.mark.at = 0;
+            self.cursor.at = 0;
         }
     }
 
     /// Feeds the bytes that follow those fed so far. After want of memory the reader is as it was.
-    /// (own rule)
     pub fn feed(&mut self, piece: &[u8]) -> Result<(), NoMemory>
         requires { self.old.fed + length piece.now ≤ MAX_INPUT }
         ensures ok { OnOk result (self.new ≡ after_feed self.old piece.now) }
@@ -97,7 +96,7 @@ impl NgReader {
     /// where the bytes fed hold no further whole packet block and no fault; whole blocks before are
     /// skipped. A fault comes exactly where the first block that is faulty follows, with its
     /// number, and again from each call after. Whatever is fed later, the frames and faults are
-    /// those of all bytes at once. After want of memory the reader is as it was. (own rules)
+    /// those of all bytes at once. After want of memory the reader is as it was.
     pub fn take(&mut self) -> Result<Option<Frame>, NgFault>
         ensures takes { Takes self.old self.new result }
         ensures fed { self.new.fed ≡ self.old.fed }
@@ -107,16 +106,16 @@ impl NgReader {
             return Err(fault);
         }
         let described = self.described.len();
-        let mut mark = self.mark;
+        let mut cursor = self.cursor;
         let taken = next_frame(
             self.alloc,
-            &mut mark,
+            &mut cursor,
             &mut self.described,
             self.input.as_slice(),
         );
         match taken {
             Ok(frame) => {
-                self.mark = mark;
+                self.cursor = cursor;
                 Ok(frame)
             }
             Err(fault) => {
@@ -124,7 +123,7 @@ impl NgReader {
                     self.described.truncate(described);
                     return Err(fault);
                 }
-                self.mark = mark;
+                self.cursor = cursor;
                 self.fault = Some(fault);
                 Err(fault)
             }
@@ -132,17 +131,17 @@ impl NgReader {
     }
 
     /// That no byte is left over, where `take` gave `None`. `NgCut` comes exactly where a byte is
-    /// left over, with the number of the block that is cut. (own rule)
+    /// left over, with the number of the block that is cut.
     pub fn finish(&self) -> Result<(), NgCut>
         requires { IsDone self.now }
         ensures { MatchResult result (λ _. length self.now.rest ≡ 0)
             (λ e. (0 < length self.now.rest) × (e.block ≡ self.now.place.blocks + 1)) }
     {
-        if self.mark.at == self.input.len() {
+        if self.cursor.at == self.input.len() {
             Ok(())
         } else {
             Err(NgCut {
-                block: self.mark.blocks + 1,
+                block: self.cursor.blocks + 1,
             })
         }
     }

@@ -2,7 +2,7 @@
 use Rattle.std.proofs.Common.{◌≡◌, ℕ, ◌+◌, ◌-◌, ◌≤◌, List, [], ◌++◌, length, take, drop, sym, ap, ◌∙◌, arith, length-append, length-drop}
 use Rattle.std.proofs.lemmas.List.{append-nil, drop-append-le, drop-drop, drop-take, drop_all, drop_at, length-take-le, take_all}
 use Rattle.pkt_buf.specs.BufferView.{Buffer}
-use Rattle.pkt_buf.specs.Lending.{left_in}
+use Rattle.pkt_buf.specs.BufferLending.{left_in}
 
 -- a buffer is its bytes and its spare room
 pub same_buffer : (b : Buffer) (bytes : List ℕ) (front : ℕ) → bytes ≡ b.bytes → front ≡ b.front
@@ -23,10 +23,10 @@ left_whole bytes left same =
     ∙ take_all (length bytes) left (omega arith)
 
 -- bytes taken out after spare ones
-pub cut-behind : (front at n : ℕ) (held : List ℕ) → front + at + n ≤ length held
+pub cut_behind : (front at n : ℕ) (held : List ℕ) → front + at + n ≤ length held
     → drop front (take (front + at) held ++ drop (front + at + n) held)
     ≡ take at (drop front held) ++ drop (at + n) (drop front held)
-cut-behind front at n held room =
+cut_behind front at n held room =
     let sum : front + at + n ≡ front + (at + n) = omega arith in
     let long : length (take (front + at) held) ≡ front + at = length-take-le (front + at) held (omega arith) in
     drop-append-le front (take (front + at) held) (drop (front + at + n) held) (omega arith)
@@ -35,10 +35,10 @@ cut-behind front at n held room =
     ∙ ap (λ xs. take at (drop front held) ++ xs) (sym (drop-drop (at + n) front held))
 
 -- bytes that were lent after spare ones, as they were left
-pub lent-behind : (front : ℕ) (held left : List ℕ) → front ≤ length held
+pub lent_behind : (front : ℕ) (held left : List ℕ) → front ≤ length held
     → let lent : List ℕ = left ++ drop (length left) (drop front held) in let all : List ℕ = take front held ++ lent in
     drop front (take (length held) (all ++ drop (length all) held)) ≡ take (length (drop front held)) lent
-lent-behind front held left room =
+lent_behind front held left room =
     let lent : List ℕ = left ++ drop (length left) (drop front held) in
     let all : List ℕ = take front held ++ lent in
     let spare : length (take front held) ≡ front = length-take-le front held room in

@@ -1,4 +1,5 @@
--- What a packet buffer holds: the packet's bytes, and how many bytes are spare in front of them (own rule).
+-- Need not be believed: helps proofs and other laws.
+-- What a packet buffer holds: the packet's bytes, and how many bytes are spare in front of them.
 use Rattle.std.specs.Prelude.{ℕ, List}
 
 pub record Buffer : Type 0 where

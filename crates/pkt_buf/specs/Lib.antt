@@ -1,2 +1,2 @@
 pub mod BufferView
-pub mod Lending
+pub mod BufferLending

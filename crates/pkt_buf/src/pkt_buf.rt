@@ -8,7 +8,7 @@ use std::alloc::Global;
 use std::marker::Model;
 
 /// A packet's bytes with spare bytes in front of them, so that a header in front of the packet
-/// takes no memory (own rule).
+/// takes no memory.
 #[derive(Debug, Drop)]
 pub struct PktBuf {
     held: Vec<u8>,
@@ -28,9 +28,9 @@ impl Model for PktBuf {
 
 impl PktBuf {
     ghost use Rattle.std.specs.Borrow.{sem};
-    ghost use Rattle.pkt_buf.specs.Lending.{LendsBytes};
+    ghost use Rattle.pkt_buf.specs.BufferLending.{LendsBytes};
 
-    /// Bytes with so many spare ones in front (own rule).
+    /// Bytes with so many spare ones in front.
     pub fn new(alloc: Global, front: usize, bytes: &[u8]) -> Result<PktBuf, NoMemory>
         requires { length bytes.now ≤ MAX_PACKET_LEN }
         ensures { IfOk result (λ b. b ≡ record { bytes = bytes.now; front = front }) }
@@ -41,7 +41,7 @@ impl PktBuf {
         Ok(PktBuf { held, front })
     }
 
-    /// Bytes with none spare in front, in place; takes no memory (own rule).
+    /// Bytes with none spare in front, in place; takes no memory.
     pub fn of(bytes: Vec<u8>) -> PktBuf
         ensures { result ≡ record { bytes = bytes.items; front = 0 } }
     {
@@ -51,21 +51,21 @@ impl PktBuf {
         }
     }
 
-    /// No bytes, of this buffer's allocator; takes no memory (own rule).
+    /// No bytes, of this buffer's allocator; takes no memory.
     pub fn no_bytes(&self) -> PktBuf
         ensures { result ≡ record { bytes = []; front = 0 } }
     {
         PktBuf::of(Vec::new(*self.held.allocator()))
     }
 
-    /// The packet's bytes (own rule).
+    /// The packet's bytes.
     pub fn view(&self) -> &[u8]
         ensures { result.now ≡ self.now.bytes }
     {
         self.held.as_slice().split_at(self.front).1
     }
 
-    /// The packet's bytes, to be changed in their places (own rule).
+    /// The packet's bytes, to be changed in their places.
     pub fn view_mut(&mut self) -> &mut [u8]
         ensures* writes_back { sem 𝓛 (LendsBytes self.entry result) }
         ensures value { result.now ≡ self.old.bytes }
@@ -73,14 +73,14 @@ impl PktBuf {
         self.held.slice_mut(self.front..)
     }
 
-    /// How many the packet's bytes are (own rule).
+    /// How many the packet's bytes are.
     pub fn len(&self) -> usize
         ensures { result ≡ length self.now.bytes }
     {
         self.view().len()
     }
 
-    /// Writes the packet's byte at a place, counted from 0 (own rule).
+    /// Writes the packet's byte at a place, counted from 0.
     pub fn set(&mut self, at: usize, byte: u8)
         requires { at < length self.old.bytes }
         ensures { self.new ≡ record {
@@ -91,14 +91,14 @@ impl PktBuf {
         self.held[self.front + at] = byte;
     }
 
-    /// How many bytes are spare in front (own rule).
+    /// How many bytes are spare in front.
     pub fn front(&self) -> usize
         ensures { result ≡ self.now.front }
     {
         self.front
     }
 
-    /// Puts so many bytes of 0 in front of the packet's, in place of spare ones (own rule).
+    /// Puts so many bytes of 0 in front of the packet's, in place of spare ones.
     pub fn open_front(&mut self, n: usize)
         requires { n ≤ self.old.front }
         ensures { self.new ≡ record {
@@ -111,7 +111,7 @@ impl PktBuf {
         self.front = front;
     }
 
-    /// Puts bytes in front of the packet's, in place of as many spare ones (own rule).
+    /// Puts bytes in front of the packet's, in place of as many spare ones.
     pub fn put_front(&mut self, bytes: &[u8])
         requires { length bytes.now ≤ self.old.front }
         ensures { self.new ≡ record {
@@ -126,7 +126,7 @@ impl PktBuf {
 
     /// Gives at least so many spare bytes in front, and no more where fewer are spare; the packet's
     /// bytes stay. Where as many are spare nothing changes and no memory is taken. With want of
-    /// memory nothing changes either (own rule).
+    /// memory nothing changes either.
     pub fn reserve_front(&mut self, n: usize) -> Result<(), NoMemory>
         ensures room { OnOk result (n ≤ self.new.front) }
         ensures front { OnOk result (self.new.front ≡ max n self.old.front) }
@@ -146,7 +146,7 @@ impl PktBuf {
         Ok(())
     }
 
-    /// Takes n bytes from a place on out of the packet's; the spare ones stay (own rule).
+    /// Takes n bytes from a place on out of the packet's; the spare ones stay.
     pub fn cut(&mut self, at: usize, n: usize)
         requires { at + n ≤ length self.old.bytes }
         ensures { self.new ≡ record {
@@ -158,7 +158,7 @@ impl PktBuf {
         self.held.drain(start..start + n);
     }
 
-    /// Takes the packet's first n bytes out, which become spare (own rule).
+    /// Takes the packet's first n bytes out, which become spare.
     pub fn drop_front(&mut self, n: usize)
         requires { n ≤ length self.old.bytes }
         ensures { self.new ≡ record {
@@ -169,7 +169,7 @@ impl PktBuf {
         self.front += n;
     }
 
-    /// Keeps the packet's first bytes, as many as a length; the spare ones stay (own rule).
+    /// Keeps the packet's first bytes, as many as a length; the spare ones stay.
     pub fn truncate(&mut self, len: usize)
         requires { len ≤ length self.old.bytes }
         ensures { self.new ≡ record {

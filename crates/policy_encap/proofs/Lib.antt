@@ -1,3 +1,3 @@
 pub mod RoundLemmas
 pub mod EncapLemmas
-pub mod FrontLemmas
+pub mod EncapFrontLemmas

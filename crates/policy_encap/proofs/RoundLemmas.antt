@@ -10,37 +10,37 @@ use Rattle.srv6_rules.specs.Srh.{Srh, srh_spelling}
 use Rattle.srv6_rules.specs.Chain.{routing}
 use Rattle.srv6_rules.specs.Encapsulation.{Encapsulation, segment_list, has_segment_routing, header_bytes}
 use Rattle.srv6_rules.specs.Policies.{encapsulation_by, inner_kind, outer_by}
-use Rattle.srv6_rules.proofs.PublicLaws.{by-payload}
+use Rattle.srv6_rules.proofs.PublicLaws.{by_payload}
 use Rattle.srh_codec.specs.Writing.{numbers_of, header_over}
-use Rattle.policy_encap.specs.Headers.{listed, framed, routing_bytes}
+use Rattle.policy_encap.specs.PolicyHeaders.{listed, framed, routing_bytes}
 
 -- addresses as numbers, in reverse order
-pub numbers-reverse : (list : List Addr) → numbers_of (reverse list) ≡ reverse (numbers_of list)
-numbers-reverse [] = refl
-numbers-reverse (a ∷ list) =
+pub numbers_reverse : (list : List Addr) → numbers_of (reverse list) ≡ reverse (numbers_of list)
+numbers_reverse [] = refl
+numbers_reverse (a ∷ list) =
     ap numbers_of (reverse-append (a ∷ []) list)
     ∙ map-append (λ (x : Addr). x.value) (reverse list) (a ∷ [])
-    ∙ ap (λ xs. xs ++ a.value ∷ []) (numbers-reverse list)
+    ∙ ap (λ xs. xs ++ a.value ∷ []) (numbers_reverse list)
     ∙ sym (reverse-append (a.value ∷ []) (numbers_of list))
 
 -- the segment list of a policy
-listed-numbers : (policy : Policy) (reduced : Bool)
+listed_numbers : (policy : Policy) (reduced : Bool)
     → segment_list (encapsulation_by policy reduced) ≡ reverse (numbers_of (listed policy reduced))
-listed-numbers policy true = ap reverse (drop-map (λ (a : Addr). a.value) 1 policy.segments)
-listed-numbers policy false = refl
+listed_numbers policy true = ap reverse (drop-map (λ (a : Addr). a.value) 1 policy.segments)
+listed_numbers policy false = refl
 
-length-listed : (policy : Policy) (reduced : Bool)
+length_listed : (policy : Policy) (reduced : Bool)
     → length (listed policy reduced) ≡ (if reduced then length policy.segments - 1 else length policy.segments)
-length-listed policy true = length-drop 1 policy.segments
-length-listed policy false = refl
+length_listed policy true = length-drop 1 policy.segments
+length_listed policy false = refl
 
-has-routing : (policy : Policy) (reduced : Bool) → 0 < length (listed policy reduced)
+has_routing : (policy : Policy) (reduced : Bool) → 0 < length (listed policy reduced)
     → has_segment_routing (encapsulation_by policy reduced) ≡ true
-has-routing policy true some =
-    let len = length-listed policy true in
+has_routing policy true some =
+    let len = length_listed policy true in
     let same = length-map policy.segments (λ (a : Addr). a.value) in
     lt-ltb 1 (length (map (λ (a : Addr). a.value) policy.segments)) (omega arith)
-has-routing policy false some = refl
+has_routing policy false some = refl
 
 -- the header over entries, field by field
 abbrev header_on : ℕ → ℕ → List ℕ → Srh
@@ -62,49 +62,49 @@ module _ (policy : Policy) (reduced : Bool) (inner : Family) (bytes : List ℕ) 
       framed policy (if has then routing else inner_kind inner)
       (if has then srh_spelling (header_on (inner_kind inner) left list) ++ bytes else bytes)
 
-  by-shape : outer_by policy reduced inner bytes
+  by_shape : outer_by policy reduced inner bytes
       ≡ shaped (has_segment_routing (encapsulation_by policy reduced)) (length (numbers_of policy.segments) - 1)
       (segment_list (encapsulation_by policy reduced))
   unfolding shaped
-  by-shape = refl
+  by_shape = refl
 
   -- with a segment routing header
-  pub round-routed : 0 < length (listed policy reduced)
+  pub round_routed : 0 < length (listed policy reduced)
       → outer_by policy reduced inner bytes
       ≡ framed policy routing
       (srh_spelling (header_over (inner_kind inner) (length policy.segments - 1) (reverse (numbers_of (listed policy reduced)))) ++ bytes)
   unfolding shaped
-  round-routed some =
+  round_routed some =
       let e : Encapsulation = encapsulation_by policy reduced in
       let entries : List ℕ = reverse (numbers_of (listed policy reduced)) in
       let left : length (numbers_of policy.segments) - 1 ≡ length policy.segments - 1 =
       ap (λ n. n - 1) (length-map policy.segments (λ (a : Addr). a.value)) in
-      let list : segment_list e ≡ reverse (reverse entries) = listed-numbers policy reduced ∙ sym (reverse-reverse entries) in
-      by-shape
-      ∙ ap (λ b. shaped b (length (numbers_of policy.segments) - 1) (segment_list e)) (has-routing policy reduced some)
+      let list : segment_list e ≡ reverse (reverse entries) = listed_numbers policy reduced ∙ sym (reverse-reverse entries) in
+      by_shape
+      ∙ ap (λ b. shaped b (length (numbers_of policy.segments) - 1) (segment_list e)) (has_routing policy reduced some)
       ∙ ap (λ n. shaped true n (segment_list e)) left
       ∙ ap (shaped true (length policy.segments - 1)) list
 
 -- the bytes in front of the inner packet, by the segments that are listed
-listed-bytes : (reduced : Bool) (n m : ℕ) → 0 < n → m ≡ (if reduced then n - 1 else n)
+listed_bytes : (reduced : Bool) (n m : ℕ) → 0 < n → m ≡ (if reduced then n - 1 else n)
     → header_bytes reduced n ≡ 40 + (if m == 0 then 0 else 8 + 16 * m)
-listed-bytes true n m some is = elim (cases_lt 1 n) [
+listed_bytes true n m some is = elim (cases_lt 1 n) [
   | inl more ↦ let many = lt-ltb 1 n more in let full = ne_eqb m 0 (omega arith) in rw (many, full) (omega arith)
   | inr one ↦ let few = le-ltb 1 n one in let none = eq-eqb m 0 (omega arith) in rw (few, none) (omega arith)
 ]
-listed-bytes false n m some is = let full = ne_eqb m 0 (omega arith) in rw full (omega arith)
+listed_bytes false n m some is = let full = ne_eqb m 0 (omega arith) in rw full (omega arith)
 
-pub round-len : (policy : Policy) (reduced : Bool) (inner : Family) (bytes : List ℕ) → 0 < length policy.segments
+pub round_len : (policy : Policy) (reduced : Bool) (inner : Family) (bytes : List ℕ) → 0 < length policy.segments
     → routing_bytes (listed policy reduced) + length bytes ≡ length (outer_by policy reduced inner bytes).payload
-round-len policy reduced inner bytes some =
-    let size = listed-bytes reduced (length policy.segments) (length (listed policy reduced)) some (length-listed policy reduced) in
-    let whole = by-payload policy reduced inner bytes in
+round_len policy reduced inner bytes some =
+    let size = listed_bytes reduced (length policy.segments) (length (listed policy reduced)) some (length_listed policy reduced) in
+    let whole = by_payload policy reduced inner bytes in
     omega (arith, size, whole)
 
 -- ---- the outer header
 
-pub first-segment : (policy : Policy) (list : List Addr) → 0 < length policy.segments → list ≡ policy.segments
+pub first_segment : (policy : Policy) (list : List Addr) → 0 < length policy.segments → list ≡ policy.segments
     → (get_or {A = Addr} list 0 (record { value = 0 })).value ≡ slice_index (map (λ (a : Addr). a.value) policy.segments) 0
-first-segment policy list some is =
+first_segment policy list some is =
     ap (λ (xs : List Addr). (get_or {A = Addr} xs 0 (record { value = 0 })).value) is
     ∙ sym (get_or-map (λ (a : Addr). a.value) policy.segments 0 (record { value = 0 }) 0 some)

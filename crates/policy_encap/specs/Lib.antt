@@ -1,3 +1,3 @@
-pub mod Headers
+pub mod PolicyHeaders
 pub mod Inner
-pub mod Answers
+pub mod EncapAnswers

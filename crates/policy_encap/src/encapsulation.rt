@@ -2,16 +2,19 @@
 
 ghost use Rattle.std.specs.Prelude.{◌≡◌, ◌-◌, ◌<◌, ◌≤◌, ℕ, List, nat_lt, length, IfErr, OnErr, OnOk};
 ghost use Rattle.srv6_rules.specs.Encapsulation.{header_bytes};
-ghost use Rattle.srv6_rules.specs.Policies.{IsPolicy, most_payload, outer_by, pushed_by, encapsulated_by};
+ghost use Rattle.srv6_rules.specs.Policies.{most_payload, outer_by, pushed_by};
+ghost use Rattle.srv6_rules.specs.PoliciesTerms.{IsPolicy, encapsulated_by};
 ghost use Rattle.srv6_rules.specs.declared.family.Family.{Family as FamilyValue};
-ghost use Rattle.policy_encap.specs.Answers.{IsPushed, IsEncapsulated, IsFaultOf, judged_by};
+ghost use Rattle.policy_encap.specs.EncapAnswers.{IsPushed, IsEncapsulated, IsFaultOf, judged_by};
 ghost use Rattle.policy_encap.specs.Inner.{HoldsInner};
 ghost use Rattle.policy_encap.specs.declared.faults.PushFault.TheVariants as pushing;
 ghost use Rattle.policy_encap.specs.declared.faults.EncapFault.TheVariants as encapsulating;
 
 use crate::faults::{EncapFault, PushFault};
-use crate::headers::{MAX_PAYLOAD_LEN, bytes_fit, front_len, outer_fits, payload_len, put_headers};
 use crate::inner::{inner_hop, inner_len, lower};
+use crate::policy_headers::{
+    MAX_PAYLOAD_LEN, bytes_fit, front_len, outer_fits, payload_len, put_headers,
+};
 use pkt_buf::PktBuf;
 use srv6_rules::numbers::MAX_PACKET_LEN;
 use srv6_rules::{Family, Policy};
@@ -22,7 +25,7 @@ use srv6_rules::{Family, Policy};
 /// reduced form of one segment has no segment routing header. `TooBig` comes exactly where the
 /// outer packet's payload would pass 65,535 bytes (RFC 8986 sections 4.13, 4.14, 5.1 and 5.2).
 /// `NoMemory` comes only where fewer bytes are spare than the header has; where they are enough it
-/// takes their place (own rule). On a fault nothing changes.
+/// takes their place. On a fault nothing changes.
 pub fn push(
     policy: &Policy,
     reduced: bool,
@@ -100,7 +103,7 @@ pub fn encap_fault(policy: &Policy, inner: Family, bytes: &[u8]) -> Option<Encap
 /// and the policy's header stands in front. `InnerHop` comes exactly where the hop limit or TTL is
 /// at most 1, and else `TooBig` exactly where the outer packet's payload would pass 65,535 bytes.
 /// `NoMemory` comes only where fewer bytes are spare than the header has; where they are enough it
-/// takes their place (own rule). On a fault nothing changes.
+/// takes their place. On a fault nothing changes.
 pub fn encap(policy: &Policy, inner: Family, buf: &mut PktBuf) -> Result<(), EncapFault>
     requires policy { IsPolicy policy.now }
     requires packet { HoldsInner inner buf.old.bytes }

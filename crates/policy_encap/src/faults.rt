@@ -15,7 +15,7 @@ pub enum PushFault {
         /// The length in bytes that the payload would have.
         length: u32,
     },
-    /// Want of memory, where fewer bytes are spare than the header has (own rule).
+    /// Want of memory, where fewer bytes are spare than the header has.
     NoMemory,
 }
 
@@ -31,14 +31,14 @@ impl From<NoMemory> for PushFault {
 /// it was.
 #[derive(Clone, Copy, Debug, PartialEq, Eq)]
 pub enum EncapFault {
-    /// The packet's hop limit or TTL is at most 1, so that it cannot be lowered (own rule).
+    /// The packet's hop limit or TTL is at most 1, so that it cannot be lowered.
     InnerHop,
     /// The outer packet's payload would be longer than 65,535 bytes (RFC 8200 section 3).
     TooBig {
         /// The length in bytes that the payload would have.
         length: u32,
     },
-    /// Want of memory, where fewer bytes are spare than the header has (own rule).
+    /// Want of memory, where fewer bytes are spare than the header has.
     NoMemory,
 }
 

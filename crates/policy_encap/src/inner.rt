@@ -1,7 +1,7 @@
 //! The packet that is encapsulated, of either family.
 
 ghost use Rattle.std.specs.Prelude.{◌≡◌, ◌<◌, ◌≤◌, length};
-ghost use Rattle.srv6_rules.specs.Policies.{inner_hop, inner_lowered_bytes};
+ghost use Rattle.srv6_rules.specs.PoliciesTerms.{inner_hop, inner_lowered_bytes};
 ghost use Rattle.policy_encap.specs.Inner.{HoldsInner};
 
 use ip6_headers::lower_ttl;

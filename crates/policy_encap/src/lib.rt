@@ -8,9 +8,9 @@
 mod encapsulation;
 mod faults;
 pub mod figures;
-mod headers;
 mod inner;
+mod policy_headers;
 
 pub use encapsulation::{encap, encap_fault, is_too_big, push};
 pub use faults::{EncapFault, PushFault};
-pub use headers::MAX_FRONT;
+pub use policy_headers::MAX_FRONT;

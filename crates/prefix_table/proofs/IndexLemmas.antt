@@ -8,11 +8,12 @@ use Rattle.std.specs.BTreeMap as map
 use Rattle.std.proofs.lemmas.Bool.{cases_Bool, cases_lt, cases_eq, both_ways, and_parts, and_from, eqb-true, eq-eqb, false≢true}
 use Rattle.std.proofs.lemmas.Bool.Decides.{nat_tests}
 use Rattle.std.proofs.lemmas.Option.{none-some, slice_get-get_or, slice_get_within, get_or_from_slice_get}
-use Rattle.v6_addr.specs.Address.{PrefixValue, IsPrefix, Holds}
+use Rattle.v6_addr.specs.Address.{PrefixValue, Holds}
+use Rattle.v6_addr.specs.AddressTerms.{IsPrefix}
 use Rattle.v6_addr.proofs.PublicLaws.{same_value, Holds_own_value}
 use Rattle.prefix_table.specs.declared.index.Key.{Key}
 use Rattle.prefix_table.specs.declared.index.Index.{Index}
-use Rattle.prefix_table.specs.Table.{HasPrefix, IsTable, HoldsNone, IsBest, HasAround}
+use Rattle.prefix_table.specs.PrefixTable.{HasPrefix, IsTable, HoldsNone, IsBest, HasAround}
 use Rattle.prefix_table.specs.Index.{key_cmp, key_at, key_of, place_at, AreFalling, HasLength, Keeps, AreLengths, HasNoKey, IsLongest, HasBelow, HasShorter, IsIndex, IsWhole}
 use Rattle.prefix_table.proofs.TableLemmas.{same_prefix, is_table_push}
 

@@ -1,7 +1,7 @@
 pub mod TableLemmas
-pub mod LengthLemmas
+pub mod TableLengthLemmas
 pub mod IndexLemmas
-pub mod EditLemmas
-pub mod PlaceLemmas
+pub mod TableEditLemmas
+pub mod TablePlaceLemmas
 pub mod SwapLemmas
 pub mod PublicLaws

@@ -9,11 +9,11 @@ use Rattle.std.proofs.lemmas.Option.{none-some, same_Some, slice_get-get_or, sli
 use Rattle.v6_addr.specs.Address.{PrefixValue}
 use Rattle.prefix_table.specs.declared.index.Key.{Key}
 use Rattle.prefix_table.specs.declared.index.Index.{Index}
-use Rattle.prefix_table.specs.Table.{HasPrefix, EachOnce, IsTable, is_one_prefix, value_at}
+use Rattle.prefix_table.specs.PrefixTable.{HasPrefix, EachOnce, IsTable, is_one_prefix, value_at}
 use Rattle.prefix_table.specs.Index.{key_cmp, key_of, place_at, AreLengths, IsTold, IsIndex, IsWhole}
 use Rattle.prefix_table.proofs.TableLemmas.{has_by}
 use Rattle.prefix_table.proofs.IndexLemmas.{key_same, key_self, place_of, contains_at, taken_cases, updated_other}
-use Rattle.prefix_table.proofs.EditLemmas.{one_or_other, value_none, there_tells, value_tells}
+use Rattle.prefix_table.proofs.TableEditLemmas.{one_or_other, value_none, there_tells, value_tells}
 
 -- ---- elements by their places
 

@@ -3,9 +3,10 @@ use Rattle.std.proofs.Common.{◌≡◌, ℕ, zero, suc, ◌≤◌, ltb, ◌⊎�
 use Rattle.std.specs.List.{Contains}
 use Rattle.std.proofs.lemmas.Bool.{cases_Bool, ltb-true, ltb-false}
 use Rattle.std.proofs.lemmas.List.Elements.{Contains-append_left, Contains-push, Contains-push_cases}
-use Rattle.v6_addr.specs.Address.{PrefixValue, IsPrefix, Holds}
+use Rattle.v6_addr.specs.Address.{PrefixValue, Holds}
+use Rattle.v6_addr.specs.AddressTerms.{IsPrefix}
 use Rattle.v6_addr.proofs.PublicLaws.{same_value}
-use Rattle.prefix_table.specs.Table.{HasPrefix, EachOnce, IsTable, IsBest, IsBestMatch, IsBetter}
+use Rattle.prefix_table.specs.PrefixTable.{HasPrefix, EachOnce, IsTable, IsBest, IsBestMatch, IsBetter}
 
 pub contains_none : {X : Type 0} (x : X) → Contains [] x → ⊥
 contains_none x c = omega (arith, c.1)
@@ -30,15 +31,15 @@ module _ {T : Type 0} where
 
   -- ---- one entry more
 
-  each_once-push : (xs : List (PrefixValue × T)) (p : PrefixValue) (t : T) → EachOnce xs → ¬ HasPrefix xs p
+  each_once_push : (xs : List (PrefixValue × T)) (p : PrefixValue) (t : T) → EachOnce xs → ¬ HasPrefix xs p
       → EachOnce (xs ++ (p, t) ∷ [])
-  each_once-push [] p t once new = (λ h. contains_none _ h.1, tt)
-  each_once-push (x ∷ xs) p t once new = (
+  each_once_push [] p t once new = (λ h. contains_none _ h.1, tt)
+  each_once_push (x ∷ xs) p t once new = (
     λ h. elim (Contains-push_cases xs (p, t) (x.0, h.0) h.1) [
       | inl among ↦ once.0 (h.0, among)
       | inr is ↦ new (has_by (x ∷ xs) x p (contains_first x xs) (sym (ap (λ e. e.0) is)))
     ],
-    each_once-push xs p t once.1 (λ h. new (h.0, contains_later x xs (p, h.0) h.1)),
+    each_once_push xs p t once.1 (λ h. new (h.0, contains_later x xs (p, h.0) h.1)),
   )
 
   pub is_table_push : (xs : List (PrefixValue × T)) (p : PrefixValue) (t : T) → IsTable xs → IsPrefix p → ¬ HasPrefix xs p
@@ -48,7 +49,7 @@ module _ {T : Type 0} where
       | inl among ↦ table.prefixes e among
       | inr same ↦ subst (λ f. IsPrefix f.0) same is
     ];
-    once = each_once-push xs p t table.once new;
+    once = each_once_push xs p t table.once new;
   }
 
   -- ---- the search for a prefix

@@ -1,4 +1,5 @@
--- Where the entries of a table stand, by the lengths and the first bits of their prefixes (own rule).
+-- Need not be believed: helps proofs and other laws.
+-- Where the entries of a table stand, by the lengths and the first bits of their prefixes.
 use Rattle.std.specs.Prelude.{◌≡◌, ℕ, ◌-◌, ◌/◌, ◌^◌, ◌<◌, ◌≤◌, List, length, slice_get, slice_index, Option, Some, None, IsSome}
 use Rattle.std.specs.declared.cmp.Ordering.{Ordering}
 use Rattle.std.specs.Ordering.{nat_cmp, ordering_then}
@@ -6,7 +7,7 @@ use Rattle.std.specs.BTreeMap as map
 use Rattle.v6_addr.specs.Address.{PrefixValue}
 use Rattle.prefix_table.specs.declared.index.Key.{Key}
 use Rattle.prefix_table.specs.declared.index.Index.{Index}
-use Rattle.prefix_table.specs.Table.{IsTable}
+use Rattle.prefix_table.specs.PrefixTable.{IsTable}
 
 -- keys are in order by length, and then by bits
 abbrev pub key_cmp : Key → Key → Ordering

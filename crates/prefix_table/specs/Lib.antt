@@ -1,2 +1,2 @@
 pub mod Index
-pub mod Table
+pub mod PrefixTable

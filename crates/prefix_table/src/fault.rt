@@ -3,15 +3,15 @@
 use std::alloc::AllocFailed;
 use v6_addr::Prefix;
 
-/// Why an entry was not added (own rule). The table is as it was.
+/// Why an entry was not added. The table is as it was.
 #[derive(Clone, Copy, Debug, PartialEq, Eq)]
 pub enum TableFault {
-    /// The prefix is there already (own rule).
+    /// The prefix is there already.
     Taken {
         /// The prefix.
         prefix: Prefix,
     },
-    /// Want of memory (own rule).
+    /// Want of memory.
     NoMemory,
 }
 

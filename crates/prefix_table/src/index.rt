@@ -2,7 +2,7 @@
 
 ghost use Rattle.std.specs.Prelude.{◌≡◌, ℕ, ◌/◌, ◌^◌, ◌<◌, ◌≤◌, ◌↔◌, IsTrue, length, slice_index, is_some, Some, None, IsSome, OnOk, OnErr, MatchOption};
 ghost use Rattle.std.specs.BTreeMap as map;
-ghost use Rattle.v6_addr.specs.Address.{IsPrefix};
+ghost use Rattle.v6_addr.specs.AddressTerms.{IsPrefix};
 ghost use Rattle.prefix_table.specs.Index.{key_cmp, key_at, key_of, place_at, AreFalling, HasLength, Keeps, AreLengths, HasNoKey, IsLongest, HasBelow, HasShorter};
 
 use std::alloc::{AllocError, Global};

@@ -3,7 +3,7 @@
 ghost use Rattle.std.specs.Prelude.{◌≡◌, ◌↔◌, ℕ, true, List, [], ◌∷◌, ◌++◌, if◌then◌else◌, Option, Some, None, IsSome, slice_get, Contains};
 ghost use Rattle.std.specs.List.{swap_remove};
 ghost use Rattle.v6_addr.specs.Address.{PrefixValue};
-ghost use Rattle.prefix_table.specs.Table.{IsTable, HasPrefix, IsBest, IsBestMatch, IsBetter, is_one_prefix, value_at, with_value};
+ghost use Rattle.prefix_table.specs.PrefixTable.{IsTable, HasPrefix, IsBest, IsBestMatch, IsBetter, is_one_prefix, value_at, with_value};
 
 /// A law: since each prefix stands once, the longest entry that holds an address is one (RFC 1812
 /// section 5.2.4.3, rule 2).
@@ -23,8 +23,7 @@ pub fn best_with_one_more<T>()
         → IsBestMatch (entries ++ e ∷ []) a best }
 {}
 
-/// A law: a table has a value at the prefixes of its entries alone, and it is the entry's (own
-/// rule).
+/// A law: a table has a value at the prefixes of its entries alone, and it is the entry's.
 pub fn values_are_of_entries<T>()
     ensures one { (p q : PrefixValue) → is_one_prefix p q ≡ true ↔ p ≡ q }
     ensures there { (entries : List (PrefixValue × T)) (p : PrefixValue)
@@ -34,7 +33,7 @@ pub fn values_are_of_entries<T>()
 {}
 
 /// A law: an entry more, an entry less and another value change what stands at that prefix alone,
-/// and leave a table (own rule).
+/// and leave a table.
 pub fn edits_change_one_prefix<T>()
     ensures more { (entries : List (PrefixValue × T)) (p q : PrefixValue) (t : T)
         → ¬ HasPrefix entries p → value_at (entries ++ (p, t) ∷ []) q

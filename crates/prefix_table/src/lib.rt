@@ -1,6 +1,6 @@
 //! A table of prefixes with a value each, and the longest of them that holds an address.
 //!
-//! Contracts see a table as the plain list of its entries. Each prefix stands once (own rule).
+//! Contracts see a table as the plain list of its entries. Each prefix stands once.
 #![tactic(auto)]
 
 mod fault;

@@ -5,7 +5,7 @@ ghost use Rattle.std.specs.List.{swap_remove};
 ghost use Rattle.std.specs.Vec.{vec_len, vec_capacity};
 ghost use Rattle.std.specs.BTreeMap as map;
 ghost use Rattle.v6_addr.specs.Address.{PrefixValue};
-ghost use Rattle.prefix_table.specs.Table.{HasPrefix, InsertFails, IsTable, HoldsNone, IsBest, HasAround, is_one_prefix, value_at, with_value};
+ghost use Rattle.prefix_table.specs.PrefixTable.{HasPrefix, InsertFails, IsTable, HoldsNone, IsBest, HasAround, is_one_prefix, value_at, with_value};
 ghost use Rattle.prefix_table.specs.Index.{key_cmp, key_of, place_at, AreLengths, IsTold};
 ghost use Rattle.prefix_table.specs.declared.index.Key.{Key};
 
@@ -15,7 +15,7 @@ use std::alloc::{AllocError, AllocFailed, Global};
 use std::marker::Model;
 use v6_addr::{Addr, Prefix};
 
-/// Prefixes with a value each. Each prefix stands once (own rule). An entry that is added stands
+/// Prefixes with a value each. Each prefix stands once. An entry that is added stands
 /// after the others; where one is taken out the last takes its place.
 ///
 /// A look-up takes as many steps as lengths occur, each a look-up in an ordered map.
@@ -70,7 +70,7 @@ fn tell_place<T>(entries: &[(Prefix, T)], index: &mut Index, place: usize)
 }
 
 impl<T> Table<T> {
-    /// A table without entries (own rule).
+    /// A table without entries.
     pub fn new(alloc: Global) -> Table<T>
         ensures { result ≡ [] }
     {
@@ -81,7 +81,7 @@ impl<T> Table<T> {
     }
 
     /// Adds an entry after the others. `Taken` exactly where the prefix is there, whatever its
-    /// value (own rule); want of memory is free. After both the table is as it was.
+    /// value; want of memory is free. After both the table is as it was.
     pub fn insert(&mut self, p: Prefix, t: T) -> Result<(), TableFault>
     where
         T: Drop,
@@ -103,7 +103,7 @@ impl<T> Table<T> {
         self.index.has(key_of(p))
     }
 
-    /// Adds an entry, whose prefix is known not to be there, after the others (own rule). After
+    /// Adds an entry, whose prefix is known not to be there, after the others. After
     /// want of memory the table is as it was.
     pub fn insert_new(&mut self, p: Prefix, t: T) -> Result<(), AllocFailed<(Prefix, T)>>
         requires { ¬ HasPrefix self.old p }
@@ -120,8 +120,7 @@ impl<T> Table<T> {
         }
     }
 
-    /// Takes the entry with a prefix out, and gives its value; the last entry takes its place (own
-    /// rule). `None` exactly where the prefix is not there, and then nothing changes. It takes no
+    /// Takes the entry with a prefix out, and gives its value; the last entry takes its place. `None` exactly where the prefix is not there, and then nothing changes. It takes no
     /// memory.
     pub fn swap_remove(&mut self, p: &Prefix) -> Option<T>
     where
@@ -144,7 +143,7 @@ impl<T> Table<T> {
         }
     }
 
-    /// Puts a value in place of that of a prefix, and gives the old one (own rule). `None` exactly
+    /// Puts a value in place of that of a prefix, and gives the old one. `None` exactly
     /// where the prefix is not there, and then nothing changes. It takes no memory.
     pub fn replace(&mut self, p: &Prefix, t: T) -> Option<T>
     where
@@ -162,7 +161,7 @@ impl<T> Table<T> {
         }
     }
 
-    /// The value of a prefix (own rule). `None` exactly where the prefix is not there.
+    /// The value of a prefix. `None` exactly where the prefix is not there.
     pub fn get(&self, p: &Prefix) -> Option<T>
     where
         T: Copy,
@@ -187,14 +186,14 @@ impl<T> Table<T> {
         }
     }
 
-    /// Whether a prefix lies strictly inside that of an entry (own rule).
+    /// Whether a prefix lies strictly inside that of an entry.
     pub fn has_around(&self, p: Prefix) -> bool
         ensures { IsTrue result ↔ HasAround self.now p }
     {
         self.index.has_shorter(p.value(), p.len())
     }
 
-    /// The number of entries (own rule).
+    /// The number of entries.
     pub fn len(&self) -> usize
         ensures len { result ≡ length self.now }
         ensures table { IsTable self.now }
@@ -202,7 +201,7 @@ impl<T> Table<T> {
         self.entries.len()
     }
 
-    /// Entry `i`, counted from 0 (own rule).
+    /// Entry `i`, counted from 0.
     pub fn entry(&self, i: usize) -> (&Prefix, &T)
         requires { i < length self.now }
         ensures { slice_get self.now i ≡ Some (result.0.now, result.1.now) }

@@ -1,3 +1,3 @@
-pub mod PlaceLemmas
+pub mod ReplacePlaceLemmas
 pub mod PublicLaws
-pub mod WriteLemmas
+pub mod ReplaceWriteLemmas

@@ -1,12 +1,14 @@
+-- Need not be believed: helps proofs and other laws.
 -- A packet's bytes before and after the step over its segment routing header (RFC 9800 section 4.2).
 use Rattle.std.specs.Prelude.{◌≡◌, ◌≢◌, ℕ, ◌+◌, ◌-◌, Bool, List, slice_set, Option, Some, None}
 use Rattle.srv6_rules.specs.declared.compression.Compression.{Compression}
 use Rattle.srv6_rules.specs.Packet.{Packet, V6, content_of, packet_at}
 use Rattle.srv6_rules.specs.Srh.{srh_of, segments_left_at}
 use Rattle.srv6_rules.specs.Chain.{from_place}
-use Rattle.srv6_rules.specs.CompressedSteps.{Move, ReplaceStep, Moved, AtEnd, Dropped, moved, replace_step, with_hop_and_destination}
-use Rattle.replace_csid.specs.declared.step.ReplaceOutcome.{ReplaceOutcome}
-use Rattle.replace_csid.specs.declared.step.ReplaceOutcome.TheVariants as outcomes
+use Rattle.srv6_rules.specs.CompressedSteps.{Move, ReplaceStep, Moved, AtEnd, Dropped, moved, replace_step}
+use Rattle.srv6_rules.specs.CompressedStepsTerms.{with_hop_and_destination}
+use Rattle.replace_csid.specs.declared.replace_step.ReplaceOutcome.{ReplaceOutcome}
+use Rattle.replace_csid.specs.declared.replace_step.ReplaceOutcome.TheVariants as outcomes
 
 -- what comes of the segment routing header at a place of the packet in these bytes
 abbrev pub step_at : Compression → List ℕ → ℕ → ReplaceStep

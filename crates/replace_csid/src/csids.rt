@@ -3,7 +3,8 @@
 ghost use Rattle.std.specs.Prelude.{◌≡◌, ◌+◌, ◌^◌, ◌<◌};
 ghost use Rattle.srv6_rules.specs.Srh.{entries_of};
 ghost use Rattle.srv6_rules.specs.Compressed.{csid_count, replace_of, with_index};
-ghost use Rattle.srv6_rules.specs.CompressedSteps.{IsReplace, csid_len_of, index_in, is_ended, lacks_entry, listed_csid};
+ghost use Rattle.srv6_rules.specs.CompressedSteps.{csid_len_of, index_in, is_ended, lacks_entry, listed_csid};
+ghost use Rattle.srv6_rules.specs.CompressedStepsTerms.{IsReplace};
 
 use srh_codec::SrhView;
 use srv6_rules::Compression;

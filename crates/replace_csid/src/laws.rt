@@ -3,7 +3,8 @@
 ghost use Rattle.std.specs.Prelude.{◌≡◌, ◌≤◌, ◌<◌, ◌^◌, true, All};
 ghost use Rattle.srv6_rules.specs.Packet.{Packet, header_len};
 ghost use Rattle.srv6_rules.specs.Srh.{srh_of};
-ghost use Rattle.srv6_rules.specs.Chain.{Header, LiesIn, from_place, is_segment_routing, is_whole, routing};
+ghost use Rattle.srv6_rules.specs.Chain.{Header, from_place, is_segment_routing, is_whole, routing};
+ghost use Rattle.srv6_rules.specs.ChainTerms.{LiesIn};
 
 /// A segment routing header of a packet's chain can be stepped over at its place: it stands after
 /// the IPv6 header and is whole, and what the bytes from its place on begin with is its value (RFC

@@ -7,9 +7,9 @@
 #![tactic(auto)]
 
 mod csids;
-mod judge;
 mod laws;
-mod step;
+mod replace_judge;
+mod replace_step;
 
 pub use laws::header_of_a_chain_can_be_stepped_over;
-pub use step::{ReplaceOutcome, is_at_end, replace, would_end};
+pub use replace_step::{ReplaceOutcome, is_at_end, replace, would_end};

@@ -1,8 +1,8 @@
 pub mod PublicLaws
-pub mod Walking
+pub mod DriverWalking
 pub mod Writable
 pub mod Scheduling
-pub mod Entering
-pub mod Turning
+pub mod DriverEntering
+pub mod DriverTurning
 pub mod Mixing
 pub mod OutAlone

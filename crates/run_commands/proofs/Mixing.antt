@@ -11,69 +11,70 @@ use Rattle.net_model.specs.Network.{Network}
 use Rattle.walk_rules.specs.declared.place.Place.{Place}
 use Rattle.walk_rules.specs.Walk.{Stage, walk_of, choice_at, end_of}
 use Rattle.packet_walk.specs.Schedule.{Coming, Taken, all_of, scheduled, steps_of}
-use Rattle.packet_walk.proofs.PublicLaws.{stages-scheduled}
-use Rattle.command_inputs.specs.declared.packets.Packets.{Packets}
-use Rattle.run_commands.specs.Capture.{frame_of_gave, frames_of}
-use Rattle.run_commands.specs.declared.enters.Comes.{Comes}
-use Rattle.run_commands.specs.Entry.{Entry, comes_of, coming_if_comes, coming_of_frame, comings_of_frames}
-use Rattle.command_inputs.specs.Frames.{AreFrom}
-use Rattle.command_inputs.specs.Packets.{reading_of}
-use Rattle.command_inputs.proofs.PublicLaws.{numbered-packets}
-use Rattle.run_commands.specs.Scheduled.{coming, frame_of_stage, frames_sent, line_of_stage, line_of_walk, lines_told, pieces_of_stages}
+use Rattle.packet_walk.proofs.PublicLaws.{stages_scheduled}
+use Rattle.command_inputs.specs.declared.input_packets.Packets.{Packets}
+use Rattle.run_commands.specs.WrittenCapture.{frame_of_gave, frames_of}
+use Rattle.run_commands.specs.declared.enters.Entrant.{Entrant}
+use Rattle.run_commands.specs.Admission.{Admission, entrant_of, coming_if_admitted, coming_of_frame, comings_of_frames}
+use Rattle.command_inputs.specs.InputFrames.{AreFrom}
+use Rattle.command_inputs.specs.InputPackets.{reading_of}
+use Rattle.command_inputs.proofs.PublicLaws.{numbered_packets}
+use Rattle.run_commands.specs.Scheduled.{coming, frame_of_stage, line_of_stage, line_of_walk, pieces_of_stages, frames_sent}
+use Rattle.run_commands.specs.ScheduledTerms.{lines_told}
 use Rattle.walk_rules.specs.declared.limits.TheConstants.{MAX_STAGES}
-use Rattle.command_output.specs.Lines.{packet_line}
-use Rattle.command_output.specs.Pieces.{bytes_for_err, bytes_for_out}
-use Rattle.run_commands.proofs.Scheduling.{first-step}
+use Rattle.command_output.specs.OutputLines.{packet_line}
+use Rattle.command_output.specs.OutputPieces.{bytes_for_err, bytes_for_out}
+use Rattle.run_commands.proofs.Scheduling.{first_step}
 
 -- the frames of all of a packet's stages are those of its walk
-frames-all : (number : ℕ) (steps : List Stage) → flat_map frame_of_stage (all_of number steps) ≡ frames_of number steps
-frames-all number [] = refl
-frames-all number (s ∷ behind) = ap (λ (bytes : List ℕ). frame_of_gave number s.gave ++ bytes) (frames-all number behind)
+frames_all : (number : ℕ) (steps : List Stage) → flat_map frame_of_stage (all_of number steps) ≡ frames_of number steps
+frames_all number [] = refl
+frames_all number (s ∷ behind) = ap (λ (bytes : List ℕ). frame_of_gave number s.gave ++ bytes) (frames_all number behind)
 
-frames-sent : (number : ℕ) (schedule : List ℕ) (comings : List Coming) → IsDistinct nat_eq (map (λ (c : Coming). c.number) comings)
+frames_sent_law : (number : ℕ) (schedule : List ℕ) (comings : List Coming) → IsDistinct nat_eq (map (λ (c : Coming). c.number) comings)
     → frames_sent number (scheduled schedule comings) ≡ frames_of number (steps_of number comings)
-frames-sent number schedule comings apart =
-    ap (λ (stages : List Taken). flat_map frame_of_stage stages) (stages-scheduled number schedule comings apart)
-    ∙ frames-all number (steps_of number comings)
+frames_sent_law number schedule comings apart =
+    ap (λ (stages : List Taken). flat_map frame_of_stage stages) (stages_scheduled number schedule comings apart)
+    ∙ frames_all number (steps_of number comings)
 
 -- the bytes for `out` of the pieces of stages are their frames, and those for `err` their lines
 
 module _ (net : Network) where
-  pub out-of-stages : (stages : List Taken) → bytes_for_out (pieces_of_stages net stages) ≡ flat_map frame_of_stage stages
-  out-of-stages [] = refl
-  out-of-stages (t ∷ more) = ap (λ (bytes : List ℕ). frame_of_stage t ++ bytes) (out-of-stages more)
+  pub out_of_stages : (stages : List Taken) → bytes_for_out (pieces_of_stages net stages) ≡ flat_map frame_of_stage stages
+  out_of_stages [] = refl
+  out_of_stages (t ∷ more) = ap (λ (bytes : List ℕ). frame_of_stage t ++ bytes) (out_of_stages more)
 
-  pub err-of-stages : (stages : List Taken) → bytes_for_err (pieces_of_stages net stages) ≡ flat_map (line_of_stage net) stages
-  err-of-stages [] = refl
-  err-of-stages (t ∷ more) = ap (λ (bytes : List ℕ). line_of_stage net t ++ bytes) (err-of-stages more)
+  pub err_of_stages : (stages : List Taken) → bytes_for_err (pieces_of_stages net stages) ≡ flat_map (line_of_stage net) stages
+  err_of_stages [] = refl
+  err_of_stages (t ∷ more) = ap (λ (bytes : List ℕ). line_of_stage net t ++ bytes) (err_of_stages more)
 
   -- the lines of all of a packet's stages are the one of its walk
-  lines-all : (number : ℕ) (steps : List Stage) → flat_map (line_of_stage net) (all_of number steps) ≡ line_of_walk net number steps
-  lines-all number [] = refl
-  lines-all number (s ∷ []) = append-nil (packet_line net number (end_of net (s ∷ [])))
-  lines-all number (s ∷ t ∷ behind) = lines-all number (t ∷ behind)
+  lines_all : (number : ℕ) (steps : List Stage) → flat_map (line_of_stage net) (all_of number steps) ≡ line_of_walk net number steps
+  lines_all number [] = refl
+  lines_all number (s ∷ []) = append-nil (packet_line net number (end_of net (s ∷ [])))
+  lines_all number (s ∷ t ∷ behind) = lines_all number (t ∷ behind)
 
-  lines-told : (number : ℕ) (schedule : List ℕ) (comings : List Coming) → IsDistinct nat_eq (map (λ (c : Coming). c.number) comings)
+  lines_told_law : (number : ℕ) (schedule : List ℕ) (comings : List Coming) → IsDistinct nat_eq (map (λ (c : Coming). c.number) comings)
       → lines_told net number (scheduled schedule comings) ≡ line_of_walk net number (steps_of number comings)
-  lines-told number schedule comings apart =
-      ap (λ (stages : List Taken). flat_map (line_of_stage net) stages) (stages-scheduled number schedule comings apart)
-      ∙ lines-all number (steps_of number comings)
+  lines_told_law number schedule comings apart =
+      ap (λ (stages : List Taken). flat_map (line_of_stage net) stages) (stages_scheduled number schedule comings apart)
+      ∙ lines_all number (steps_of number comings)
 
   -- a walk has a stage
-  walk-steps : (number : ℕ) (place : Place) (content : Content) (pick : ℕ → ℕ)
+  walk_steps : (number : ℕ) (place : Place) (content : Content) (pick : ℕ → ℕ)
       → All (λ (c : Coming). 0 < length c.steps) (coming number (walk_of MAX_STAGES net (Some place) content pick 0))
-  walk-steps number place content pick =
+  walk_steps number place content pick =
       All-cons (λ (c : Coming). 0 < length c.steps)
       (record { number = number; steps = walk_of MAX_STAGES net (Some place) content pick 0 }) []
-      (subst (λ (steps : List Stage). 0 < length steps) (sym (first-step net number place content pick)) (omega arith))
+      (subst (λ (steps : List Stage). 0 < length steps) (sym (first_step net number place content pick)) (omega arith))
       (All-nil (λ (c : Coming). 0 < length c.steps))
 
 -- so each packet of frames has, where each frame's packet has
-all-walk : (packets : Frame → List Coming) → ((frame : Frame) → All (λ (c : Coming). 0 < length c.steps) (packets frame))
+all_walk : (packets : Frame → List Coming) → ((frame : Frame) → All (λ (c : Coming). 0 < length c.steps) (packets frame))
     → (frames : List Frame) → All (λ (c : Coming). 0 < length c.steps) (flat_map packets frames)
-all-walk packets each [] = All-nil (λ (c : Coming). 0 < length c.steps)
-all-walk packets each (frame ∷ more) =
-    All-append (λ (c : Coming). 0 < length c.steps) (packets frame) (flat_map packets more) (each frame) (all-walk packets each more)
+all_walk packets each [] = All-nil (λ (c : Coming). 0 < length c.steps)
+all_walk packets each (frame ∷ more) =
+    All-append (λ (c : Coming). 0 < length c.steps) (packets frame) (flat_map packets more) (each frame) (all_walk packets each more)
 
 -- so the packets of frames differ in their numbers, where each frame has one at most
 
@@ -103,32 +104,32 @@ module _ (packets : Frame → List Coming) (one : IsOne packets) where
 
 -- of packets that enter
 
-module _ (net : Network) (choices : List ℕ) (entry : Body → Entry) where
-  comes-one : (number : ℕ) (comes : Option Comes) (P : List Coming → Type 0)
-      → P [] → ((steps : List Stage) → P (coming number steps)) → P (coming_if_comes net choices number comes)
-  comes-one number None P none some = none
-  comes-one number (Some comes) P none some = some _
+module _ (net : Network) (choices : List ℕ) (entry : Body → Admission) where
+  comes_one : (number : ℕ) (comes : Option Entrant) (P : List Coming → Type 0)
+      → P [] → ((steps : List Stage) → P (coming number steps)) → P (coming_if_admitted net choices number comes)
+  comes_one number None P none some = none
+  comes_one number (Some comes) P none some = some _
 
-  comes-steps : (number : ℕ) (comes : Option Comes) → All (λ (c : Coming). 0 < length c.steps) (coming_if_comes net choices number comes)
-  comes-steps number None = All-nil (λ (c : Coming). 0 < length c.steps)
-  comes-steps number (Some comes) = walk-steps net number comes.place comes.content (choice_at choices)
+  comes_steps : (number : ℕ) (comes : Option Entrant) → All (λ (c : Coming). 0 < length c.steps) (coming_if_admitted net choices number comes)
+  comes_steps number None = All-nil (λ (c : Coming). 0 < length c.steps)
+  comes_steps number (Some comes) = walk_steps net number comes.place comes.content (choice_at choices)
 
   module _ (packets : Packets) where
     abbrev comings : List Coming
     comings = comings_of_frames net choices entry (reading_of packets).frames
 
-    driven-apart : IsDistinct nat_eq (numbers comings)
-    driven-apart = apart (coming_of_frame net choices entry) (λ frame P. comes-one frame.number (comes_of (entry frame.body)) P) 1
-        (reading_of packets).frames (numbered-packets packets)
+    driven_apart : IsDistinct nat_eq (numbers comings)
+    driven_apart = apart (coming_of_frame net choices entry) (λ frame P. comes_one frame.number (entrant_of (entry frame.body)) P) 1
+        (reading_of packets).frames (numbered_packets packets)
 
-    pub driven-mixes : (number : ℕ) (schedule : List ℕ)
+    pub driven_mixes : (number : ℕ) (schedule : List ℕ)
         → frames_sent number (scheduled schedule comings) ≡ frames_of number (steps_of number comings)
-    driven-mixes number schedule = frames-sent number schedule comings driven-apart
+    driven_mixes number schedule = frames_sent_law number schedule comings driven_apart
 
-    pub driven-tells : (number : ℕ) (schedule : List ℕ)
+    pub driven_tells : (number : ℕ) (schedule : List ℕ)
         → lines_told net number (scheduled schedule comings) ≡ line_of_walk net number (steps_of number comings)
-    driven-tells number schedule = lines-told net number schedule comings driven-apart
+    driven_tells number schedule = lines_told_law net number schedule comings driven_apart
 
-    pub driven-walks : All (λ (c : Coming). 0 < length c.steps) comings
-    driven-walks = all-walk (coming_of_frame net choices entry) (λ frame. comes-steps frame.number (comes_of (entry frame.body)))
+    pub driven_walks : All (λ (c : Coming). 0 < length c.steps) comings
+    driven_walks = all_walk (coming_of_frame net choices entry) (λ frame. comes_steps frame.number (entrant_of (entry frame.body)))
         (reading_of packets).frames

@@ -1,4 +1,5 @@
--- A buffer that is handed on from packet to packet (own rules).
+-- Need not be believed: helps proofs and other laws.
+-- A buffer that is handed on from packet to packet.
 use Rattle.std.specs.Prelude.{ℕ, ◌+◌, ◌-◌, max, List, [], length}
 use Rattle.pkt_buf.specs.BufferView.{Buffer}
 

@@ -1,8 +1,13 @@
 pub mod HandedOn
-pub mod Capture
+pub mod WrittenCapture
+pub mod WrittenCaptureTerms
 pub mod Scheduled
-pub mod Entry
+pub mod ScheduledTerms
+pub mod Admission
+pub mod AdmissionTerms
 pub mod AtNode
-pub mod Run
+pub mod AtNodeTerms
+pub mod RunCommand
+pub mod RunCommandTerms
 pub mod Silent
-pub mod Show
+pub mod ShowCommand

@@ -1,4 +1,5 @@
--- A sink that tells nothing of what it takes (own rules).
+-- Need not be believed: helps proofs and other laws.
+-- A sink that tells nothing of what it takes.
 use Rattle.std.specs.Prelude.{false, None}
 use Rattle.srx_edge.specs.Sinks.{SinkSeen}
 

@@ -2,9 +2,10 @@
 
 ghost use Rattle.std.specs.Prelude.{◌≡◌, IfOk, ⊤};
 ghost use Rattle.srv6_rules.specs.Packet.{entered};
-ghost use Rattle.run_commands.specs.AtNode.{entry_at, entry_place};
+ghost use Rattle.run_commands.specs.AtNode.{admission_place};
+ghost use Rattle.run_commands.specs.AtNodeTerms.{admission_at};
 
-use crate::enters::{Comes, Enters, Stays};
+use crate::enters::{EarlyEnd, Enters, Entrant};
 use crate::handed_on::refilled;
 use base::NoMemory;
 use command_output::Unread;
@@ -16,7 +17,7 @@ use srv6_rules::Family;
 use srv6_rules::numbers::MAX_PACKET_LEN;
 use walk_rules::{How, Place};
 
-/// A node, at which packets enter. (own rule)
+/// A node, at which packets enter.
 #[derive(Clone, Copy, Debug, Drop)]
 pub(crate) struct AtNode {
     pub(crate) node: u32,
@@ -25,7 +26,7 @@ pub(crate) struct AtNode {
 impl AtNode {
     /// Where a packet of a family enters.
     fn place(&self, family: Family) -> Place
-        ensures { result ≡ entry_place self.now.node family }
+        ensures { result ≡ admission_place self.now.node family }
     {
         Place {
             node: self.node,
@@ -47,23 +48,23 @@ fn copied(family: Family, bytes: &[u8], buf: &mut PktBuf) -> Result<Content, NoM
 impl Enters for AtNode {
     ghost ready = { λ _. ⊤ };
 
-    ghost entry = { entry_at };
+    ghost entry = { admission_at };
 
-    fn stays(&self, frame: &LentFrame<'_>) -> Option<Stays> {
+    fn stays(&self, frame: &LentFrame<'_>) -> Option<EarlyEnd> {
         match frame.body() {
             LentBody::V6(_) | LentBody::V4(_) => None,
-            LentBody::ShortFrame => Some(Stays::NotRead(Unread::ShortFrame)),
-            LentBody::NotIp => Some(Stays::NotRead(Unread::NotIp)),
+            LentBody::ShortFrame => Some(EarlyEnd::NotRead(Unread::ShortFrame)),
+            LentBody::NotIp => Some(EarlyEnd::NotRead(Unread::NotIp)),
         }
     }
 
-    fn enter(&self, frame: &LentFrame<'_>, buf: &mut PktBuf) -> Result<Option<Comes>, NoMemory> {
+    fn enter(&self, frame: &LentFrame<'_>, buf: &mut PktBuf) -> Result<Option<Entrant>, NoMemory> {
         let (family, bytes) = match frame.body() {
             LentBody::V6(bytes) => (Family::V6, bytes),
             LentBody::V4(bytes) => (Family::V4, bytes),
             LentBody::ShortFrame | LentBody::NotIp => return Ok(None),
         };
-        Ok(Some(Comes {
+        Ok(Some(Entrant {
             place: self.place(family),
             content: copied(family, bytes, buf)?,
         }))

@@ -3,7 +3,6 @@
 use net_model::Net;
 
 /// A network, the choices that each packet's decisions take, and the order of the packets' stages.
-/// (own rule)
 #[derive(Clone, Copy, Drop)]
 pub struct Course<'a> {
     /// The network.

@@ -11,7 +11,6 @@ use std::mem;
 /// Takes a buffer with other bytes in it and at least so many spare in front of them; a buffer
 /// without bytes is left in its place. Memory is taken, and wanting, only where the buffer has
 /// fewer bytes in all, spare or not; for want of it the buffer stays, and all its bytes are spare.
-/// (own rule)
 pub fn refilled(buf: &mut PktBuf, spare: usize, bytes: &[u8]) -> Result<PktBuf, NoMemory>
     requires spare { spare ≤ MAX_PACKET_LEN }
     requires bytes { length bytes.now ≤ MAX_PACKET_LEN }

@@ -4,13 +4,14 @@ ghost use Rattle.std.specs.Prelude.{◌≡◌, ◌≤◌, ◌∷◌, [], IfOk, I
 ghost use Rattle.icmp6_errors.specs.Answer.{error_bytes};
 ghost use Rattle.pcap_io.specs.Capture.{written_head_bytes};
 ghost use Rattle.srv6_rules.specs.Packet.{Content as ContentValue, Packet as PacketValue, bytes_of};
-ghost use Rattle.command_output.specs.Answers.{ending_of_step};
-ghost use Rattle.command_output.specs.Gathered.{Goes, pooled};
-ghost use Rattle.command_output.specs.Pieces.{ForOut};
+ghost use Rattle.command_output.specs.CommandAnswers.{ending_of_step};
+ghost use Rattle.command_output.specs.GatheredTerms.{Goes, pooled};
+ghost use Rattle.command_output.specs.OutputPieces.{ForOut};
 ghost use Rattle.command_output.specs.Sent.{IsEnd};
-ghost use Rattle.run_commands.specs.Capture.{IsWritable, frame_by};
+ghost use Rattle.run_commands.specs.WrittenCapture.{frame_by};
+ghost use Rattle.run_commands.specs.WrittenCaptureTerms.{IsWritable};
 ghost use Rattle.trace_replay.specs.Numbered.{IsNumbered};
-ghost use Rattle.walk_rules.specs.Laws.{TellsOfError};
+ghost use Rattle.walk_rules.specs.WalkLawsTerms.{TellsOfError};
 ghost use Rattle.walk_rules.specs.Relation.{IsPlace};
 ghost use Rattle.walk_rules.specs.Treatment.{step_of};
 ghost use Rattle.walk_rules.specs.Walk.{next_place as place_after, end_by};
@@ -26,7 +27,7 @@ use std::alloc::Global;
 use trace_replay::an_outcome_names_what_is_there;
 use walk_rules::{Outcome, Place};
 
-/// Writes the capture's head. (own rule)
+/// Writes the capture's head.
 #[tactic(auto, using(command_output::proofs::PublicLaws::going))]
 pub fn put_head<O: Sink, E: Sink>(
     alloc: Global,
@@ -44,8 +45,8 @@ pub fn put_head<O: Sink, E: Sink>(
 }
 
 /// Writes what a stage sends: the packet on a link, with the link's number from 1 as microseconds,
-/// or the ICMPv6 error about what is dropped, with 0. (own rule)
-#[tactic(auto, using(crate::proofs::Walking::errors))]
+/// or the ICMPv6 error about what is dropped, with 0.
+#[tactic(auto, using(crate::proofs::DriverWalking::errors))]
 pub fn put_sent<O: Sink, E: Sink>(
     number: u32,
     outcome: &Outcome,
@@ -76,7 +77,7 @@ pub fn put_sent<O: Sink, E: Sink>(
 }
 
 /// Takes one stage, of which what it sends can be written; the slot has the error about what it
-/// drops. `NoMemory` leaves what stands there as it was, and the slot too. (own rule)
+/// drops. `NoMemory` leaves what stands there as it was, and the slot too.
 pub fn take_stage(
     alloc: Global,
     net: &Net,

@@ -1,17 +1,17 @@
 //! A packet's walk, written by the pool as it goes.
 
 ghost use Rattle.std.specs.Prelude.{◌≡◌, ◌<◌, ◌∷◌, [], IfOk, length};
-ghost use Rattle.command_output.specs.Answers.{ending_of_step};
-ghost use Rattle.command_output.specs.Gathered.{Goes, pooled};
-ghost use Rattle.command_output.specs.Pieces.{ForOut};
+ghost use Rattle.command_output.specs.CommandAnswers.{ending_of_step};
+ghost use Rattle.command_output.specs.GatheredTerms.{Goes, pooled};
+ghost use Rattle.command_output.specs.OutputPieces.{ForOut};
 ghost use Rattle.command_output.specs.Sent.{IsEnd};
-ghost use Rattle.run_commands.specs.Capture.{frames_of};
-ghost use Rattle.run_commands.specs.Entry.{walk_of_comes};
+ghost use Rattle.run_commands.specs.WrittenCapture.{frames_of};
+ghost use Rattle.run_commands.specs.Admission.{walk_of_entrant};
 ghost use Rattle.walk_rules.specs.Relation.{IsPlace};
 ghost use Rattle.walk_rules.specs.Walk.{end_of};
 
 use crate::course::Course;
-use crate::enters::Comes;
+use crate::enters::Entrant;
 use crate::put_stage::{put_sent, take_stage};
 use command_output::{Failure, Pool};
 use icmp6_errors::IcmpSlot;
@@ -32,11 +32,11 @@ pub(crate) struct Walked {
 
 /// Walks a packet from where it enters and writes each of its frames, with its number, and that of
 /// the ICMPv6 error about it, if a node sends one. Decision d takes the choice at d modulo the
-/// number of choices. The walk ends as its last stage does, after at most 10,000 stages. (own rule)
+/// number of choices. The walk ends as its last stage does, after at most 10,000 stages.
 pub(crate) fn put_walk<O: Sink, E: Sink>(
     alloc: Global,
     course: &Course<'_>,
-    comes: Comes,
+    comes: Entrant,
     number: u32,
     pool: &mut Pool,
     out: &mut O,
@@ -45,15 +45,15 @@ pub(crate) fn put_walk<O: Sink, E: Sink>(
     requires place { IsPlace course.now.net.now comes.place }
     requires choices { 0 < length course.now.choices.now }
     ensures ended { IfOk result (λ walked. walked.ended ≡ end_of course.now.net.now
-        (walk_of_comes course.now.net.now course.now.choices.now comes)) }
+        (walk_of_entrant course.now.net.now course.now.choices.now comes)) }
     ensures within { IfOk result (λ walked. IsEnd course.now.net.now walked.ended) }
     ensures wrote { Goes (ending_of_step result)
         (ForOut (frames_of number
-        (walk_of_comes course.now.net.now course.now.choices.now comes)) ∷ [])
+        (walk_of_entrant course.now.net.now course.now.choices.now comes)) ∷ [])
         (pooled pool.old (O.seen out.old) (E.seen err.old))
         (pooled pool.new (O.seen out.new) (E.seen err.new)) }
 {
-    let Comes {
+    let Entrant {
         mut place,
         mut content,
     } = comes;

@@ -2,17 +2,20 @@
 
 ghost use Rattle.std.specs.Prelude.{◌≡◌, ◌<◌, ◌+◌, ◌^◌, ◌∷◌, [], IfSome, None, OnErr, OnOk, Option, Some, length};
 ghost use Rattle.icmp6_errors.specs.Answer.{error_bytes};
-ghost use Rattle.packet_walk.specs.Flight.{IsGiven, entering, packet_of, turned};
-ghost use Rattle.packet_walk.specs.Schedule.{comings_of, next_of};
+ghost use Rattle.packet_walk.specs.Flight.{entering, packet_of, turned};
+ghost use Rattle.packet_walk.specs.FlightTerms.{IsGiven};
+ghost use Rattle.packet_walk.specs.ScheduleTerms.{comings_of, next_of};
 ghost use Rattle.node_stage.specs.Fronted.{fronted};
 ghost use Rattle.srv6_rules.specs.Packet.{Packet as PacketValue, bytes_of};
-ghost use Rattle.walk_rules.specs.Laws.{TellsOfError};
+ghost use Rattle.walk_rules.specs.WalkLawsTerms.{TellsOfError};
 ghost use Rattle.walk_rules.specs.Relation.{IsPlace};
-ghost use Rattle.command_output.specs.Answers.{ending_of_step};
-ghost use Rattle.run_commands.specs.Capture.{IsWritable, frame_by};
-ghost use Rattle.command_output.specs.Gathered.{Goes, pooled};
-ghost use Rattle.command_output.specs.Pieces.{ForErr, ForOut};
-ghost use Rattle.run_commands.specs.Scheduled.{IsEntered, IsInStep, line_by, pieces_of_stage, scheduled_pieces};
+ghost use Rattle.command_output.specs.CommandAnswers.{ending_of_step};
+ghost use Rattle.run_commands.specs.WrittenCapture.{frame_by};
+ghost use Rattle.run_commands.specs.WrittenCaptureTerms.{IsWritable};
+ghost use Rattle.command_output.specs.GatheredTerms.{Goes, pooled};
+ghost use Rattle.command_output.specs.OutputPieces.{ForErr, ForOut};
+ghost use Rattle.run_commands.specs.Scheduled.{line_by, pieces_of_stage, scheduled_pieces};
+ghost use Rattle.run_commands.specs.ScheduledTerms.{IsEntered, IsInStep};
 ghost use Rattle.command_output.specs.Sent.{IsEnd};
 
 use crate::course::Course;
@@ -26,7 +29,7 @@ use srx_edge::Sink;
 use std::alloc::Global;
 use walk_rules::{Outcome, Place};
 
-/// Packets that entered, with the numbers of their frames. (own rule)
+/// Packets that entered, with the numbers of their frames.
 #[derive(Debug, Drop)]
 pub(crate) struct Entered<'a> {
     /// The packets.
@@ -36,7 +39,7 @@ pub(crate) struct Entered<'a> {
 }
 
 impl<'a> Entered<'a> {
-    /// None yet; takes no memory. (own rule)
+    /// None yet; takes no memory.
     pub(crate) fn new(alloc: Global, net: &'a Net) -> Entered<'a>
         ensures flight { result.flight ≡ record { net = net.now; error = []; packets = [] } }
         ensures numbers { result.numbers.items ≡ [] }
@@ -48,7 +51,7 @@ impl<'a> Entered<'a> {
     }
 
     /// What stands at a place enters there after the packets before it, with the number of its
-    /// frame, and with the choices of its decisions (own rule). `NoMemory` leaves all as it was.
+    /// frame, and with the choices of its decisions. `NoMemory` leaves all as it was.
     pub(crate) fn enter(
         &mut self,
         number: u32,
@@ -163,8 +166,8 @@ fn put_turn<O: Sink, E: Sink>(
     put_end(alloc, net, flight, turn, pool, out, err)
 }
 
-/// Writes all stages of the packets that entered, in the order of the schedule. (own rule)
-#[tactic(auto, using(crate::proofs::Turning::by_turns))]
+/// Writes all stages of the packets that entered, in the order of the schedule.
+#[tactic(auto, using(crate::proofs::DriverTurning::by_turns))]
 pub(crate) fn put_turns<O: Sink, E: Sink>(
     alloc: Global,
     course: &Course<'_>,

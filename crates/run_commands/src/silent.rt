@@ -5,7 +5,7 @@ ghost use Rattle.run_commands.specs.Silent.{silent_seen};
 use srx_edge::{Sink, SinkFault};
 
 /// A sink that takes all bytes and tells of none; what is written for `out` alone never comes to
-/// it. (own rule)
+/// it.
 #[derive(Clone, Copy, Debug, Drop)]
 pub struct Silent;
 

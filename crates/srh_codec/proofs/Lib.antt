@@ -1,3 +1,3 @@
 pub mod ViewLemmas
-pub mod WriteLemmas
+pub mod SrhWriteLemmas
 pub mod ItemLemmas

@@ -1,3 +1,3 @@
 pub mod Viewing
-pub mod Reading
+pub mod SrhReading
 pub mod Writing

@@ -1,3 +1,4 @@
+-- Need not be believed: helps proofs and other laws.
 -- The segment routing header that a view shows (RFC 8754 section 2).
 use Rattle.std.specs.Prelude.{◌≡◌, ◌+◌, ◌*◌, ◌^◌, ◌<◌, length, slice_index, All}
 use Rattle.srv6_rules.specs.declared.numbers.TheConstants.{EXTENSION_UNIT, EXTENSION_LEN_AT}

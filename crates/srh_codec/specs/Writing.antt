@@ -1,3 +1,4 @@
+-- Need not be believed: helps proofs and other laws.
 -- The segment routing header that is written over a segment list (RFC 8754 sections 2 and 4.1).
 use Rattle.std.specs.Prelude.{ℕ, false, List, map, reverse}
 use Rattle.v6_addr.specs.declared.address.Addr.{Addr}

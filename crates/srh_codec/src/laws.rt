@@ -4,8 +4,9 @@ ghost use Rattle.std.specs.Prelude.{◌≡◌, ◌<◌, ◌≤◌, ◌-◌, ◌*
 ghost use Rattle.srv6_rules.specs.Behaviours.{ipv6_inside};
 ghost use Rattle.srv6_rules.specs.Encapsulation.{Encapsulation, segment_list, segment_routing_of};
 ghost use Rattle.srv6_rules.specs.Packet.{address_bytes};
-ghost use Rattle.srv6_rules.specs.Srh.{Srh, IsSrhSpellable, srh_spelling, entries_of, entry_of, tlv_bytes};
-ghost use Rattle.srh_codec.specs.Reading.{IsRead};
+ghost use Rattle.srv6_rules.specs.Srh.{Srh, srh_spelling, entries_of, entry_of, tlv_bytes};
+ghost use Rattle.srv6_rules.specs.SrhTerms.{IsSrhSpellable};
+ghost use Rattle.srh_codec.specs.SrhReading.{IsRead};
 ghost use Rattle.srh_codec.specs.Writing.{header_over};
 ghost use Rattle.ip6_headers.specs.declared.chain.BadChain.{BadChain};
 

@@ -2,7 +2,7 @@
 
 ghost use Rattle.std.specs.Prelude.{◌≡◌, ◌<◌, slice_set};
 ghost use Rattle.srv6_rules.specs.Srh.{srh_spelling, entries_of, entry_of, tlv_bytes};
-ghost use Rattle.srh_codec.specs.Reading.{IsRead};
+ghost use Rattle.srh_codec.specs.SrhReading.{IsRead};
 
 use ip6_headers::{BadChain, Stands, address_at, stands_at, two_at};
 use srv6_rules::numbers::{

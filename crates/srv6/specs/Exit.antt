@@ -1,4 +1,4 @@
--- How the program ends (own rules).
+-- How the program ends.
 use Rattle.std.specs.Prelude.{◌≡◌, ◌⊎◌, ℕ, List, drop, String}
 use Rattle.std.specs.Process.{exit_status}
 use Rattle.std.specs.declared.alloc.Global.{Global}
@@ -7,7 +7,7 @@ use Rattle.command_output.specs.Outside.{Outside}
 use Rattle.command_output.specs.Verbs.{words_of}
 use Rattle.command_output.specs.declared.status.Status.{Status}
 use Rattle.command_output.specs.declared.status.Status.TheVariants as statuses
-use Rattle.srv6_cli.specs.Command.{command_of}
+use Rattle.srv6_cli.specs.Commands.{command_of}
 use Rattle.srv6_cli.specs.Serves.{Serves}
 
 -- the exit status of each status

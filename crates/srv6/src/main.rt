@@ -17,7 +17,7 @@ use std::alloc::{AllocError, Global};
 use std::process::ExitCode;
 use std::{env, io};
 
-/// The words after the program's name, which is the first of all words. (own rule)
+/// The words after the program's name, which is the first of all words.
 fn words_after_name(alloc: Global, all: env::Args) -> Result<Vec<String>, AllocError>
     ensures { IfOk result (λ words. words.items ≡ drop 1 (into_iter_items all)) }
 {
@@ -30,7 +30,7 @@ fn words_after_name(alloc: Global, all: env::Args) -> Result<Vec<String>, AllocE
     Ok(words)
 }
 
-/// The exit status of a status: from 0 for `Done` to 6 for `NoMemory`. (own rule)
+/// The exit status of a status: from 0 for `Done` to 6 for `NoMemory`.
 fn exit_code(status: Status) -> ExitCode
     ensures { exit_status result ≡ exit_number status }
 {
@@ -38,7 +38,7 @@ fn exit_code(status: Status) -> ExitCode
 }
 
 /// Runs the command of the words after the program's name over files, an input and outputs. Want of
-/// memory for these words is answered before anything is asked for, read or written. (own rule)
+/// memory for these words is answered before anything is asked for, read or written.
 fn run<F: Files, S: Source, O: Sink, E: Sink>(
     alloc: Global,
     all: env::Args,

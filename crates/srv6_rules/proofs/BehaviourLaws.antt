@@ -13,69 +13,69 @@ abbrev GoesOn : Behaviour → Type 0
 GoesOn b =
     (b ≡ End) ⊎ ((b ≡ EndX) ⊎ (((table : ℕ) × (b ≡ EndT table)) ⊎ (((policy : ℕ) × (b ≡ B6 policy)) ⊎ ((policy : ℕ) × (b ≡ B6Red policy)))))
 
-goes_on-forth : (b : Behaviour) → behaviour_goes_on b ≡ true → GoesOn b
-goes_on-forth End e = inl refl
-goes_on-forth EndX e = inr (inl refl)
-goes_on-forth (EndT table) e = inr (inr (inl (table, refl)))
-goes_on-forth Dx6 e = cc
-goes_on-forth Dx4 e = cc
-goes_on-forth (Dt6 table) e = cc
-goes_on-forth (Dt4 table) e = cc
-goes_on-forth (Dt46 table) e = cc
-goes_on-forth (B6 policy) e = inr (inr (inr (inl (policy, refl))))
-goes_on-forth (B6Red policy) e = inr (inr (inr (inr (policy, refl))))
+goes_on_forth : (b : Behaviour) → behaviour_goes_on b ≡ true → GoesOn b
+goes_on_forth End e = inl refl
+goes_on_forth EndX e = inr (inl refl)
+goes_on_forth (EndT table) e = inr (inr (inl (table, refl)))
+goes_on_forth Dx6 e = cc
+goes_on_forth Dx4 e = cc
+goes_on_forth (Dt6 table) e = cc
+goes_on_forth (Dt4 table) e = cc
+goes_on_forth (Dt46 table) e = cc
+goes_on_forth (B6 policy) e = inr (inr (inr (inl (policy, refl))))
+goes_on_forth (B6Red policy) e = inr (inr (inr (inr (policy, refl))))
 
-goes_on-back : (b : Behaviour) → GoesOn b → behaviour_goes_on b ≡ true
-goes_on-back b (inl e) = ap behaviour_goes_on e
-goes_on-back b (inr (inl e)) = ap behaviour_goes_on e
-goes_on-back b (inr (inr (inl t))) = ap behaviour_goes_on t.1
-goes_on-back b (inr (inr (inr (inl t)))) = ap behaviour_goes_on t.1
-goes_on-back b (inr (inr (inr (inr t)))) = ap behaviour_goes_on t.1
+goes_on_back : (b : Behaviour) → GoesOn b → behaviour_goes_on b ≡ true
+goes_on_back b (inl e) = ap behaviour_goes_on e
+goes_on_back b (inr (inl e)) = ap behaviour_goes_on e
+goes_on_back b (inr (inr (inl t))) = ap behaviour_goes_on t.1
+goes_on_back b (inr (inr (inr (inl t)))) = ap behaviour_goes_on t.1
+goes_on_back b (inr (inr (inr (inr t)))) = ap behaviour_goes_on t.1
 
-pub goes_on-is : (s : SidEntry) → (goes_on s ≡ true) ↔ GoesOn s.behaviour
-goes_on-is s = (λ e. goes_on-forth s.behaviour e, λ h. goes_on-back s.behaviour h)
+pub goes_on_is : (s : SidEntry) → (goes_on s ≡ true) ↔ GoesOn s.behaviour
+goes_on_is s = (λ e. goes_on_forth s.behaviour e, λ h. goes_on_back s.behaviour h)
 
 -- ---- what exposes
 
 abbrev ExposesIpv6 : Behaviour → Type 0
 ExposesIpv6 b = (b ≡ Dx6) ⊎ (((table : ℕ) × (b ≡ Dt6 table)) ⊎ ((table : ℕ) × (b ≡ Dt46 table)))
 
-ipv6-forth : (b : Behaviour) → behaviour_exposes b ipv6_inside ≡ true → ExposesIpv6 b
-ipv6-forth End e = cc
-ipv6-forth EndX e = cc
-ipv6-forth (EndT table) e = cc
-ipv6-forth Dx6 e = inl refl
-ipv6-forth Dx4 e = cc
-ipv6-forth (Dt6 table) e = inr (inl (table, refl))
-ipv6-forth (Dt4 table) e = cc
-ipv6-forth (Dt46 table) e = inr (inr (table, refl))
-ipv6-forth (B6 policy) e = cc
-ipv6-forth (B6Red policy) e = cc
+ipv6_forth : (b : Behaviour) → behaviour_exposes b ipv6_inside ≡ true → ExposesIpv6 b
+ipv6_forth End e = cc
+ipv6_forth EndX e = cc
+ipv6_forth (EndT table) e = cc
+ipv6_forth Dx6 e = inl refl
+ipv6_forth Dx4 e = cc
+ipv6_forth (Dt6 table) e = inr (inl (table, refl))
+ipv6_forth (Dt4 table) e = cc
+ipv6_forth (Dt46 table) e = inr (inr (table, refl))
+ipv6_forth (B6 policy) e = cc
+ipv6_forth (B6Red policy) e = cc
 
-ipv6-back : (b : Behaviour) → ExposesIpv6 b → behaviour_exposes b ipv6_inside ≡ true
-ipv6-back b (inl e) = ap (λ x. behaviour_exposes x ipv6_inside) e
-ipv6-back b (inr (inl t)) = ap (λ x. behaviour_exposes x ipv6_inside) t.1
-ipv6-back b (inr (inr t)) = ap (λ x. behaviour_exposes x ipv6_inside) t.1
+ipv6_back : (b : Behaviour) → ExposesIpv6 b → behaviour_exposes b ipv6_inside ≡ true
+ipv6_back b (inl e) = ap (λ x. behaviour_exposes x ipv6_inside) e
+ipv6_back b (inr (inl t)) = ap (λ x. behaviour_exposes x ipv6_inside) t.1
+ipv6_back b (inr (inr t)) = ap (λ x. behaviour_exposes x ipv6_inside) t.1
 
 -- a behaviour exposes, or the flavour USD does
-usd-forth : (a usd : Bool) → (a || (usd && true)) ≡ true → (a ≡ true) ⊎ (usd ≡ true)
-usd-forth true usd e = inl refl
-usd-forth false true e = inr refl
-usd-forth false false e = cc
+usd_forth : (a usd : Bool) → (a || (usd && true)) ≡ true → (a ≡ true) ⊎ (usd ≡ true)
+usd_forth true usd e = inl refl
+usd_forth false true e = inr refl
+usd_forth false false e = cc
 
-usd-back : (a usd : Bool) → (a ≡ true) ⊎ (usd ≡ true) → (a || (usd && true)) ≡ true
-usd-back true usd h = refl
-usd-back false usd (inl e) = cc
-usd-back false usd (inr e) = rw e refl
+usd_back : (a usd : Bool) → (a ≡ true) ⊎ (usd ≡ true) → (a || (usd && true)) ≡ true
+usd_back true usd h = refl
+usd_back false usd (inl e) = cc
+usd_back false usd (inr e) = rw e refl
 
-pub exposes-ipv6 : (s : SidEntry) → (exposes s ipv6_inside ≡ true) ↔ (ExposesIpv6 s.behaviour ⊎ (s.usd ≡ true))
-exposes-ipv6 s = (
-  λ e. elim (usd-forth (behaviour_exposes s.behaviour ipv6_inside) s.usd e) [
-    | inl b ↦ inl (ipv6-forth s.behaviour b)
+pub exposes_ipv6 : (s : SidEntry) → (exposes s ipv6_inside ≡ true) ↔ (ExposesIpv6 s.behaviour ⊎ (s.usd ≡ true))
+exposes_ipv6 s = (
+  λ e. elim (usd_forth (behaviour_exposes s.behaviour ipv6_inside) s.usd e) [
+    | inl b ↦ inl (ipv6_forth s.behaviour b)
     | inr usd ↦ inr usd
   ],
-  λ h. usd-back (behaviour_exposes s.behaviour ipv6_inside) s.usd (elim h [
-    | inl b ↦ inl (ipv6-back s.behaviour b)
+  λ h. usd_back (behaviour_exposes s.behaviour ipv6_inside) s.usd (elim h [
+    | inl b ↦ inl (ipv6_back s.behaviour b)
     | inr usd ↦ inr usd
   ]),
 )
@@ -83,58 +83,58 @@ exposes-ipv6 s = (
 abbrev ExposesIpv4 : Behaviour → Type 0
 ExposesIpv4 b = (b ≡ Dx4) ⊎ (((table : ℕ) × (b ≡ Dt4 table)) ⊎ ((table : ℕ) × (b ≡ Dt46 table)))
 
-ipv4-forth : (b : Behaviour) → behaviour_exposes b ipv4_inside ≡ true → ExposesIpv4 b
-ipv4-forth End e = cc
-ipv4-forth EndX e = cc
-ipv4-forth (EndT table) e = cc
-ipv4-forth Dx6 e = cc
-ipv4-forth Dx4 e = inl refl
-ipv4-forth (Dt6 table) e = cc
-ipv4-forth (Dt4 table) e = inr (inl (table, refl))
-ipv4-forth (Dt46 table) e = inr (inr (table, refl))
-ipv4-forth (B6 policy) e = cc
-ipv4-forth (B6Red policy) e = cc
+ipv4_forth : (b : Behaviour) → behaviour_exposes b ipv4_inside ≡ true → ExposesIpv4 b
+ipv4_forth End e = cc
+ipv4_forth EndX e = cc
+ipv4_forth (EndT table) e = cc
+ipv4_forth Dx6 e = cc
+ipv4_forth Dx4 e = inl refl
+ipv4_forth (Dt6 table) e = cc
+ipv4_forth (Dt4 table) e = inr (inl (table, refl))
+ipv4_forth (Dt46 table) e = inr (inr (table, refl))
+ipv4_forth (B6 policy) e = cc
+ipv4_forth (B6Red policy) e = cc
 
-ipv4-back : (b : Behaviour) → ExposesIpv4 b → behaviour_exposes b ipv4_inside ≡ true
-ipv4-back b (inl e) = ap (λ x. behaviour_exposes x ipv4_inside) e
-ipv4-back b (inr (inl t)) = ap (λ x. behaviour_exposes x ipv4_inside) t.1
-ipv4-back b (inr (inr t)) = ap (λ x. behaviour_exposes x ipv4_inside) t.1
+ipv4_back : (b : Behaviour) → ExposesIpv4 b → behaviour_exposes b ipv4_inside ≡ true
+ipv4_back b (inl e) = ap (λ x. behaviour_exposes x ipv4_inside) e
+ipv4_back b (inr (inl t)) = ap (λ x. behaviour_exposes x ipv4_inside) t.1
+ipv4_back b (inr (inr t)) = ap (λ x. behaviour_exposes x ipv4_inside) t.1
 
-pub exposes-ipv4 : (s : SidEntry) → (exposes s ipv4_inside ≡ true) ↔ (ExposesIpv4 s.behaviour ⊎ (s.usd ≡ true))
-exposes-ipv4 s = (
-  λ e. elim (usd-forth (behaviour_exposes s.behaviour ipv4_inside) s.usd e) [
-    | inl b ↦ inl (ipv4-forth s.behaviour b)
+pub exposes_ipv4 : (s : SidEntry) → (exposes s ipv4_inside ≡ true) ↔ (ExposesIpv4 s.behaviour ⊎ (s.usd ≡ true))
+exposes_ipv4 s = (
+  λ e. elim (usd_forth (behaviour_exposes s.behaviour ipv4_inside) s.usd e) [
+    | inl b ↦ inl (ipv4_forth s.behaviour b)
     | inr usd ↦ inr usd
   ],
-  λ h. usd-back (behaviour_exposes s.behaviour ipv4_inside) s.usd (elim h [
-    | inl b ↦ inl (ipv4-back s.behaviour b)
+  λ h. usd_back (behaviour_exposes s.behaviour ipv4_inside) s.usd (elim h [
+    | inl b ↦ inl (ipv4_back s.behaviour b)
     | inr usd ↦ inr usd
   ]),
 )
 
-kinds-by : (b : Behaviour) (kind : ℕ) → behaviour_exposes b kind ≡ true → (kind ≡ ipv6_inside) ⊎ (kind ≡ ipv4_inside)
-kinds-by End kind e = cc
-kinds-by EndX kind e = cc
-kinds-by (EndT table) kind e = cc
-kinds-by Dx6 kind e = inl (eqb-true kind ipv6_inside e)
-kinds-by Dx4 kind e = inr (eqb-true kind ipv4_inside e)
-kinds-by (Dt6 table) kind e = inl (eqb-true kind ipv6_inside e)
-kinds-by (Dt4 table) kind e = inr (eqb-true kind ipv4_inside e)
-kinds-by (Dt46 table) kind e = elim (or_cases (kind == ipv6_inside) (kind == ipv4_inside) e) [
+kinds_by : (b : Behaviour) (kind : ℕ) → behaviour_exposes b kind ≡ true → (kind ≡ ipv6_inside) ⊎ (kind ≡ ipv4_inside)
+kinds_by End kind e = cc
+kinds_by EndX kind e = cc
+kinds_by (EndT table) kind e = cc
+kinds_by Dx6 kind e = inl (eqb-true kind ipv6_inside e)
+kinds_by Dx4 kind e = inr (eqb-true kind ipv4_inside e)
+kinds_by (Dt6 table) kind e = inl (eqb-true kind ipv6_inside e)
+kinds_by (Dt4 table) kind e = inr (eqb-true kind ipv4_inside e)
+kinds_by (Dt46 table) kind e = elim (or_cases (kind == ipv6_inside) (kind == ipv4_inside) e) [
   | inl six ↦ inl (eqb-true kind ipv6_inside six)
   | inr four ↦ inr (eqb-true kind ipv4_inside four)
 ]
-kinds-by (B6 policy) kind e = cc
-kinds-by (B6Red policy) kind e = cc
+kinds_by (B6 policy) kind e = cc
+kinds_by (B6Red policy) kind e = cc
 
 second : (a b : Bool) → (a && b) ≡ true → b ≡ true
 second true b e = e
 second false b e = cc
 
 -- a packet inside is one of IPv6 or of IPv4
-pub exposes-kinds : (s : SidEntry) (kind : ℕ) → exposes s kind ≡ true → (kind ≡ ipv6_inside) ⊎ (kind ≡ ipv4_inside)
-exposes-kinds s kind e = elim (or_cases (behaviour_exposes s.behaviour kind) (s.usd && is_packet_inside kind) e) [
-  | inl b ↦ kinds-by s.behaviour kind b
+pub exposes_kinds : (s : SidEntry) (kind : ℕ) → exposes s kind ≡ true → (kind ≡ ipv6_inside) ⊎ (kind ≡ ipv4_inside)
+exposes_kinds s kind e = elim (or_cases (behaviour_exposes s.behaviour kind) (s.usd && is_packet_inside kind) e) [
+  | inl b ↦ kinds_by s.behaviour kind b
   | inr both ↦ elim (or_cases (kind == ipv6_inside) (kind == ipv4_inside) (second s.usd (is_packet_inside kind) both)) [
     | inl six ↦ inl (eqb-true kind ipv6_inside six)
     | inr four ↦ inr (eqb-true kind ipv4_inside four)
@@ -142,28 +142,28 @@ exposes-kinds s kind e = elim (or_cases (behaviour_exposes s.behaviour kind) (s.
 ]
 
 -- and its kind names its family
-pub exposes-family : (s : SidEntry) (kind : ℕ) → exposes s kind ≡ true
+pub exposes_family : (s : SidEntry) (kind : ℕ) → exposes s kind ≡ true
     → ((kind ≡ ipv6_inside) × (family_inside kind ≡ families.V6)) ⊎ ((kind ≡ ipv4_inside) × (family_inside kind ≡ families.V4))
-exposes-family s kind e = elim (exposes-kinds s kind e) [
+exposes_family s kind e = elim (exposes_kinds s kind e) [
   | inl six ↦ inl (six, ap family_inside six)
   | inr four ↦ inr (four, ap family_inside four)
 ]
 
-goes_on-exposes_by : (b : Behaviour) (kind : ℕ) → behaviour_goes_on b ≡ true → behaviour_exposes b kind ≡ false
-goes_on-exposes_by End kind e = refl
-goes_on-exposes_by EndX kind e = refl
-goes_on-exposes_by (EndT table) kind e = refl
-goes_on-exposes_by Dx6 kind e = cc
-goes_on-exposes_by Dx4 kind e = cc
-goes_on-exposes_by (Dt6 table) kind e = cc
-goes_on-exposes_by (Dt4 table) kind e = cc
-goes_on-exposes_by (Dt46 table) kind e = cc
-goes_on-exposes_by (B6 policy) kind e = refl
-goes_on-exposes_by (B6Red policy) kind e = refl
+goes_on_exposes_by : (b : Behaviour) (kind : ℕ) → behaviour_goes_on b ≡ true → behaviour_exposes b kind ≡ false
+goes_on_exposes_by End kind e = refl
+goes_on_exposes_by EndX kind e = refl
+goes_on_exposes_by (EndT table) kind e = refl
+goes_on_exposes_by Dx6 kind e = cc
+goes_on_exposes_by Dx4 kind e = cc
+goes_on_exposes_by (Dt6 table) kind e = cc
+goes_on_exposes_by (Dt4 table) kind e = cc
+goes_on_exposes_by (Dt46 table) kind e = cc
+goes_on_exposes_by (B6 policy) kind e = refl
+goes_on_exposes_by (B6Red policy) kind e = refl
 
 -- a SID that goes on exposes nothing without USD, and with it a packet of either family
-pub goes_on-exposes : (s : SidEntry) (kind : ℕ) → goes_on s ≡ true → s.usd ≡ false → exposes s kind ≡ false
-goes_on-exposes s kind e no_usd = rw (goes_on-exposes_by s.behaviour kind e, no_usd) refl
+pub goes_on_exposes : (s : SidEntry) (kind : ℕ) → goes_on s ≡ true → s.usd ≡ false → exposes s kind ≡ false
+goes_on_exposes s kind e no_usd = rw (goes_on_exposes_by s.behaviour kind e, no_usd) refl
 
-pub goes_on-exposes_usd : (s : SidEntry) (kind : ℕ) → goes_on s ≡ true → s.usd ≡ true → exposes s kind ≡ is_packet_inside kind
-goes_on-exposes_usd s kind e usd = rw (goes_on-exposes_by s.behaviour kind e, usd) refl
+pub goes_on_exposes_usd : (s : SidEntry) (kind : ℕ) → goes_on s ≡ true → s.usd ≡ true → exposes s kind ≡ is_packet_inside kind
+goes_on_exposes_usd s kind e usd = rw (goes_on_exposes_by s.behaviour kind e, usd) refl

@@ -5,25 +5,27 @@ use Rattle.std.proofs.lemmas.List.{get_or_past, length-reverse}
 use Rattle.std.proofs.lemmas.List.Elements.{All-nil, All-append}
 use Rattle.srv6_rules.specs.Behaviours.{ipv6_inside}
 use Rattle.srv6_rules.specs.Packet.{Packet, IsSpellable, most_len, spelling, two_bytes, address_bytes}
-use Rattle.srv6_rules.specs.Srh.{IsSrhSpellable, srh_spelling}
+use Rattle.srv6_rules.specs.Srh.{srh_spelling}
+use Rattle.srv6_rules.specs.SrhTerms.{IsSrhSpellable}
 use Rattle.srv6_rules.specs.Chain.{routing}
-use Rattle.srv6_rules.specs.Encapsulation.{Encapsulation, segment_list, has_segment_routing, segment_routing_of, outer, at_segment, header_bytes, IsSpellableEncapsulation, inner_lowered, encapsulated}
-use Rattle.srv6_rules.proofs.Bytes.{all-address_bytes}
-use Rattle.srv6_rules.proofs.Packets.{length-spelling, all-spelling}
-use Rattle.srv6_rules.proofs.Edits.{edit-hop_limit}
-use Rattle.srv6_rules.proofs.Headers.{all-srh_spelling}
-use Rattle.srv6_rules.proofs.Encapsulations.{length-body, list-no_more, more-routing, outer-routed, outer-bare, length-outer}
+use Rattle.srv6_rules.specs.Encapsulation.{Encapsulation, segment_list, has_segment_routing, segment_routing_of, outer, at_segment, header_bytes, inner_lowered}
+use Rattle.srv6_rules.specs.EncapsulationTerms.{IsSpellableEncapsulation, encapsulated}
+use Rattle.srv6_rules.proofs.Bytes.{all_address_bytes}
+use Rattle.srv6_rules.proofs.PacketPackets.{length_spelling, all_spelling}
+use Rattle.srv6_rules.proofs.PacketEdits.{edit_hop_limit}
+use Rattle.srv6_rules.proofs.Headers.{all_srh_spelling}
+use Rattle.srv6_rules.proofs.Encapsulations.{length_body, list_no_more, more_routing, outer_routed, outer_bare, length_outer}
 
 -- ---- packets that bytes can spell
 
-all-entries : (list : List ℕ) → All (λ b. b < 2 ^ 8) (flat_map address_bytes list)
-all-entries [] = All-nil (λ b. b < 2 ^ 8)
-all-entries (a ∷ list) = All-append (λ b. b < 2 ^ 8) (address_bytes a) (flat_map address_bytes list) (all-address_bytes a)
-    (all-entries list)
+all_entries : (list : List ℕ) → All (λ b. b < 2 ^ 8) (flat_map address_bytes list)
+all_entries [] = All-nil (λ b. b < 2 ^ 8)
+all_entries (a ∷ list) = All-append (λ b. b < 2 ^ 8) (address_bytes a) (flat_map address_bytes list) (all_address_bytes a)
+    (all_entries list)
 
-header-spellable : (e : Encapsulation) (left : ℕ) → IsSpellableEncapsulation e → left < 2 ^ 8 → IsSrhSpellable (segment_routing_of e left)
-header-spellable e left ok below =
-    let list = list-no_more e in
+header_spellable : (e : Encapsulation) (left : ℕ) → IsSpellableEncapsulation e → left < 2 ^ 8 → IsSrhSpellable (segment_routing_of e left)
+header_spellable e left ok below =
+    let list = list_no_more e in
     let most = ok.most in
     record {
       next_header = omega arith;
@@ -32,56 +34,56 @@ header-spellable e left ok below =
       last_entry = omega arith;
       flags = omega arith;
       tag = omega arith;
-      body_len = length-body e left;
-      body = all-entries (segment_list e);
+      body_len = length_body e left;
+      body = all_entries (segment_list e);
     }
 
 -- an address of a list, or 0 past its end
-address-below : (segments : List ℕ) (i : ℕ) → All (λ a. a < 2 ^ 128) segments → slice_index segments i < 2 ^ 128
-address-below segments i all = elim (cases_lt i (length segments)) [
+address_below : (segments : List ℕ) (i : ℕ) → All (λ a. a < 2 ^ 128) segments → slice_index segments i < 2 ^ 128
+address_below segments i all = elim (cases_lt i (length segments)) [
   | inl within ↦ all i 0 within
   | inr past ↦ rw (get_or_past segments i 0 past) (omega arith)
 ]
 
-outer-payload_bytes : (e : Encapsulation) (inner : List ℕ) (left hop destination : ℕ) → IsSpellableEncapsulation e → left < 2 ^ 8
+outer_payload_bytes : (e : Encapsulation) (inner : List ℕ) (left hop destination : ℕ) → IsSpellableEncapsulation e → left < 2 ^ 8
     → All (λ b. b < 2 ^ 8) inner
     → All (λ b. b < 2 ^ 8) (outer e inner left hop destination).payload
-outer-payload_bytes e inner left hop destination ok below all =
+outer_payload_bytes e inner left hop destination ok below all =
     let Q : Packet → Type 0 = λ p. All (λ b. b < 2 ^ 8) p.payload in
     elim (cases_Bool (has_segment_routing e)) [
-      | inl has ↦ subst Q (sym (outer-routed e inner left hop destination has))
+      | inl has ↦ subst Q (sym (outer_routed e inner left hop destination has))
           (All-append (λ b. b < 2 ^ 8) (srh_spelling (segment_routing_of e left)) inner
-          (all-srh_spelling (segment_routing_of e left) (header-spellable e left ok below)) all)
-      | inr not ↦ subst Q (sym (outer-bare e inner left hop destination not)) all
+          (all_srh_spelling (segment_routing_of e left) (header_spellable e left ok below)) all)
+      | inr not ↦ subst Q (sym (outer_bare e inner left hop destination not)) all
     ]
 
-outer-next_header : (has : Bool) → (if has then routing else ipv6_inside) < 2 ^ 8
-outer-next_header true = omega arith
-outer-next_header false = omega arith
+outer_next_header : (has : Bool) → (if has then routing else ipv6_inside) < 2 ^ 8
+outer_next_header true = omega arith
+outer_next_header false = omega arith
 
-pub at_segment-spellable : (e : Encapsulation) (inner : List ℕ) (i hop : ℕ) → IsSpellableEncapsulation e → hop < 2 ^ 8
+pub at_segment_spellable : (e : Encapsulation) (inner : List ℕ) (i hop : ℕ) → IsSpellableEncapsulation e → hop < 2 ^ 8
     → All (λ b. b < 2 ^ 8) inner
     → header_bytes e.reduced (length e.segments) + length inner ≤ most_len → IsSpellable (at_segment e inner i hop)
-at_segment-spellable e inner i hop ok low all short =
+at_segment_spellable e inner i hop ok low all short =
     let left : ℕ = length e.segments - 1 - i in
     let most = ok.most in
     let below : left < 2 ^ 8 = omega arith in
-    let len = length-outer e inner left hop (slice_index e.segments i) in
+    let len = length_outer e inner left hop (slice_index e.segments i) in
     record {
       traffic_class = ok.traffic_class;
       flow_label = ok.flow_label;
-      next_header = outer-next_header (has_segment_routing e);
+      next_header = outer_next_header (has_segment_routing e);
       hop_limit = low;
       source = ok.source;
-      destination = address-below e.segments i ok.segments;
+      destination = address_below e.segments i ok.segments;
       payload_len = omega arith;
-      payload = outer-payload_bytes e inner left hop (slice_index e.segments i) ok below all;
+      payload = outer_payload_bytes e inner left hop (slice_index e.segments i) ok below all;
     }
 
 -- ---- a packet that is encapsulated
 
-pub lowered-spellable : (p : Packet) → IsSpellable p → IsSpellable (inner_lowered p)
-lowered-spellable p ok =
+pub lowered_spellable : (p : Packet) → IsSpellable p → IsSpellable (inner_lowered p)
+lowered_spellable p ok =
     let hop : p.hop_limit < 2 ^ 8 = ok.hop_limit in
     record {
       traffic_class = ok.traffic_class;
@@ -95,80 +97,80 @@ lowered-spellable p ok =
     }
 
 -- the hop limit's byte alone is another
-pub lowered-spelling : (p : Packet) → spelling (inner_lowered p) ≡ slice_set (spelling p) 7 (p.hop_limit - 1)
-lowered-spelling p = edit-hop_limit p (p.hop_limit - 1)
+pub lowered_spelling : (p : Packet) → spelling (inner_lowered p) ≡ slice_set (spelling p) 7 (p.hop_limit - 1)
+lowered_spelling p = edit_hop_limit p (p.hop_limit - 1)
 
-pub encapsulated-spellable : (e : Encapsulation) (p : Packet) (hop : ℕ) → IsSpellableEncapsulation e → IsSpellable p → hop < 2 ^ 8
+pub encapsulated_spellable : (e : Encapsulation) (p : Packet) (hop : ℕ) → IsSpellableEncapsulation e → IsSpellable p → hop < 2 ^ 8
     → header_bytes e.reduced (length e.segments) + length (spelling p) ≤ most_len → IsSpellable (encapsulated e p hop)
-encapsulated-spellable e p hop ok inner low short =
-    let one = length-spelling p in
-    let two = length-spelling (inner_lowered p) in
+encapsulated_spellable e p hop ok inner low short =
+    let one = length_spelling p in
+    let two = length_spelling (inner_lowered p) in
     let same : length (spelling (inner_lowered p)) ≡ length (spelling p) = two ∙ sym one in
-    at_segment-spellable e (spelling (inner_lowered p)) 0 hop ok low (all-spelling (inner_lowered p) (lowered-spellable p inner))
+    at_segment_spellable e (spelling (inner_lowered p)) 0 hop ok low (all_spelling (inner_lowered p) (lowered_spellable p inner))
     (omega arith)
 
 -- the header bytes of at least one segment grow with their number
-pub header_bytes-more : (reduced : Bool) (m n : ℕ) → 0 < m → m < n → header_bytes reduced m < header_bytes reduced n
-header_bytes-more true m n some more =
+pub header_bytes_more : (reduced : Bool) (m n : ℕ) → 0 < m → m < n → header_bytes reduced m < header_bytes reduced n
+header_bytes_more true m n some more =
     let many : nat_lt 1 n ≡ true = lt-ltb 1 n (omega arith) in
     elim (cases_Bool (nat_lt 1 m)) [
       | inl two ↦ rw (many, two) (omega arith)
       | inr one ↦ let few = ltb-false 1 m one in rw (many, one) (omega arith)
     ]
-header_bytes-more false m n some more = omega arith
+header_bytes_more false m n some more = omega arith
 
 -- ---- the forms
 
-pub list-full : (e : Encapsulation) (left : ℕ) → e.reduced ≡ false
+pub list_full : (e : Encapsulation) (left : ℕ) → e.reduced ≡ false
     → (has_segment_routing e ≡ true) × (segment_list e ≡ reverse e.segments)
     × ((segment_routing_of e left).last_entry ≡ length e.segments - 1)
-list-full e left full =
+list_full e left full =
     let list : segment_list e ≡ reverse e.segments = rw full refl in
     (rw full refl, list, ap (λ xs. length xs - 1) list ∙ ap (λ n. n - 1) (length-reverse e.segments))
 
-pub list-reduced : (e : Encapsulation) (left : ℕ) → e.reduced ≡ true → 1 < length e.segments
+pub list_reduced : (e : Encapsulation) (left : ℕ) → e.reduced ≡ true → 1 < length e.segments
     → (has_segment_routing e ≡ true) × (segment_list e ≡ reverse (drop 1 e.segments))
     × ((segment_routing_of e left).last_entry ≡ length e.segments - 2)
-list-reduced e left reduced more =
+list_reduced e left reduced more =
     let list : segment_list e ≡ reverse (drop 1 e.segments) = rw reduced refl in
     let len : length (reverse (drop 1 e.segments)) ≡ length e.segments - 1 = length-reverse (drop 1 e.segments)
     ∙ length-drop 1 e.segments in
-    (more-routing e more, list, ap (λ xs. length xs - 1) list ∙ omega arith)
+    (more_routing e more, list, ap (λ xs. length xs - 1) list ∙ omega arith)
 
-pub list-one : (e : Encapsulation) → e.reduced ≡ true → length e.segments ≡ 1 → has_segment_routing e ≡ false
-list-one e reduced one = rw (reduced, one) refl
+pub list_one : (e : Encapsulation) → e.reduced ≡ true → length e.segments ≡ 1 → has_segment_routing e ≡ false
+list_one e reduced one = rw (reduced, one) refl
 
-pub outer-with_header : (e : Encapsulation) (inner : List ℕ) (left hop destination : ℕ) → has_segment_routing e ≡ true
+pub outer_with_header : (e : Encapsulation) (inner : List ℕ) (left hop destination : ℕ) → has_segment_routing e ≡ true
     → ((outer e inner left hop destination).next_header ≡ routing)
     × ((outer e inner left hop destination).payload ≡ srh_spelling (segment_routing_of e left) ++ inner)
-outer-with_header e inner left hop destination has =
-    let is = outer-routed e inner left hop destination has in
+outer_with_header e inner left hop destination has =
+    let is = outer_routed e inner left hop destination has in
     (ap (λ (p : Packet). p.next_header) is, ap (λ (p : Packet). p.payload) is)
 
-pub outer-without_header : (e : Encapsulation) (inner : List ℕ) (left hop destination : ℕ) → has_segment_routing e ≡ false
+pub outer_without_header : (e : Encapsulation) (inner : List ℕ) (left hop destination : ℕ) → has_segment_routing e ≡ false
     → ((outer e inner left hop destination).next_header ≡ ipv6_inside) × ((outer e inner left hop destination).payload ≡ inner)
-outer-without_header e inner left hop destination has =
-    let is = outer-bare e inner left hop destination has in
+outer_without_header e inner left hop destination has =
+    let is = outer_bare e inner left hop destination has in
     (ap (λ (p : Packet). p.next_header) is, ap (λ (p : Packet). p.payload) is)
 
 -- the header byte by byte: its first eight, and the entries
-pub header-bytes : (e : Encapsulation) (left : ℕ) → srh_spelling (segment_routing_of e left)
+pub header_bytes_law : (e : Encapsulation) (left : ℕ) → srh_spelling (segment_routing_of e left)
     ≡ 41 ∷ (2 * length (segment_list e)) ∷ 4 ∷ left ∷ (length (segment_list e) - 1) ∷ 0 ∷ 0 ∷ 0 ∷ flat_map address_bytes (segment_list e)
 unfolding two_bytes
-header-bytes e left = refl
+header_bytes_law e left = refl
 
 -- ---- lengths of spellings
 
-pub length-at_segment : (e : Encapsulation) (inner : List ℕ) (i hop : ℕ)
+pub length_at_segment : (e : Encapsulation) (inner : List ℕ) (i hop : ℕ)
     → length (spelling (at_segment e inner i hop)) ≡ header_bytes e.reduced (length e.segments) + length inner
-length-at_segment e inner i hop =
-    length-spelling (at_segment e inner i hop) ∙ length-outer e inner (length e.segments - 1 - i) hop (slice_index e.segments i)
+length_at_segment e inner i hop =
+    length_spelling (at_segment e inner i hop) ∙ length_outer e inner (length e.segments - 1 - i) hop (slice_index e.segments i)
 
-pub length-encapsulated : (e : Encapsulation) (p : Packet) (hop : ℕ)
+pub length_encapsulated : (e : Encapsulation) (p : Packet) (hop : ℕ)
     → length (spelling (encapsulated e p hop)) ≡ header_bytes e.reduced (length e.segments) + length (spelling p)
-length-encapsulated e p hop =
-    length-at_segment e (spelling (inner_lowered p)) 0 hop
-    ∙ ap (λ n. header_bytes e.reduced (length e.segments) + n) (length-spelling (inner_lowered p) ∙ sym (length-spelling p))
+length_encapsulated e p hop =
+    length_at_segment e (spelling (inner_lowered p)) 0 hop
+    ∙ ap (λ n. header_bytes e.reduced (length e.segments) + n) (length_spelling (inner_lowered p) ∙ sym (length_spelling p))
 
-pub header_bytes-reduced : (n : ℕ) → 1 < n → header_bytes true n ≡ 32 + 16 * n
-header_bytes-reduced n more = let many : nat_lt 1 n ≡ true = lt-ltb 1 n more in rw many refl
+pub header_bytes_reduced : (n : ℕ) → 1 < n → header_bytes true n ≡ 32 + 16 * n
+header_bytes_reduced n more = let many : nat_lt 1 n ≡ true = lt-ltb 1 n more in rw many refl

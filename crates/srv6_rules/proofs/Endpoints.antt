@@ -12,16 +12,18 @@ use Rattle.srv6_rules.specs.Behaviours.{goes_on, exposes, family_inside}
 use Rattle.srv6_rules.specs.Packet.{Packet, header_len}
 use Rattle.srv6_rules.specs.Srh.{srh_of, segments_left_at}
 use Rattle.srv6_rules.specs.Areas.{tlvs_fault}
-use Rattle.srv6_rules.specs.Chain.{ChainPlace, Header, ChainEnd, Upper, Cut, LiesIn, StandsIn, without, segments_left, is_segment_routing, start_of, place_of, from_place, chain_at, chain_of}
+use Rattle.srv6_rules.specs.Chain.{ChainPlace, Header, ChainEnd, Upper, Cut, without, segments_left, is_segment_routing, start_of, from_place, chain_of}
+use Rattle.srv6_rules.specs.ChainTerms.{LiesIn, StandsIn, place_of, chain_at}
 use Rattle.srv6_rules.specs.CompressedSteps.{ReplaceStep, Moved, AtEnd, Dropped, compression_of, is_next, is_replace, is_at_end, shifted, replace_step}
-use Rattle.srv6_rules.specs.Endpoint.{Endpoint, Onward, Exposed, Delivered, Refused, StepsTo, StepsWithPsp, MovesWithPsp, TakesWhole, ExposesFrom, IsPassed, IsSkipped, IsReached, outcome_without, as_in, leaves_none, after_step, after_last, is_allowed, has_bad_segments, advanced, next_segment, next_csid, shifts_at, by_replace_step, at_whole_segments, at_packed_segments, at_segment_routing, at_sid_routing, at_header, at_last_upper, at_upper, at_end, at_sid}
-use Rattle.srv6_rules.proofs.BehaviourLaws.{exposes-family}
-use Rattle.srv6_rules.proofs.AreaItems.{tlvs_fault-within}
-use Rattle.srv6_rules.proofs.Chains.{start-stands, chain_at-stand}
-use Rattle.srv6_rules.proofs.Reached.{over-reached, reached-lies, reached-stands}
-use Rattle.srv6_rules.proofs.Treatments.{fault_cases, sid-known, known-whole, known-packed, whole-last, whole-steps, whole-refuses, packed-steps, packed-last, packed-refuses, last-stays, last-out}
-use Rattle.srv6_rules.proofs.HeadersAtSids.{header-by, at_header-known, end-skipped}
-use Rattle.srv6_rules.proofs.SteppedPackets.{step-at_end, at_end-none, step-place}
+use Rattle.srv6_rules.specs.Endpoint.{Endpoint, Onward, Exposed, Delivered, Refused, outcome_without, as_in, leaves_none, after_step, after_last, is_allowed, has_bad_segments, advanced, next_segment, next_csid, shifts_at, by_replace_step, at_whole_segments, at_packed_segments, at_segment_routing, at_sid_routing, at_header, at_last_upper, at_upper, at_end, at_sid}
+use Rattle.srv6_rules.specs.EndpointTerms.{StepsTo, StepsWithPsp, MovesWithPsp, TakesWhole, ExposesFrom, IsPassed, IsSkipped, IsReached}
+use Rattle.srv6_rules.proofs.BehaviourLaws.{exposes_family}
+use Rattle.srv6_rules.proofs.AreaItems.{tlvs_fault_within}
+use Rattle.srv6_rules.proofs.Chains.{start_stands, chain_at_stand}
+use Rattle.srv6_rules.proofs.PacketReached.{over_reached, reached_lies, reached_stands}
+use Rattle.srv6_rules.proofs.Treatments.{fault_cases, sid_known, known_whole, known_packed, whole_last, whole_steps, whole_refuses, packed_steps, packed_last, packed_refuses, last_stays, last_out}
+use Rattle.srv6_rules.proofs.HeadersAtSids.{header_by, at_header_known, end_skipped}
+use Rattle.srv6_rules.proofs.SteppedPackets.{step_at_end, at_end_none, step_place}
 
 -- ---- what is so of each outcome at a SID
 
@@ -37,17 +39,17 @@ AtSid s p (Delivered q) = s.usp ≡ false → q ≡ p
 AtSid s p (Refused reason at) = at ≤ header_len + length p.payload
 
 -- the chain of a packet ends at a place of it
-pub end-stands : (p : Packet) → StandsIn p (place_of (chain_of p).end)
+pub end_stands : (p : Packet) → StandsIn p (place_of (chain_of p).end)
 unfolding chain_at
-end-stands p = (chain_at-stand p (start_of p) (start-stands p)).1
+end_stands p = (chain_at_stand p (start_of p) (start_stands p)).1
 
 -- the step over a segment routing header refuses the packet at a place of it, or makes the next segment the destination
-pub next_segment-cases : (p : Packet) (h : Header) → LiesIn p h
+pub next_segment_cases : (p : Packet) (h : Header) → LiesIn p h
     → ((reason : Reason) × (at : ℕ) × (at ≤ header_len + length p.payload)
     × (next_segment p h.place.at (srh_of h.bytes) ≡ Refused reason at))
     ⊎ ((1 < p.hop_limit) × ((tlvs_fault h.place.at (srh_of h.bytes) ≡ None)
     × (next_segment p h.place.at (srh_of h.bytes) ≡ Onward (advanced p h.place.at (srh_of h.bytes)))))
-next_segment-cases p h lies =
+next_segment_cases p h lies =
     let within = lies.within in
     let least = lies.least in
     elim (cases_Bool (nat_le p.hop_limit 1)) [
@@ -57,37 +59,37 @@ next_segment-cases p h lies =
         | inr fine ↦ elim (fault_cases (tlvs_fault h.place.at (srh_of h.bytes))) [
           | inl good ↦ inr (leb-false p.hop_limit 1 high, (good, rw (high, fine, good) refl))
           | inr (f, bad) ↦
-              let place = tlvs_fault-within p h f lies bad in
+              let place = tlvs_fault_within p h f lies bad in
               inl (f.reason, f.at, omega arith, rw (high, fine, bad) refl)
         ]
       ]
     ]
 
-pub after_step-refused : (s : SidEntry) (h : Header) (reason : Reason) (at : ℕ) → after_step s h (Refused reason at) ≡ Refused reason at
-after_step-refused s h reason at = elim (cases_Bool (s.psp && leaves_none (srh_of h.bytes))) [
+pub after_step_refused : (s : SidEntry) (h : Header) (reason : Reason) (at : ℕ) → after_step s h (Refused reason at) ≡ Refused reason at
+after_step_refused s h reason at = elim (cases_Bool (s.psp && leaves_none (srh_of h.bytes))) [
   | inl pops ↦ rw pops refl
   | inr stays ↦ rw stays refl
 ]
 
 -- Segments Left is 0 after the step exactly where it was 1
-left-none : (n : ℕ) → (n ≡ 0 → ⊥) → ((n - 1) == 0) ≡ (n == 1)
-left-none zero some = absurd (some refl)
-left-none (suc zero) some = refl
-left-none (suc (suc n)) some = ne_eqb (suc (suc n) - 1) 0 (omega arith) ∙ sym (ne_eqb (suc (suc n)) 1 (omega arith))
+left_none : (n : ℕ) → (n ≡ 0 → ⊥) → ((n - 1) == 0) ≡ (n == 1)
+left_none zero some = absurd (some refl)
+left_none (suc zero) some = refl
+left_none (suc (suc n)) some = ne_eqb (suc (suc n) - 1) 0 (omega arith) ∙ sym (ne_eqb (suc (suc n)) 1 (omega arith))
 
 module _ (s : SidEntry) (p : Packet) where
-  skipped-passed : s.usp ≡ false → (h : Header) → IsSkipped s p h → IsPassed (at_header s p) h
-  skipped-passed no_usp h (inl passed) = passed
-  skipped-passed no_usp h (inr out) = let usp = out.usp in cc
+  skipped_passed : s.usp ≡ false → (h : Header) → IsSkipped s p h → IsPassed (at_header s p) h
+  skipped_passed no_usp h (inl passed) = passed
+  skipped_passed no_usp h (inr out) = let usp = out.usp in cc
 
-  reached-passed : s.usp ≡ false → (h : Header) → IsReached (IsSkipped s p) (chain_of p).headers h
+  reached_passed : s.usp ≡ false → (h : Header) → IsReached (IsSkipped s p) (chain_of p).headers h
       → IsReached (IsPassed (at_header s p)) (chain_of p).headers h
-  reached-passed no_usp h r =
+  reached_passed no_usp h r =
       record {
         before = r.before;
         after = r.after;
         split = r.split;
-        passed = λ i d below. skipped-passed no_usp (get_or r.before i d) (r.passed i d below);
+        passed = λ i d below. skipped_passed no_usp (get_or r.before i d) (r.passed i d below);
       }
 
   steps : s.usp ≡ false → (h : Header) → IsReached (IsSkipped s p) (chain_of p).headers h → LiesIn p h → is_segment_routing h ≡ true
@@ -97,7 +99,7 @@ module _ (s : SidEntry) (p : Packet) where
       record {
         header = h;
         left = segments_left h - 1;
-        reached = reached-passed no_usp h reached;
+        reached = reached_passed no_usp h reached;
         routing = routing;
         lies = lies;
         above_one = above;
@@ -110,97 +112,97 @@ module _ (s : SidEntry) (p : Packet) where
       }
 
   -- where the SID takes whole segments it is neither of the others
-  onward-whole : (q : Packet) → shifts_at s p ≡ false → is_replace s.csid ≡ false → (s.usp ≡ false → StepsWithPsp s p q) → GoesOn s p q
-  onward-whole q stays whole steps =
+  onward_whole : (q : Packet) → shifts_at s p ≡ false → is_replace s.csid ≡ false → (s.usp ≡ false → StepsWithPsp s p q) → GoesOn s p q
+  onward_whole q stays whole steps =
       record { whole = λ takes. steps; packed = λ is no_usp. cc; shift = λ is. cc }
 
-  onward-packed : (q : Packet) → shifts_at s p ≡ false → is_replace s.csid ≡ true → (s.usp ≡ false → MovesWithPsp s p q) → GoesOn s p q
-  onward-packed q stays packed moves =
+  onward_packed : (q : Packet) → shifts_at s p ≡ false → is_replace s.csid ≡ true → (s.usp ≡ false → MovesWithPsp s p q) → GoesOn s p q
+  onward_packed q stays packed moves =
       record { whole = λ takes no_usp. let not = takes.whole in cc; packed = λ is. moves; shift = λ is. cc }
 
-  onward-is : (h : Header) → shifts_at s p ≡ false → is_replace s.csid ≡ false → IsReached (IsSkipped s p) (chain_of p).headers h
+  onward_is : (h : Header) → shifts_at s p ≡ false → is_replace s.csid ≡ false → IsReached (IsSkipped s p) (chain_of p).headers h
       → LiesIn p h → is_segment_routing h ≡ true
       → (segments_left h ≡ 0 → ⊥) → 1 < p.hop_limit → tlvs_fault h.place.at (srh_of h.bytes) ≡ None
       → AtSid s p (after_step s h (Onward (advanced p h.place.at (srh_of h.bytes))))
   unfolding steps
-  onward-is h stays whole reached lies routing some above good =
+  onward_is h stays whole reached lies routing some above good =
       let q : Packet = advanced p h.place.at (srh_of h.bytes) in
-      let same = left-none (segments_left h) some in
+      let same = left_none (segments_left h) some in
       elim (cases_Bool (s.psp && (segments_left h == 1))) [
         | inl pops ↦
             let test : (s.psp && ((segments_left h - 1) == 0)) ≡ true = ap (λ b. s.psp && b) same ∙ pops in
-            rw pops (onward-whole (without q (as_in q h)) stays whole (λ no_usp. record {
+            rw pops (onward_whole (without q (as_in q h)) stays whole (λ no_usp. record {
               stepped = q;
               step = steps no_usp h reached lies routing some above good;
               popped = rw test refl;
             }))
         | inr keeps ↦
             let test : (s.psp && ((segments_left h - 1) == 0)) ≡ false = ap (λ b. s.psp && b) same ∙ keeps in
-            rw keeps (onward-whole q stays whole (λ no_usp. record {
+            rw keeps (onward_whole q stays whole (λ no_usp. record {
               stepped = q;
               step = steps no_usp h reached lies routing some above good;
               popped = rw test refl;
             }))
       ]
 
-  stepped-is : (h : Header) → shifts_at s p ≡ false → is_replace s.csid ≡ false → IsReached (IsSkipped s p) (chain_of p).headers h
+  stepped_is : (h : Header) → shifts_at s p ≡ false → is_replace s.csid ≡ false → IsReached (IsSkipped s p) (chain_of p).headers h
       → LiesIn p h → is_segment_routing h ≡ true
       → (segments_left h ≡ 0 → ⊥) → AtSid s p (after_step s h (next_segment p h.place.at (srh_of h.bytes)))
-  stepped-is h stays whole reached lies routing some =
+  stepped_is h stays whole reached lies routing some =
       let P : Endpoint → Type 0 = λ x. AtSid s p x in
-      elim (next_segment-cases p h lies) [
-        | inl (reason, at, within, e) ↦ subst P (sym (ap (after_step s h) e ∙ after_step-refused s h reason at)) within
+      elim (next_segment_cases p h lies) [
+        | inl (reason, at, within, e) ↦ subst P (sym (ap (after_step s h) e ∙ after_step_refused s h reason at)) within
         | inr (above, (good, e)) ↦ subst P (sym (ap (after_step s h) e))
-            (onward-is h stays whole reached lies routing some above good)
+            (onward_is h stays whole reached lies routing some above good)
       ]
 
   -- a header that is taken out changes nothing of what is so without USP
-  out-is : (h : Header) → shifts_at s p ≡ false → s.usp ≡ true → (x : Endpoint) → AtSid s p x → AtSid s p (outcome_without h x)
-  out-is h stays usp (Onward q) is =
+  out_is : (h : Header) → shifts_at s p ≡ false → s.usp ≡ true → (x : Endpoint) → AtSid s p x → AtSid s p (outcome_without h x)
+  out_is h stays usp (Onward q) is =
       record { whole = λ takes no_usp. cc; packed = λ packed no_usp. cc; shift = λ shifts. cc }
-  out-is h stays usp (Exposed family bytes) is = is
-  out-is h stays usp (Delivered q) is = λ no_usp. cc
-  out-is h stays usp (Refused reason at) is = is
+  out_is h stays usp (Exposed family bytes) is = is
+  out_is h stays usp (Delivered q) is = λ no_usp. cc
+  out_is h stays usp (Refused reason at) is = is
 
-  last-is : (h : Header) → shifts_at s p ≡ false → is_segment_routing h ≡ true → segments_left h ≡ 0
+  last_is : (h : Header) → shifts_at s p ≡ false → is_segment_routing h ≡ true → segments_left h ≡ 0
       → ((rest : Endpoint) → at_header s p h rest ≡ after_last s h rest)
       → (rest : Endpoint) → (IsSkipped s p h → AtSid s p rest) → AtSid s p (after_last s h rest)
-  last-is h stays is none same rest more =
+  last_is h stays is none same rest more =
       let P : Endpoint → Type 0 = λ x. AtSid s p x in
-      let so : AtSid s p rest = more (end-skipped s p h is none same) in
+      let so : AtSid s p rest = more (end_skipped s p h is none same) in
       elim (cases_Bool s.usp) [
-        | inl usp ↦ subst P (sym (last-out s p h rest usp)) (out-is h stays usp rest so)
-        | inr no_usp ↦ subst P (sym (last-stays s p h rest no_usp)) so
+        | inl usp ↦ subst P (sym (last_out s p h rest usp)) (out_is h stays usp rest so)
+        | inr no_usp ↦ subst P (sym (last_stays s p h rest no_usp)) so
       ]
 
   -- whole segments
-  whole-is : (h : Header) → shifts_at s p ≡ false → is_replace s.csid ≡ false → IsReached (IsSkipped s p) (chain_of p).headers h
+  whole_is : (h : Header) → shifts_at s p ≡ false → is_replace s.csid ≡ false → IsReached (IsSkipped s p) (chain_of p).headers h
       → LiesIn p h → is_segment_routing h ≡ true → ((x : Endpoint) → at_header s p h x ≡ at_whole_segments s p h x)
       → (rest : Endpoint) → (IsSkipped s p h → AtSid s p rest) → AtSid s p (at_whole_segments s p h rest)
-  whole-is h stays whole reached lies is same rest more =
+  whole_is h stays whole reached lies is same rest more =
       let P : Endpoint → Type 0 = λ x. AtSid s p x in
       let within = lies.within in
       let least = lies.least in
       elim (cases_Bool (segments_left h == 0)) [
-        | inl none ↦ subst P (sym (whole-last s p h rest none)) (last-is h stays is (eqb-true (segments_left h) 0 none)
-            (λ x. same x ∙ whole-last s p h x none) rest more)
+        | inl none ↦ subst P (sym (whole_last s p h rest none)) (last_is h stays is (eqb-true (segments_left h) 0 none)
+            (λ x. same x ∙ whole_last s p h x none) rest more)
         | inr some ↦ elim (cases_Bool (goes_on s)) [
-          | inl goes ↦ subst P (sym (whole-steps s p h rest some goes))
-              (stepped-is h stays whole reached lies is (eqb-false (segments_left h) 0 some))
-          | inr ends ↦ subst P (sym (whole-refuses s p h rest some ends)) (omega arith)
+          | inl goes ↦ subst P (sym (whole_steps s p h rest some goes))
+              (stepped_is h stays whole reached lies is (eqb-false (segments_left h) 0 some))
+          | inr ends ↦ subst P (sym (whole_refuses s p h rest some ends)) (omega arith)
         ]
       ]
 
   -- packed segments
-  moved-by : (h : Header) → shifts_at s p ≡ false → is_replace s.csid ≡ true → IsReached (IsSkipped s p) (chain_of p).headers h
+  moved_by : (h : Header) → shifts_at s p ≡ false → is_replace s.csid ≡ true → IsReached (IsSkipped s p) (chain_of p).headers h
       → LiesIn p h → is_segment_routing h ≡ true → (q : Packet) (ended : Bool)
       → replace_step (compression_of s) p h.place.at (srh_of h.bytes) ≡ Moved q ended
       → (pops : Bool) → (s.psp && ended) ≡ pops
       → AtSid s p (if pops then outcome_without h (Onward q) else Onward q)
-  moved-by h stays packed reached lies is q ended e true pops =
-      onward-packed (without q (as_in q h)) stays packed (λ no_usp. record {
+  moved_by h stays packed reached lies is q ended e true pops =
+      onward_packed (without q (as_in q h)) stays packed (λ no_usp. record {
         header = h;
-        reached = reached-passed no_usp h reached;
+        reached = reached_passed no_usp h reached;
         routing = is;
         lies = lies;
         stepped = q;
@@ -208,10 +210,10 @@ module _ (s : SidEntry) (p : Packet) where
         step = e;
         popped = rw pops refl;
       })
-  moved-by h stays packed reached lies is q ended e false keeps =
-      onward-packed q stays packed (λ no_usp. record {
+  moved_by h stays packed reached lies is q ended e false keeps =
+      onward_packed q stays packed (λ no_usp. record {
         header = h;
-        reached = reached-passed no_usp h reached;
+        reached = reached_passed no_usp h reached;
         routing = is;
         lies = lies;
         stepped = q;
@@ -220,61 +222,61 @@ module _ (s : SidEntry) (p : Packet) where
         popped = rw keeps refl;
       })
 
-  step-is : (h : Header) → shifts_at s p ≡ false → is_replace s.csid ≡ true → IsReached (IsSkipped s p) (chain_of p).headers h
+  step_is : (h : Header) → shifts_at s p ≡ false → is_replace s.csid ≡ true → IsReached (IsSkipped s p) (chain_of p).headers h
       → LiesIn p h → is_segment_routing h ≡ true → goes_on s ≡ true
       → ((x : Endpoint) → at_header s p h x ≡ at_packed_segments s p h x)
       → (rest : Endpoint) → (IsSkipped s p h → AtSid s p rest)
       → (r : ReplaceStep) → replace_step (compression_of s) p h.place.at (srh_of h.bytes) ≡ r
       → AtSid s p (by_replace_step s h rest r)
-  step-is h stays packed reached lies is goes same rest more (Moved q ended) e =
-      moved-by h stays packed reached lies is q ended e (s.psp && ended) refl
-  step-is h stays packed reached lies is goes same rest more AtEnd e =
+  step_is h stays packed reached lies is goes same rest more (Moved q ended) e =
+      moved_by h stays packed reached lies is q ended e (s.psp && ended) refl
+  step_is h stays packed reached lies is goes same rest more AtEnd e =
       let c = compression_of s in
-      last-is h stays is (at_end-none c (srh_of h.bytes) p.destination (step-at_end c p h.place.at (srh_of h.bytes) e))
-      (λ x. same x ∙ packed-steps s p h x goes ∙ ap (by_replace_step s h x) e) rest more
-  step-is h stays packed reached lies is goes same rest more (Dropped fault) e =
-      step-place (compression_of s) p h lies fault e
+      last_is h stays is (at_end_none c (srh_of h.bytes) p.destination (step_at_end c p h.place.at (srh_of h.bytes) e))
+      (λ x. same x ∙ packed_steps s p h x goes ∙ ap (by_replace_step s h x) e) rest more
+  step_is h stays packed reached lies is goes same rest more (Dropped fault) e =
+      step_place (compression_of s) p h lies fault e
 
-  packed-is : (h : Header) → shifts_at s p ≡ false → is_replace s.csid ≡ true → IsReached (IsSkipped s p) (chain_of p).headers h
+  packed_is : (h : Header) → shifts_at s p ≡ false → is_replace s.csid ≡ true → IsReached (IsSkipped s p) (chain_of p).headers h
       → LiesIn p h → is_segment_routing h ≡ true → ((x : Endpoint) → at_header s p h x ≡ at_packed_segments s p h x)
       → (rest : Endpoint) → (IsSkipped s p h → AtSid s p rest) → AtSid s p (at_packed_segments s p h rest)
-  packed-is h stays packed reached lies is same rest more =
+  packed_is h stays packed reached lies is same rest more =
       let P : Endpoint → Type 0 = λ x. AtSid s p x in
       let within = lies.within in
       let least = lies.least in
       let c = compression_of s in
       elim (cases_Bool (goes_on s)) [
-        | inl goes ↦ subst P (sym (packed-steps s p h rest goes))
-            (step-is h stays packed reached lies is goes same rest more (replace_step c p h.place.at (srh_of h.bytes)) refl)
+        | inl goes ↦ subst P (sym (packed_steps s p h rest goes))
+            (step_is h stays packed reached lies is goes same rest more (replace_step c p h.place.at (srh_of h.bytes)) refl)
         | inr ends ↦ elim (cases_Bool (is_at_end c (srh_of h.bytes) p.destination)) [
-          | inl end ↦ subst P (sym (packed-last s p h rest ends end))
-              (last-is h stays is (at_end-none c (srh_of h.bytes) p.destination end)
-              (λ x. same x ∙ packed-last s p h x ends end) rest more)
-          | inr some ↦ subst P (sym (packed-refuses s p h rest ends some)) (omega arith)
+          | inl end ↦ subst P (sym (packed_last s p h rest ends end))
+              (last_is h stays is (at_end_none c (srh_of h.bytes) p.destination end)
+              (λ x. same x ∙ packed_last s p h x ends end) rest more)
+          | inr some ↦ subst P (sym (packed_refuses s p h rest ends some)) (omega arith)
         ]
       ]
 
-  known-is : (h : Header) → shifts_at s p ≡ false → IsReached (IsSkipped s p) (chain_of p).headers h
+  known_is : (h : Header) → shifts_at s p ≡ false → IsReached (IsSkipped s p) (chain_of p).headers h
       → LiesIn p h → is_segment_routing h ≡ true → (rest : Endpoint) → (IsSkipped s p h → AtSid s p rest)
       → AtSid s p (at_segment_routing s p h rest)
-  known-is h stays reached lies is rest more =
+  known_is h stays reached lies is rest more =
       let P : Endpoint → Type 0 = λ x. AtSid s p x in
       elim (cases_Bool (is_replace s.csid)) [
-        | inl packed ↦ subst P (sym (known-packed s p h rest packed))
-            (packed-is h stays packed reached lies is (λ x. at_header-known s p h x stays is ∙ known-packed s p h x packed) rest more)
-        | inr whole ↦ subst P (sym (known-whole s p h rest whole))
-            (whole-is h stays whole reached lies is (λ x. at_header-known s p h x stays is ∙ known-whole s p h x whole) rest more)
+        | inl packed ↦ subst P (sym (known_packed s p h rest packed))
+            (packed_is h stays packed reached lies is (λ x. at_header_known s p h x stays is ∙ known_packed s p h x packed) rest more)
+        | inr whole ↦ subst P (sym (known_whole s p h rest whole))
+            (whole_is h stays whole reached lies is (λ x. at_header_known s p h x stays is ∙ known_whole s p h x whole) rest more)
       ]
 
-  routing-by_type : (h : Header) → shifts_at s p ≡ false → IsReached (IsSkipped s p) (chain_of p).headers h → LiesIn p h
+  routing_by_type : (h : Header) → shifts_at s p ≡ false → IsReached (IsSkipped s p) (chain_of p).headers h → LiesIn p h
       → (rest : Endpoint) → (IsSkipped s p h → AtSid s p rest) → ((x : Endpoint) → at_header s p h x ≡ at_sid_routing s p h x)
       → AtSid s p (at_sid_routing s p h rest)
-  routing-by_type h stays reached lies rest more same =
+  routing_by_type h stays reached lies rest more same =
       let within = lies.within in
       let least = lies.least in
       elim (cases_Bool (is_segment_routing h)) [
         | inl is ↦ let P : Endpoint → Type 0 = λ x. AtSid s p x in
-            subst P (sym (sid-known s p h rest is)) (known-is h stays reached lies is rest more)
+            subst P (sym (sid_known s p h rest is)) (known_is h stays reached lies is rest more)
         | inr other ↦ rw other (elim (cases_Bool (segments_left h == 0)) [
           | inl none ↦ rw none (more (inl (λ x. same x ∙ (rw (other, none) refl))))
           | inr some ↦ rw some (omega arith)
@@ -282,10 +284,10 @@ module _ (s : SidEntry) (p : Packet) where
       ]
 
   -- the packet that is shifted
-  next-by : shifts_at s p ≡ true → (low : Bool) → nat_le p.hop_limit 1 ≡ low
+  next_by : shifts_at s p ≡ true → (low : Bool) → nat_le p.hop_limit 1 ≡ low
       → AtSid s p (if low then Refused reasons.HopLimit 0 else Onward (shifted (compression_of s) p))
-  next-by shifts true e = omega arith
-  next-by shifts false e =
+  next_by shifts true e = omega arith
+  next_by shifts false e =
       record {
         whole = λ takes no_usp. let stays = takes.unshifted in cc;
         packed = λ packed no_usp. absurd (never s.csid (not (argument_of p.destination s.prefix.len == 0)) packed shifts);
@@ -297,53 +299,53 @@ module _ (s : SidEntry) (p : Packet) where
       never csids.Next b packed shifts = cc
       never csids.Replace b packed shifts = cc
 
-  next-is : shifts_at s p ≡ true → AtSid s p (next_csid s p)
-  next-is shifts = next-by shifts (nat_le p.hop_limit 1) refl
+  next_is : shifts_at s p ≡ true → AtSid s p (next_csid s p)
+  next_is shifts = next_by shifts (nat_le p.hop_limit 1) refl
 
-  at_header-is : (h : Header) → IsReached (IsSkipped s p) (chain_of p).headers h → (rest : Endpoint)
+  at_header_is : (h : Header) → IsReached (IsSkipped s p) (chain_of p).headers h → (rest : Endpoint)
       → (IsSkipped s p h → AtSid s p rest) → AtSid s p (at_header s p h rest)
   unfolding chain_at
-  at_header-is h reached rest more =
-      let lies = reached-lies (IsSkipped s p) p (start_of p) h (omega arith) reached in
-      let stands = reached-stands (IsSkipped s p) p (start_of p) h (start-stands p) reached in
+  at_header_is h reached rest more =
+      let lies = reached_lies (IsSkipped s p) p (start_of p) h (omega arith) reached in
+      let stands = reached_stands (IsSkipped s p) p (start_of p) h (start_stands p) reached in
       let within = lies.within in
-      header-by s p h (AtSid s p) rest lies stands next-is (λ passed. more (inl passed)) (λ reason at below. omega arith)
-      (λ stays same. routing-by_type h stays reached lies rest more same)
+      header_by s p h (AtSid s p) rest lies stands next_is (λ passed. more (inl passed)) (λ reason at below. omega arith)
+      (λ stays same. routing_by_type h stays reached lies rest more same)
 
-  upper-by : (place : ChainPlace) → (chain_of p).end ≡ Upper place → All (IsSkipped s p) (chain_of p).headers
+  upper_by : (place : ChainPlace) → (chain_of p).end ≡ Upper place → All (IsSkipped s p) (chain_of p).headers
       → StandsIn p place → (exposed allowed : Bool) → exposes s place.kind ≡ exposed
       → AtSid s p (if exposed then Exposed (family_inside place.kind) (from_place p place.at)
       else if allowed then Delivered p else Refused reasons.UpperLayer place.at)
-  upper-by place upper passed stands true allowed e =
+  upper_by place upper passed stands true allowed e =
       record {
         place = place;
         upper = upper;
         passed = passed;
         exposed = e;
-        is_family = exposes-family s place.kind e;
+        is_family = exposes_family s place.kind e;
         within = stands.within;
         inside = refl;
       }
-  upper-by place upper passed stands false true e = λ no_usp. refl
-  upper-by place upper passed stands false false e = stands.within
+  upper_by place upper passed stands false true e = λ no_usp. refl
+  upper_by place upper passed stands false false e = stands.within
 
-  at_end-is : (allow : List ℕ) (end : ChainEnd) → (chain_of p).end ≡ end → StandsIn p (place_of end)
+  at_end_is : (allow : List ℕ) (end : ChainEnd) → (chain_of p).end ≡ end → StandsIn p (place_of end)
       → All (IsSkipped s p) (chain_of p).headers → AtSid s p (at_end s allow p end)
-  at_end-is allow (Upper place) upper stands passed = upper-is (shifts_at s p) refl
+  at_end_is allow (Upper place) upper stands passed = upper_is (shifts_at s p) refl
     where
-      upper-is : (shifts : Bool) → shifts_at s p ≡ shifts
+      upper_is : (shifts : Bool) → shifts_at s p ≡ shifts
           → AtSid s p (if shifts then next_csid s p else at_last_upper s allow p place)
-      upper-is true is = next-is is
-      upper-is false stays = upper-by place upper passed stands (exposes s place.kind) (is_allowed allow place.kind) refl
-  at_end-is allow (Cut place) upper stands passed = stands.within
+      upper_is true is = next_is is
+      upper_is false stays = upper_by place upper passed stands (exposes s place.kind) (is_allowed allow place.kind) refl
+  at_end_is allow (Cut place) upper stands passed = stands.within
 
-  pub at_sid-is : (allow : List ℕ) → AtSid s p (at_sid s allow p)
-  at_sid-is allow =
-      over-reached (at_header s p) (IsSkipped s p) (AtSid s p) (chain_of p).headers (at_end s allow p (chain_of p).end)
-      (λ passed. at_end-is allow (chain_of p).end refl (end-stands p) passed)
-      (λ h rest reached more. at_header-is h reached rest more)
+  pub at_sid_is : (allow : List ℕ) → AtSid s p (at_sid s allow p)
+  at_sid_is allow =
+      over_reached (at_header s p) (IsSkipped s p) (AtSid s p) (chain_of p).headers (at_end s allow p (chain_of p).end)
+      (λ passed. at_end_is allow (chain_of p).end refl (end_stands p) passed)
+      (λ h rest reached more. at_header_is h reached rest more)
 
 -- in front of the upper layer a SID shifts too
-pub upper-shifts : (s : SidEntry) (allow : List ℕ) (p : Packet) (place : ChainPlace) → shifts_at s p ≡ true
+pub upper_shifts : (s : SidEntry) (allow : List ℕ) (p : Packet) (place : ChainPlace) → shifts_at s p ≡ true
     → at_upper s allow p place ≡ next_csid s p
-upper-shifts s allow p place shifts = rw shifts refl
+upper_shifts s allow p place shifts = rw shifts refl

@@ -1,14 +1,14 @@
 pub mod Bytes
 pub mod PacketWords
-pub mod Packets
+pub mod PacketPackets
 pub mod Packets4
 pub mod TimesToLive
-pub mod Contents
-pub mod Edits
+pub mod PacketContents
+pub mod PacketEdits
 pub mod Headers
 pub mod Chains
 pub mod AreaItems
-pub mod Reached
+pub mod PacketReached
 pub mod Treatments
 pub mod HeadersAtSids
 pub mod BehaviourLaws
@@ -23,7 +23,7 @@ pub mod CutPackets
 pub mod Without
 pub mod Checksums
 pub mod ErrorLaws
-pub mod Containers
+pub mod PacketContainers
 pub mod PackedEntries
 pub mod PolicyLaws
 pub mod SteppedPackets

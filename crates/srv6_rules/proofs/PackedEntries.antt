@@ -5,8 +5,9 @@ use Rattle.std.proofs.lemmas.List.Elements.{All-head, All-tail}
 use Rattle.std.proofs.Math.Nat.{div-one, zero-mod, mul-le-mul_right, pow-le-pow_right}
 use Rattle.v6_addr.specs.Address.{PrefixValue, Holds, field_of, with_field_of}
 use Rattle.v6_addr.proofs.PublicLaws.{same_below}
-use Rattle.srv6_rules.specs.Compressed.{IsCsidLen, IsReplaceSid, csid_of, csid_count, csid_at, index_of, with_index, replace_of, downward, packed_entry}
-use Rattle.srv6_rules.proofs.Containers.{sid_parts, csid_below, high_is}
+use Rattle.srv6_rules.specs.Compressed.{csid_of, csid_count, csid_at, index_of, with_index, replace_of, downward, packed_entry}
+use Rattle.srv6_rules.specs.CompressedTerms.{IsCsidLen, IsReplaceSid}
+use Rattle.srv6_rules.proofs.PacketContainers.{sid_parts, csid_below, high_is}
 
 -- ---- how many CSIDs there are
 
@@ -48,17 +49,17 @@ one_more c s x y = grind arith
 row_more : (i w : ℕ) → (i + 1) * w ≡ w + i * w
 row_more i w = grind arith
 
-downward-stacked : (w index i : ℕ) (cs : List ℕ) → (index + 1 + i) * w ≡ 128 → length cs ≤ index + 1
+downward_stacked : (w index i : ℕ) (cs : List ℕ) → (index + 1 + i) * w ≡ 128 → length cs ≤ index + 1
     → downward w index cs ≡ stacked w cs * 2 ^ (i * w)
-downward-stacked w index i [] all few = omega arith
-downward-stacked w index i (c ∷ []) all few =
+downward_stacked w index i [] all few = omega arith
+downward_stacked w index i (c ∷ []) all few =
     ap (λ n. c * 2 ^ n + 0) (place_is w index i all) ∙ one_alone c (2 ^ w) (2 ^ (i * w))
-downward-stacked w index i (c ∷ d ∷ ds) all few =
+downward_stacked w index i (c ∷ d ∷ ds) all few =
     let above : index - 1 + 1 + (i + 1) ≡ index + 1 + i = omega arith in
     let s : ℕ = stacked w (d ∷ ds) in
     ap (λ n. c * 2 ^ n + downward w (index - 1) (d ∷ ds)) (place_is w index i all)
     ∙ ap (λ n. c * 2 ^ (i * w) + n)
-    (downward-stacked w (index - 1) (i + 1) (d ∷ ds) (ap (λ n. n * w) above ∙ all) (omega arith))
+    (downward_stacked w (index - 1) (i + 1) (d ∷ ds) (ap (λ n. n * w) above ∙ all) (omega arith))
     ∙ ap (λ n. c * 2 ^ (i * w) + s * 2 ^ n) (row_more i w)
     ∙ ap (λ n. c * 2 ^ (i * w) + s * n) (pow-add 2 w (i * w))
     ∙ one_more c s (2 ^ w) (2 ^ (i * w))
@@ -69,19 +70,19 @@ no_bits k w =
     let none : 0 / 2 ^ k ≡ 0 = omega arith in
     ap (λ n. n % 2 ^ w) none ∙ zero-mod (2 ^ w)
 
-stacked-at : (w i : ℕ) (cs : List ℕ) → All (λ c. c < 2 ^ w) cs → stacked w cs / 2 ^ (i * w) % 2 ^ w ≡ get_or cs i 0
-stacked-at w i [] all = no_bits (i * w) w
-stacked-at w zero (c ∷ cs) all =
+stacked_at : (w i : ℕ) (cs : List ℕ) → All (λ c. c < 2 ^ w) cs → stacked w cs / 2 ^ (i * w) % 2 ^ w ≡ get_or cs i 0
+stacked_at w i [] all = no_bits (i * w) w
+stacked_at w zero (c ∷ cs) all =
     let none : zero * w ≡ 0 = omega arith in
     let x : ℕ = stacked w cs * 2 ^ w + c in
     ap (λ n. x / 2 ^ n % 2 ^ w) none ∙ ap (λ n. n % 2 ^ w) (div-one x) ∙ mod_low (stacked w cs) w c (All-head (λ c. c < 2 ^ w) c cs all)
-stacked-at w (suc i) (c ∷ cs) all =
+stacked_at w (suc i) (c ∷ cs) all =
     let up : suc i * w ≡ w + i * w = grind arith in
     let x : ℕ = stacked w cs * 2 ^ w + c in
     ap (λ n. x / 2 ^ n % 2 ^ w) up
     ∙ ap (λ n. n % 2 ^ w) (sym (shr-shr x w (i * w)))
     ∙ ap (λ n. n / 2 ^ (i * w) % 2 ^ w) (shr_high (stacked w cs) w c (All-head (λ c. c < 2 ^ w) c cs all))
-    ∙ stacked-at w i cs (All-tail (λ c. c < 2 ^ w) c cs all)
+    ∙ stacked_at w i cs (All-tail (λ c. c < 2 ^ w) c cs all)
 
 stacked_below : (w : ℕ) (cs : List ℕ) → All (λ c. c < 2 ^ w) cs → stacked w cs < 2 ^ (length cs * w)
 stacked_below w [] all = pow_pos (0 * w)
@@ -102,7 +103,7 @@ times_one s w =
 entry_is : (w count : ℕ) (cs : List ℕ) → count * w ≡ 128 → 0 < count → length cs ≤ count → downward w (count - 1) cs ≡ stacked w cs
 entry_is w count cs whole some few =
     let sum : count - 1 + 1 + 0 ≡ count = omega arith in
-    downward-stacked w (count - 1) 0 cs (ap (λ n. n * w) sum ∙ whole) (omega arith) ∙ times_one (stacked w cs) w
+    downward_stacked w (count - 1) 0 cs (ap (λ n. n * w) sum ∙ whole) (omega arith) ∙ times_one (stacked w cs) w
 
 field_place : (w count i j : ℕ) → count * w ≡ 128 → j + 1 + i ≡ count → 128 - j * w - w ≡ i * w
 field_place w count i j whole sum =
@@ -119,13 +120,13 @@ csid_in w count i cs whole below few all =
     let x : ℕ = downward w (count - 1) cs in
     ap (λ n. x / 2 ^ n % 2 ^ w) (field_place w count i j whole sum)
     ∙ ap (λ n. n / 2 ^ (i * w) % 2 ^ w) (entry_is w count cs whole (omega arith) few)
-    ∙ stacked-at w i cs all
+    ∙ stacked_at w i cs all
 
-pub entry-csid : (csid_len : ℕ) (csids : List ℕ) (i : ℕ) → IsCsidLen csid_len → All (λ c. c < 2 ^ csid_len) csids
+pub entry_csid : (csid_len : ℕ) (csids : List ℕ) (i : ℕ) → IsCsidLen csid_len → All (λ c. c < 2 ^ csid_len) csids
     → length csids ≤ csid_count csid_len → i < csid_count csid_len
     → csid_at csid_len (packed_entry csid_len csids) (csid_count csid_len - 1 - i) ≡ get_or csids i 0
 unfolding csid_at
-entry-csid csid_len csids i len all few below =
+entry_csid csid_len csids i len all few below =
     csid_in csid_len (csid_count csid_len) i csids (count_is csid_len len).whole below few all
 
 past_is : (cs : List ℕ) (i : ℕ) → length cs ≤ i → get_or cs i 0 ≡ 0
@@ -138,16 +139,16 @@ within_is [] i some e = omega arith
 within_is (c ∷ cs) zero some e = absurd (All-head (λ c. c ≢ 0) c cs some e)
 within_is (c ∷ cs) (suc i) some e = let less = within_is cs i (All-tail (λ c. c ≢ 0) c cs some) e in omega arith
 
-pub entry-past : (csid_len : ℕ) (csids : List ℕ) (i : ℕ) → IsCsidLen csid_len → All (λ c. c < 2 ^ csid_len) csids
+pub entry_past : (csid_len : ℕ) (csids : List ℕ) (i : ℕ) → IsCsidLen csid_len → All (λ c. c < 2 ^ csid_len) csids
     → All (λ c. c ≢ 0) csids → length csids ≤ csid_count csid_len → i < csid_count csid_len
     → (csid_at csid_len (packed_entry csid_len csids) (csid_count csid_len - 1 - i) ≡ 0) ↔ (length csids ≤ i)
-entry-past csid_len csids i len all some few below =
-    let is = entry-csid csid_len csids i len all few below in
+entry_past csid_len csids i len all some few below =
+    let is = entry_csid csid_len csids i len all few below in
     (λ e. within_is csids i some (sym is ∙ e), λ past. is ∙ past_is csids i past)
 
-pub entry-address : (csid_len : ℕ) (csids : List ℕ) → IsCsidLen csid_len → All (λ c. c < 2 ^ csid_len) csids
+pub entry_address : (csid_len : ℕ) (csids : List ℕ) → IsCsidLen csid_len → All (λ c. c < 2 ^ csid_len) csids
     → length csids ≤ csid_count csid_len → packed_entry csid_len csids < 2 ^ 128
-entry-address csid_len csids len all few =
+entry_address csid_len csids len all few =
     let is = count_is csid_len len in
     let some : 0 < csid_count csid_len = count_some csid_len len in
     let most : length csids * csid_len ≤ csid_count csid_len * csid_len = mul-le-mul_right csid_len few in
@@ -194,22 +195,22 @@ index_below block w s i is below =
     let power : 8 ≤ 2 ^ (128 - s.len) = pow-le-pow_right {n = 2} (lit< tt) three in
     omega arith
 
-pub index-back : (block s : PrefixValue) (csid_len i : ℕ) → IsReplaceSid block csid_len s → i < csid_count csid_len
+pub index_back_law : (block s : PrefixValue) (csid_len i : ℕ) → IsReplaceSid block csid_len s → i < csid_count csid_len
     → index_of csid_len (s.value + i) ≡ i
 unfolding index_of
-index-back block s csid_len i is below =
+index_back_law block s csid_len i is below =
     (aligned s.value i (csid_count csid_len) (count_is csid_len is.csid).cases (ends_clean block csid_len s is) below).1
 
-pub index-holds : (block s : PrefixValue) (csid_len i : ℕ) → IsReplaceSid block csid_len s → i < csid_count csid_len
+pub index_holds : (block s : PrefixValue) (csid_len i : ℕ) → IsReplaceSid block csid_len s → i < csid_count csid_len
     → Holds s (s.value + i)
 unfolding Holds
-index-holds block s csid_len i is below =
+index_holds block s csid_len i is below =
     high_is s.value (128 - s.len) i is.sid_of.prefix.2 (index_below block csid_len s i is below)
 
-pub index-written : (destination block_len csid_len csid index : ℕ) → IsCsidLen csid_len → index < csid_count csid_len
+pub index_written : (destination block_len csid_len csid index : ℕ) → IsCsidLen csid_len → index < csid_count csid_len
     → index_of csid_len (replace_of destination block_len csid_len csid index) ≡ index
 unfolding index_of replace_of with_index
-index-written destination block_len csid_len csid index len below =
+index_written destination block_len csid_len csid index len below =
     index_back (with_field_of destination block_len csid_len csid) index (csid_count csid_len) (count_is csid_len len).cases below
 
 regrouped : (h w c y i : ℕ) → h * (y * w) + c * y + i ≡ (h * w + c) * y + i
@@ -251,9 +252,9 @@ field_written a b w v r within at =
     ∙ ap (λ n. a / 2 ^ (r + w) * 2 ^ (r + w) + v * 2 ^ n + a % 2 ^ n) (sym at)
 
 -- another SID's CSID written to a SID's value and an index gives that SID's value and the index
-csid-written : (block s t : PrefixValue) (w i : ℕ) → IsReplaceSid block w s → IsReplaceSid block w t → i < csid_count w
+csid_written : (block s t : PrefixValue) (w i : ℕ) → IsReplaceSid block w s → IsReplaceSid block w t → i < csid_count w
     → with_field_of (s.value + i) block.len w (csid_of block.len t) ≡ t.value + i
-csid-written block s t w i is_s is_t below =
+csid_written block s t w i is_s is_t below =
     let r : ℕ = 128 - block.len - w in
     let high : ℕ = block.value / 2 ^ (128 - block.len) in
     let len : s.len ≡ block.len + w = is_s.len in
@@ -267,11 +268,11 @@ csid-written block s t w i is_s is_t below =
     (subst P rest (index_below block w s i is_s below)) (s.value + i) (ap (λ n. n + i) (value_is block w r s is_s refl))
     ∙ ap (λ n. n + i) (sym (value_is block w r t is_t refl))
 
-pub next-sid : (block s t : PrefixValue) (csid_len i j : ℕ) → IsReplaceSid block csid_len s → IsReplaceSid block csid_len t
+pub next_sid : (block s t : PrefixValue) (csid_len i j : ℕ) → IsReplaceSid block csid_len s → IsReplaceSid block csid_len t
     → i < csid_count csid_len → j < csid_count csid_len
     → replace_of (s.value + i) block.len csid_len (csid_of block.len t) j ≡ t.value + j
 unfolding replace_of with_index
-next-sid block s t csid_len i j is_s is_t below_i below_j =
+next_sid block s t csid_len i j is_s is_t below_i below_j =
     let k : ℕ = csid_count csid_len in
-    ap (λ n. n / k * k + j) (csid-written block s t csid_len i is_s is_t below_i)
+    ap (λ n. n / k * k + j) (csid_written block s t csid_len i is_s is_t below_i)
     ∙ ap (λ n. n + j) (aligned t.value i k (count_is csid_len is_t.csid).cases (ends_clean block csid_len t is_t) below_i).0

@@ -1,6 +1,6 @@
 -- The Internet checksum (RFC 1071) of an upper layer of IPv6 (RFC 8200 section 8.1).
-use Rattle.std.specs.Prelude.{◌≡◌, ℕ, zero, suc, ◌+◌, ◌-◌, ◌*◌, ◌%◌, ◌^◌, nat_lt, if◌then◌else◌, List, [], ◌∷◌, ◌++◌, length}
-use Rattle.srv6_rules.specs.Packet.{Packet, address_bytes, four_bytes}
+use Rattle.std.specs.Prelude.{ℕ, ◌+◌, ◌-◌, ◌*◌, ◌^◌, nat_lt, if◌then◌else◌, List, [], ◌∷◌, ◌++◌, length}
+use Rattle.srv6_rules.specs.Packet.{address_bytes, four_bytes}
 
 -- the greatest number of 16 bits: in one's complement the negative zero
 abbrev pub all_ones : ℕ
@@ -31,18 +31,3 @@ upper_layer_sum source destination next_header upper =
 -- the checksum of an upper layer whose checksum field is 0: the one's complement of the sum
 unfoldable pub checksum_of : ℕ → ℕ → ℕ → List ℕ → ℕ
 checksum_of source destination next_header upper = all_ones - upper_layer_sum source destination next_header upper
-
--- the check of a packet whose payload is an upper layer: with the checksum in its field the sum is all ones
-abbrev pub Verifies : Packet → Type 0
-Verifies p = upper_layer_sum p.source p.destination p.next_header p.payload ≡ all_ones
-
--- the plain sum of the same words
-unfoldable pub word_sum : List ℕ → ℕ
-word_sum [] = 0
-word_sum (high ∷ []) = high * 2 ^ 8
-word_sum (high ∷ low ∷ bytes) = high * 2 ^ 8 + low + word_sum bytes
-
--- a plain sum with its carries beyond 16 bits added at the lowest bit: 0 of 0, and else a number from 1 to all ones
-unfoldable pub carried : ℕ → ℕ
-carried zero = 0
-carried (suc n) = n % all_ones + 1

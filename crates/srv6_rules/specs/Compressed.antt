@@ -1,18 +1,12 @@
 -- The numbers under compressed SIDs (RFC 9800 sections 4.1 and 4.2). A SID is a prefix. Its block is the front that it shares with the
 -- other SIDs of the block, and its CSID is what stands after the block, up to the SID's end. Lengths and places count bits, and an
 -- address has 128.
-use Rattle.std.specs.Prelude.{◌≡◌, ◌≢◌, ◌⊎◌, ℕ, ◌+◌, ◌-◌, ◌*◌, ◌/◌, ◌%◌, ◌^◌, ◌≤◌, List, [], ◌∷◌}
-use Rattle.v6_addr.specs.Address.{PrefixValue, IsPrefix, IsInside, field_of, with_field_of}
+use Rattle.std.specs.Prelude.{ℕ, ◌+◌, ◌-◌, ◌*◌, ◌/◌, ◌%◌, ◌^◌, List, [], ◌∷◌}
+use Rattle.v6_addr.specs.Address.{PrefixValue, field_of, with_field_of}
 
 -- the CSID of a SID, of a block of so many bits (RFC 9800 section 3)
 abbrev pub csid_of : ℕ → PrefixValue → ℕ
 csid_of block_len sid = field_of sid.value block_len (sid.len - block_len)
-
--- a SID strictly inside a block, whose CSID isn't 0
-pub record IsSidOf (block sid : PrefixValue) : Type 0 where
-  pub prefix : IsPrefix sid
-  pub inside : IsInside sid block
-  pub some : csid_of block.len sid ≢ 0
 
 -- ---- NEXT-CSID (RFC 9800 section 4.1)
 
@@ -36,20 +30,7 @@ abbrev pub container_of : ℕ → List PrefixValue → ℕ
 container_of block_len [] = 0
 container_of block_len (s ∷ ss) = s.value + packed block_len (128 - s.len) ss
 
--- SIDs of one block whose CSIDs find room in so many bits
-abbrev pub FitIn : PrefixValue → ℕ → List PrefixValue → Type 0
-FitIn block room [] = Unit {0}
-FitIn block room (s ∷ ss) = IsSidOf block s × (s.len - block.len ≤ room) × FitIn block (room - (s.len - block.len)) ss
-
--- SIDs of one block that find room in one container
-abbrev pub IsContainer : PrefixValue → List PrefixValue → Type 0
-IsContainer block sids = FitIn block (128 - block.len) sids
-
 -- ---- REPLACE-CSID (RFC 9800 section 4.2)
-
--- CSIDs have 16 or 32 bits (own rule)
-abbrev pub IsCsidLen : ℕ → Type 0
-IsCsidLen csid_len = (csid_len ≡ 16) ⊎ (csid_len ≡ 32)
 
 -- how many CSIDs an entry of the segment list has room for
 abbrev pub csid_count : ℕ → ℕ
@@ -79,10 +60,3 @@ downward csid_len index (c ∷ cs) = c * 2 ^ (128 - (index + 1) * csid_len) + do
 -- the entry that holds CSIDs: the first stands at the greatest index
 abbrev pub packed_entry : ℕ → List ℕ → ℕ
 packed_entry csid_len csids = downward csid_len (csid_count csid_len - 1) csids
-
--- a SID whose CSID has so many bits, after which there are at least the 3 bits of the greatest index
-pub record IsReplaceSid (block : PrefixValue) (csid_len : ℕ) (sid : PrefixValue) : Type 0 where
-  pub sid_of : IsSidOf block sid
-  pub len : sid.len ≡ block.len + csid_len
-  pub csid : IsCsidLen csid_len
-  pub behind : sid.len ≤ 125

@@ -1,58 +1,27 @@
 -- The steps of compressed SIDs over packets (RFC 9800 sections 4.1 and 4.2): NEXT-CSID shifts the destination, and REPLACE-CSID takes the
 -- next CSID, or the next entry, of the segment list.
-use Rattle.std.specs.Prelude.{◌≡◌, ℕ, ◌+◌, ◌-◌, ◌<◌, ◌≤◌, Bool, true, false, ◌==◌, ◌&&◌, ◌||◌, not, nat_lt, nat_le, if◌then◌else◌, List, ◌++◌, length, map, take, drop, slice_set, All, Option, Some, None}
-use Rattle.v6_addr.specs.Address.{PrefixValue}
-use Rattle.srv6_rules.specs.declared.numbers.TheConstants.{HOP_LIMIT_AT, DESTINATION_AT}
+use Rattle.std.specs.Prelude.{ℕ, ◌+◌, ◌-◌, Bool, true, false, ◌==◌, ◌&&◌, ◌||◌, not, nat_lt, nat_le, if◌then◌else◌, slice_set, Option, Some, None}
 use Rattle.srv6_rules.specs.declared.sid.Csid.{Csid}
 use Rattle.srv6_rules.specs.declared.sid.Csid.TheVariants as kinds
 use Rattle.srv6_rules.specs.declared.reason.Reason.TheVariants as reasons
 use Rattle.srv6_rules.specs.declared.sid.SidEntry.{SidEntry}
 use Rattle.srv6_rules.specs.declared.compression.Compression.{Compression}
-use Rattle.srv6_rules.specs.Packet.{Packet, header_len, address_bytes}
+use Rattle.srv6_rules.specs.Packet.{Packet, header_len}
 use Rattle.srv6_rules.specs.Srh.{Srh, entries_of, entry_of, segments_left_at}
 use Rattle.srv6_rules.specs.Areas.{Fault, tlvs_fault}
-use Rattle.srv6_rules.specs.Compressed.{IsCsidLen, IsReplaceSid, csid_of, argument_of, shift_of, csid_count, index_of, csid_at, replace_of, packed_entry}
+use Rattle.srv6_rules.specs.Compressed.{argument_of, shift_of, csid_count, index_of, csid_at, replace_of}
 
 -- the length of the CSIDs of a SID's block
 abbrev pub csid_len_of : Compression → ℕ
 csid_len_of c = c.prefix_len - c.block_len
 
--- a SID of NEXT-CSID: it is longer than its block
-pub record IsNext (c : Compression) : Type 0 where
-  pub kind : c.kind ≡ kinds.Next
-  pub longer : c.block_len < c.prefix_len
-  pub within : c.prefix_len ≤ 128
-
--- a SID of REPLACE-CSID
-pub record IsReplace (c : Compression) : Type 0 where
-  pub kind : c.kind ≡ kinds.Replace
-  pub longer : c.block_len < c.prefix_len
-  pub within : c.prefix_len ≤ 128
-  pub csid_len : IsCsidLen (csid_len_of c)
-
 -- how a SID is compressed
 abbrev pub compression_of : SidEntry → Compression
 compression_of s = record { kind = s.csid; prefix_len = s.prefix.len; block_len = s.block_len }
 
--- a compression suits its lengths
-abbrev pub SuitsKind : Csid → Compression → Type 0
-SuitsKind kinds.Plain c = Unit {0}
-SuitsKind kinds.Next c = IsNext c
-SuitsKind kinds.Replace c = IsReplace c
-
--- the compression of a SID suits the lengths of its prefix and its block
-abbrev pub SuitsCompression : SidEntry → Type 0
-SuitsCompression s = SuitsKind s.csid (compression_of s)
-
 -- the hop limit can't be lowered (RFC 8754 section 4.3.1.1)
 abbrev pub hop_limit_fault : Packet → Option Fault
 hop_limit_fault p = if nat_le p.hop_limit 1 then Some (record { reason = reasons.HopLimit; at = 0 }) else None
-
--- bytes with another hop limit and another destination in their header; each other byte is as it was
-abbrev pub with_hop_and_destination : List ℕ → ℕ → ℕ → List ℕ
-with_hop_and_destination bytes hop_limit destination =
-    let lowered = slice_set bytes HOP_LIMIT_AT hop_limit in
-    take DESTINATION_AT lowered ++ (address_bytes destination ++ drop header_len lowered)
 
 -- ---- NEXT-CSID (RFC 9800 section 4.1)
 
@@ -88,7 +57,7 @@ abbrev pub is_ended : Compression → Srh → ℕ → ℕ → Bool
 is_ended c srh left destination =
     (left == 0) && ((index_in c destination == 0) || (listed_csid c srh 0 (index_in c destination - 1) == 0))
 
--- that test has to read an entry where there is none (own rule)
+-- that test has to read an entry where there is none
 abbrev pub lacks_entry : Compression → Srh → ℕ → Bool
 lacks_entry c srh destination = (srh.segments_left == 0) && (not (index_in c destination == 0) && (entries_of srh == 0))
 
@@ -161,16 +130,3 @@ replace_step c p at srh =
 -- the header is at its end, which can be judged: else a SID that decapsulates refuses it (RFC 8986 sections 4.4 to 4.8)
 abbrev pub is_at_end : Compression → Srh → ℕ → Bool
 is_at_end c srh destination = not (lacks_entry c srh destination) && is_ended c srh srh.segments_left destination
-
--- ---- entries of CSIDs
-
--- an entry holds the CSIDs of SIDs of one block, which find room in it
-pub record IsEntryOf (c : Compression) (block : PrefixValue) (sids : List PrefixValue) (entry : ℕ) : Type 0 where
-  pub block_len : c.block_len ≡ block.len
-  pub each : All (λ s. IsReplaceSid block (csid_len_of c) s) sids
-  pub few : length sids ≤ csid_count (csid_len_of c)
-  pub packed : entry ≡ packed_entry (csid_len_of c) (map (csid_of block.len) sids)
-
--- the index after so many CSIDs of an entry
-abbrev pub index_behind : Compression → ℕ → ℕ
-index_behind c count = csid_count (csid_len_of c) - 1 - count

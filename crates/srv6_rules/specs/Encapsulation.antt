@@ -1,10 +1,9 @@
 -- Encapsulation of a packet after an outer IPv6 header and a segment list: H.Encaps and its reduced form (RFC 8986
 -- sections 5.1 and 5.2, RFC 8754 sections 2, 4.1 and 4.1.1).
-use Rattle.std.specs.Prelude.{ℕ, ◌+◌, ◌-◌, ◌*◌, ◌^◌, ◌<◌, ◌≤◌, Bool, not, ◌||◌, nat_lt, if◌then◌else◌, List, ◌++◌, length, drop, reverse, slice_index, flat_map, All}
-use Rattle.srv6_rules.specs.declared.numbers.TheConstants.{MAX_SEGMENTS, NEXT_HEADER_AT}
-use Rattle.srv6_rules.specs.Packet.{Packet, header_len, spelling, address_bytes}
+use Rattle.std.specs.Prelude.{ℕ, ◌+◌, ◌-◌, ◌*◌, Bool, not, ◌||◌, nat_lt, if◌then◌else◌, List, ◌++◌, length, drop, reverse, slice_index, flat_map}
+use Rattle.srv6_rules.specs.Packet.{Packet, address_bytes}
 use Rattle.srv6_rules.specs.Srh.{Srh, srh_spelling}
-use Rattle.srv6_rules.specs.Chain.{ChainPlace, Header, routing}
+use Rattle.srv6_rules.specs.Chain.{routing}
 use Rattle.srv6_rules.specs.Behaviours.{ipv6_inside}
 
 -- what a packet is encapsulated with, but for the hop limit: the outer header's fields; the segments, at least one, in
@@ -38,14 +37,6 @@ segment_routing_of e left =
       body = flat_map address_bytes (segment_list e);
     }
 
--- that header as the first of the outer packet's chain
-abbrev pub header_of : Encapsulation → ℕ → Header
-header_of e left =
-    record {
-      place = record { at = header_len; kind = routing; named_at = NEXT_HEADER_AT };
-      bytes = srh_spelling (segment_routing_of e left);
-    }
-
 -- the packet round the bytes of the inner one, with these Segments Left, hop limit and destination
 abbrev pub outer : Encapsulation → List ℕ → ℕ → ℕ → ℕ → Packet
 outer e inner left hop destination =
@@ -58,24 +49,6 @@ outer e inner left hop destination =
       destination = destination;
       payload = if has_segment_routing e then srh_spelling (segment_routing_of e left) ++ inner else inner;
     }
-
--- the same packet once its segment routing header is taken out: the IPv6 header names the packet inside (RFC 8986 section
--- 4.16.1)
-abbrev pub bare : Encapsulation → List ℕ → ℕ → ℕ → Packet
-bare e inner hop destination =
-    record {
-      traffic_class = e.traffic_class;
-      flow_label = e.flow_label;
-      next_header = ipv6_inside;
-      hop_limit = hop;
-      source = e.source;
-      destination = destination;
-      payload = inner;
-    }
-
--- where the packet inside stands then
-abbrev pub bare_place : ChainPlace
-bare_place = record { at = header_len; kind = ipv6_inside; named_at = NEXT_HEADER_AT }
 
 -- the packet while the segment at a place counted from 0 is the active one: the destination is that segment, and
 -- Segments Left counts the segments after it
@@ -90,29 +63,6 @@ pushed e inner hop = at_segment e inner 0 hop
 abbrev pub header_bytes : Bool → ℕ → ℕ
 header_bytes reduced count = if reduced then (if nat_lt 1 count then 32 + 16 * count else 40) else 48 + 16 * count
 
--- where the inner packet stands: after the header bytes, and the last of the headers in front of it names it
-abbrev pub inner_place : Encapsulation → ChainPlace
-inner_place e =
-    record {
-      at = header_bytes e.reduced (length e.segments);
-      kind = ipv6_inside;
-      named_at = if has_segment_routing e then header_len else NEXT_HEADER_AT;
-    }
-
 -- an inner packet before it is encapsulated: the hop limit is one less (RFC 8986 section 5.1)
 abbrev pub inner_lowered : Packet → Packet
 inner_lowered p = record p { hop_limit = p.hop_limit - 1 }
-
--- H.Encaps, or H.Encaps.Red where the form is reduced: of a packet whose hop limit is above 1, with the outer hop limit
-abbrev pub encapsulated : Encapsulation → Packet → ℕ → Packet
-encapsulated e p hop = pushed e (spelling (inner_lowered p)) hop
-
--- the encapsulations of packets that bytes can spell: each field fits its width, and at most 127 addresses are visited,
--- so that the header's length fits its byte (own rule)
-pub record IsSpellableEncapsulation (e : Encapsulation) : Type 0 where
-  pub traffic_class : e.traffic_class < 2 ^ 8
-  pub flow_label : e.flow_label < 2 ^ 20
-  pub source : e.source < 2 ^ 128
-  pub some : 0 < length e.segments
-  pub most : length e.segments ≤ MAX_SEGMENTS
-  pub segments : All (λ a. a < 2 ^ 128) e.segments

@@ -1,20 +1,18 @@
 -- What a node does with a packet that came to one of its SIDs or to its own address: RFC 8986 sections 4.1 to 4.8, 4.13 and 4.14
 -- with the flavours of section 4.16, RFC 9800 sections 4.1 and 4.2, and the processing of RFC 8754 section 4.3.1.1, and RFC 8200
 -- sections 4 and 4.4 with RFC 8754 section 4.3.2 at an address.
-use Rattle.std.specs.Prelude.{◌≡◌, ◌≢◌, ◌⊎◌, ℕ, ◌+◌, ◌-◌, ◌<◌, ◌≤◌, Bool, true, false, ◌==◌, ◌&&◌, ◌||◌, not, nat_lt, nat_le, if◌then◌else◌, List, [], ◌∷◌, ◌++◌, length, take, slice_index, slice_set, All, Option, Some, None}
+use Rattle.std.specs.Prelude.{ℕ, ◌+◌, ◌-◌, Bool, ◌==◌, ◌&&◌, ◌||◌, not, nat_lt, nat_le, if◌then◌else◌, List, [], ◌∷◌, length, take, slice_set, Option, Some, None}
 use Rattle.std.specs.List.{list_any}
-use Rattle.srv6_rules.specs.declared.numbers.TheConstants.{HOP_LIMIT_AT, DESTINATION_AT}
 use Rattle.srv6_rules.specs.declared.family.Family.{Family}
-use Rattle.srv6_rules.specs.declared.family.Family.TheVariants as families
 use Rattle.srv6_rules.specs.declared.reason.Reason.{Reason}
 use Rattle.srv6_rules.specs.declared.reason.Reason.TheVariants as reasons
 use Rattle.srv6_rules.specs.declared.sid.SidEntry.{SidEntry}
-use Rattle.srv6_rules.specs.Behaviours.{goes_on, exposes, ipv6_inside, ipv4_inside, family_inside}
+use Rattle.srv6_rules.specs.Behaviours.{goes_on, exposes, family_inside}
 use Rattle.srv6_rules.specs.Packet.{Packet, header_len}
 use Rattle.srv6_rules.specs.Srh.{Srh, srh_of, entries_of, entry_of, segments_left_at, routing_type_at}
 use Rattle.srv6_rules.specs.Areas.{Fault, options_fault, tlvs_fault}
 use Rattle.srv6_rules.specs.CompressedSteps.{ReplaceStep, Moved, AtEnd, Dropped, compression_of, is_replace, shifts, shifted, replace_step, is_at_end}
-use Rattle.srv6_rules.specs.Chain.{ChainPlace, Header, ChainEnd, Upper, Cut, Chain, LiesIn, hop_by_hop, fragment, destination_options, is_first, segments_left, is_segment_routing, from_place, chain_of, without}
+use Rattle.srv6_rules.specs.Chain.{ChainPlace, Header, ChainEnd, Upper, Cut, hop_by_hop, fragment, destination_options, is_first, segments_left, is_segment_routing, from_place, chain_of, without}
 
 -- what came of a packet at a SID or an address: it goes on with another destination; the packet inside it, of a family
 -- and with the bytes from there on, is exposed; it is handed to the upper layer here; or it is dropped, for a fault at a
@@ -29,10 +27,6 @@ pub data Endpoint : Type 0 where
 abbrev pub over_headers : (Header → Endpoint → Endpoint) → List Header → Endpoint → Endpoint
 over_headers treat [] end = end
 over_headers treat (h ∷ hs) end = treat h (over_headers treat hs end)
-
--- a chain: its headers one by one, the last of them given what came of the chain's end
-abbrev pub over_chain : (Header → Endpoint → Endpoint) → (ChainEnd → Endpoint) → Chain → Endpoint
-over_chain treat end c = over_headers treat c.headers (end c.end)
 
 -- the upper layers that a node takes at its SIDs (RFC 8986 section 4.1.1)
 abbrev pub is_allowed : List ℕ → ℕ → Bool
@@ -135,7 +129,7 @@ abbrev pub at_hop_by_hop : Header → Endpoint → Endpoint
 at_hop_by_hop h behind = if is_first h.place then behind else Refused reasons.LateHopByHop h.place.named_at
 
 -- a header, given what came of those after it: the options of Destination Options are looked at, a Fragment header is not
--- processed (own rule), and a word says what is done with a routing header
+-- processed, and a word says what is done with a routing header
 abbrev pub at_header_by : (Header → Endpoint → Endpoint) → Header → Endpoint → Endpoint
 at_header_by at_routing h behind =
     if h.place.kind == hop_by_hop then at_hop_by_hop h behind
@@ -163,7 +157,7 @@ abbrev pub is_options : Header → Bool
 is_options h = (h.place.kind == hop_by_hop) || (h.place.kind == destination_options)
 
 -- a header at a SID: where the SID shifts, it does so at the first header that has no options, without a look inside, at a Fragment
--- header too (own rule)
+-- header too
 abbrev pub at_header : SidEntry → Packet → Header → Endpoint → Endpoint
 at_header s p h behind =
     if shifts_at s p && not (is_options h) then next_csid s p else at_header_by (at_sid_routing s p) h behind
@@ -190,7 +184,7 @@ at_sid s allow p = let c = chain_of p in over_headers (at_header s p) c.headers 
 abbrev pub at_address_header : Header → Endpoint → Endpoint
 at_address_header h behind = at_header_by unknown_routing h behind
 
--- every upper layer is taken at the node's own address (own rule)
+-- every upper layer is taken at the node's own address
 abbrev pub at_address_end : Packet → ChainEnd → Endpoint
 at_address_end p (Upper place) = Delivered p
 at_address_end p (Cut place) = Refused reasons.BadChain place.at
@@ -198,93 +192,3 @@ at_address_end p (Cut place) = Refused reasons.BadChain place.at
 -- a packet at the node's own address
 abbrev pub at_address : Packet → Endpoint
 at_address p = let c = chain_of p in over_headers at_address_header c.headers (at_address_end p c.end)
-
--- a header is passed over: what comes of the packet is what comes of those after it
-abbrev pub IsPassed : (Header → Endpoint → Endpoint) → Header → Type 0
-IsPassed treat h = (behind : Endpoint) → treat h behind ≡ behind
-
--- a header decides: what comes of the packet there does not depend on those after it
-abbrev pub Decides : (Header → Endpoint → Endpoint) → Header → Type 0
-Decides treat h = (one two : Endpoint) → treat h one ≡ treat h two
-
--- a header stands in a chain after headers of a kind
-pub record IsReached (K : Header → Type 0) (headers : List Header) (h : Header) : Type 0 where
-  pub before : List Header
-  pub after : List Header
-  pub split : headers ≡ before ++ h ∷ after
-  pub passed : All K before
-
--- a header is taken out at a SID with USP: a segment routing header with no segments left
-pub record IsTakenOut (s : SidEntry) (p : Packet) (h : Header) : Type 0 where
-  pub usp : s.usp ≡ true
-  pub routing : is_segment_routing h ≡ true
-  pub none_left : segments_left h ≡ 0
-  pub taken_out : (behind : Endpoint) → at_header s p h behind ≡ outcome_without h behind
-
--- a header does not decide at a SID: it is passed over, or taken out besides
-abbrev pub IsSkipped : SidEntry → Packet → Header → Type 0
-IsSkipped s p h = IsPassed (at_header s p) h ⊎ IsTakenOut s p h
-
--- a SID whose segments are whole, at a packet whose destination it does not shift
-pub record TakesWhole (s : SidEntry) (p : Packet) : Type 0 where
-  pub whole : is_replace s.csid ≡ false
-  pub unshifted : shifts_at s p ≡ false
-
--- the packet after the step over a segment routing header after headers that are passed over at a SID: the hop
--- limit is one lower, Segments Left is one lower, the destination is that entry, and all else is as it was
-pub record StepsTo (s : SidEntry) (p q : Packet) : Type 0 where
-  pub header : Header
-  pub left : ℕ
-  pub reached : IsReached (IsPassed (at_header s p)) (chain_of p).headers header
-  pub routing : is_segment_routing header ≡ true
-  pub lies : LiesIn p header
-  pub above_one : 1 < p.hop_limit
-  pub hop_limit : p.hop_limit ≡ q.hop_limit + 1
-  pub was_left : segments_left header ≡ left + 1
-  pub no_fault : tlvs_fault header.place.at (srh_of header.bytes) ≡ None
-  pub destination : q.destination ≡ entry_of (srh_of header.bytes) left
-  pub payload : q.payload ≡ slice_set p.payload (header.place.at + segments_left_at - header_len) left
-  pub others : q ≡ record p { hop_limit = q.hop_limit; destination = q.destination; payload = q.payload }
-
--- a packet that goes on from a SID without USP: it took the step, and with PSP, where no segments are left, its segment
--- routing header is taken out
-pub record StepsWithPsp (s : SidEntry) (p q : Packet) : Type 0 where
-  pub stepped : Packet
-  pub step : StepsTo s p stepped
-  pub popped : q ≡ (if s.psp && (step.left == 0) then without stepped (as_in stepped step.header) else stepped)
-
--- a packet that goes on from a SID of REPLACE-CSID without USP: it took the step over a segment routing header after headers that
--- are passed over, and with PSP, where no segment is left then, that header is taken out
-pub record MovesWithPsp (s : SidEntry) (p q : Packet) : Type 0 where
-  pub header : Header
-  pub reached : IsReached (IsPassed (at_header s p)) (chain_of p).headers header
-  pub routing : is_segment_routing header ≡ true
-  pub lies : LiesIn p header
-  pub stepped : Packet
-  pub ended : Bool
-  pub step : replace_step (compression_of s) p header.place.at (srh_of header.bytes) ≡ Moved stepped ended
-  pub popped : q ≡ (if s.psp && ended then without stepped (as_in stepped header) else stepped)
-
--- bytes before and after a step: the hop limit and one byte after the IPv6 header are one lower, and but for these and
--- the destination, the IPv6 header's last bytes, each byte is as it was
-pub record ChangesFewBytes (before after : List ℕ) : Type 0 where
-  pub place : ℕ
-  pub behind_header : header_len ≤ place
-  pub within : place < length before
-  pub same_length : length after ≡ length before
-  pub hop_limit : slice_index before HOP_LIMIT_AT ≡ slice_index after HOP_LIMIT_AT + 1
-  pub segments_left : slice_index before place ≡ slice_index after place + 1
-  pub same : (k : ℕ) → k ≢ HOP_LIMIT_AT → k ≢ place → (k < DESTINATION_AT) ⊎ (header_len ≤ k)
-      → slice_index after k ≡ slice_index before k
-
--- the packet inside that a SID exposes: the upper layer, after headers that are all passed over or taken out, is one that the SID
--- exposes, and the bytes are those of the packet from there on
-pub record ExposesFrom (s : SidEntry) (p : Packet) (family : Family) (bytes : List ℕ) : Type 0 where
-  pub place : ChainPlace
-  pub upper : (chain_of p).end ≡ Upper place
-  pub passed : All (IsSkipped s p) (chain_of p).headers
-  pub exposed : exposes s place.kind ≡ true
-  pub is_family : ((place.kind ≡ ipv6_inside) × (family ≡ families.V6))
-      ⊎ ((place.kind ≡ ipv4_inside) × (family ≡ families.V4))
-  pub within : place.at ≤ header_len + length p.payload
-  pub inside : bytes ≡ from_place p place.at

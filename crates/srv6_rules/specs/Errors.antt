@@ -1,7 +1,7 @@
 -- ICMPv6 errors: which one a drop gives, where none is made, and the packet that it is (RFC 4443 sections 2 and 3).
-use Rattle.std.specs.Prelude.{ℕ, ◌/◌, ◌^◌, ◌<◌, Bool, true, false, not, ◌==◌, ◌&&◌, ◌||◌, nat_lt, if◌then◌else◌, List, ◌∷◌, ◌++◌, take, drop, slice_get, Option, Some, None}
+use Rattle.std.specs.Prelude.{ℕ, ◌/◌, Bool, true, false, not, ◌==◌, ◌&&◌, ◌||◌, nat_lt, if◌then◌else◌, List, ◌∷◌, ◌++◌, take, drop, slice_get, Option, Some, None}
 use Rattle.std.specs.List.{list_any}
-use Rattle.v6_addr.specs.Kinds.{is_unspecified, is_multicast}
+use Rattle.v6_addr.specs.AddressKinds.{is_unspecified, is_multicast}
 use Rattle.srv6_rules.specs.declared.numbers.TheConstants.{ICMPV6, ICMPV6_HOP_LIMIT, MAX_QUOTE_LEN, DESTINATION_UNREACHABLE, PACKET_TOO_BIG, TIME_EXCEEDED, PARAMETER_PROBLEM, FIRST_INFORMATIONAL, REDIRECT, WRONG_FIELD, WRONG_NEXT_HEADER, UNKNOWN_OPTION, WRONG_UPPER_LAYER, FRAGMENT_OFFSET_AT, FRAGMENT_OFFSET_UNIT}
 use Rattle.srv6_rules.specs.declared.icmp.IcmpKind.{IcmpKind}
 use Rattle.srv6_rules.specs.declared.icmp.IcmpKind.TheVariants.{Unreachable, PacketTooBig, TimeExceeded, Parameter}
@@ -54,10 +54,6 @@ last_word_of Unreachable = 0
 last_word_of (PacketTooBig mtu) = mtu
 last_word_of TimeExceeded = 0
 last_word_of (Parameter code at) = at
-
--- the errors whose code and last four bytes fit their bytes
-abbrev pub IsKind : IcmpKind → Type 0
-IsKind kind = (code_of kind < 2 ^ 8) × (last_word_of kind < 2 ^ 32)
 
 -- ---- where no error is made
 

@@ -1,12 +1,12 @@
 -- IPv6 packets as values, their one spelling, and how bytes are read (RFC 8200 section 3).
-use Rattle.std.specs.Prelude.{◌≡◌, ℕ, ◌+◌, ◌*◌, ◌/◌, ◌%◌, ◌^◌, ◌<◌, ◌==◌, nat_lt, if◌then◌else◌, List, ◌∷◌, ◌++◌, length, take, drop, slice_index, All, Result, Ok, Err}
+use Rattle.std.specs.Prelude.{ℕ, ◌+◌, ◌*◌, ◌/◌, ◌%◌, ◌^◌, ◌<◌, ◌==◌, nat_lt, if◌then◌else◌, List, ◌∷◌, ◌++◌, length, take, drop, slice_index, All, Result, Ok, Err}
 use Rattle.byteorder.specs.Endian.{big_number, big_bytes}
 use Rattle.srv6_rules.specs.declared.numbers.TheConstants.{IPV6_HEADER_LEN, MAX_PACKET_LEN, IPV6_VERSION, PAYLOAD_LEN_AT, NEXT_HEADER_AT, HOP_LIMIT_AT, SOURCE_AT, DESTINATION_AT}
 use Rattle.srv6_rules.specs.declared.family.Family.{Family}
 use Rattle.srv6_rules.specs.declared.family.Family.TheVariants as families
 use Rattle.srv6_rules.specs.declared.reason.Reason.{Reason}
 use Rattle.srv6_rules.specs.declared.reason.Reason.TheVariants.{Truncated, BadVersion}
-use Rattle.srv6_rules.specs.Packet4.{Packet4, IsSpellable4, spelling4, read4}
+use Rattle.srv6_rules.specs.Packet4.{Packet4, spelling4, read4}
 
 -- a packet: the fields of its IPv6 header but for the version and the payload length, and the bytes after that header
 pub record Packet : Type 0 where
@@ -77,10 +77,6 @@ pub record IsSpellable (p : Packet) : Type 0 where
   pub payload_len : length p.payload < 2 ^ 16
   pub payload : All (λ b. b < 2 ^ 8) p.payload
 
--- the bytes spell the packet: nothing stands after its end
-abbrev pub Spells : List ℕ → Packet → Type 0
-Spells bytes p = IsSpellable p × (bytes ≡ spelling p)
-
 -- the payload length that a header of at least 40 bytes states
 unfoldable pub stated_len : List ℕ → ℕ
 stated_len bytes = two_number (drop PAYLOAD_LEN_AT bytes)
@@ -119,7 +115,7 @@ abbrev pub read_as : Family → List ℕ → Content
 read_as families.V6 bytes = content_of bytes
 read_as families.V4 bytes = content4_by bytes (read4 bytes)
 
--- what enters a node as a packet of a family: of bytes that do not read at most a longest packet's length is kept (own rule)
+-- what enters a node as a packet of a family: of bytes that do not read at most a longest packet's length is kept
 abbrev pub entered : Family → List ℕ → Content
 entered family bytes = read_as family (take most_len bytes)
 
@@ -128,9 +124,3 @@ abbrev pub bytes_of : Content → List ℕ
 bytes_of (V6 p) = spelling p
 bytes_of (V4 p) = spelling4 p
 bytes_of (Unreadable bytes reason) = bytes
-
--- a content that bytes can spell
-abbrev pub IsContent : Content → Type 0
-IsContent (V6 p) = IsSpellable p
-IsContent (V4 p) = IsSpellable4 p
-IsContent (Unreadable bytes reason) = All (λ b. b < 2 ^ 8) bytes

@@ -30,7 +30,7 @@ protocol p = slice_index p.header PROTOCOL_AT
 unfoldable pub header_checksum : List ℕ → ℕ
 header_checksum header = big_number 2 (drop CHECKSUM_AT header)
 
--- an address as those of IPv6 are kept, in the highest 32 of 128 bits (own rule)
+-- an address as those of IPv6 are kept, in the highest 32 of 128 bits
 unfoldable pub address4_at : ℕ → List ℕ → ℕ
 address4_at at header = big_number 4 (drop at header) * 2 ^ 96
 
@@ -55,10 +55,6 @@ pub record IsSpellable4 (p : Packet4) : Type 0 where
   pub header : All (λ b. b < 2 ^ 8) p.header
   pub payload : All (λ b. b < 2 ^ 8) p.payload
 
--- the bytes spell the packet: nothing stands after its end
-abbrev pub Spells4 : List ℕ → Packet4 → Type 0
-Spells4 bytes p = IsSpellable4 p × (bytes ≡ spelling4 p)
-
 -- the packet whose header these at least 20 bytes begin with; what stands after its end is cut
 unfoldable pub packet4_at : List ℕ → Packet4
 packet4_at bytes =
@@ -66,14 +62,14 @@ packet4_at bytes =
     record { header = take len bytes; payload = take (total_len bytes - len) (drop len bytes) }
 
 -- the lengths that a header of at least 20 bytes states do not fit: its own is below 20 bytes, the packet's is below its own, or
--- the packet is not there (own rule)
+-- the packet is not there
 abbrev pub is_cut4 : List ℕ → Bool
 is_cut4 bytes =
     nat_lt (stated_header_len bytes) IPV4_HEADER_LEN
     || (nat_lt (total_len bytes) (stated_header_len bytes) || nat_lt (length bytes) (total_len bytes))
 
 -- how bytes read as IPv4, or why they do not: the version is judged before the lengths where there is a byte (RFC 791 section
--- 3.1; the order is an own rule). The checksum is not verified (own rule)
+-- 3.1; the order is an own rule). The checksum is not verified
 abbrev pub read4 : List ℕ → Result Packet4 Reason
 read4 bytes =
     if length bytes == 0 then Err Truncated

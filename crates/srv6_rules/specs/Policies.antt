@@ -1,23 +1,15 @@
 -- What comes of putting a policy's header in front of a packet: H.Encaps and its reduced form, and what binding SIDs put
 -- there (RFC 8986 sections 4.13, 4.14, 5.1 and 5.2).
-use Rattle.std.specs.Prelude.{ℕ, ◌-◌, ◌^◌, ◌<◌, ◌≤◌, Bool, nat_le, nat_lt, if◌then◌else◌, List, ◌++◌, length, map}
+use Rattle.std.specs.Prelude.{ℕ, ◌-◌, Bool, nat_le, nat_lt, if◌then◌else◌, List, ◌++◌, length, map}
 use Rattle.v6_addr.specs.declared.address.Addr.{Addr}
-use Rattle.srv6_rules.specs.declared.numbers.TheConstants.{MAX_SEGMENTS}
 use Rattle.srv6_rules.specs.declared.policy.Policy.{Policy}
 use Rattle.srv6_rules.specs.declared.family.Family.{Family}
 use Rattle.srv6_rules.specs.declared.family.Family.TheVariants.{V6, V4}
-use Rattle.srv6_rules.specs.Packet.{Packet, header_len, most_len, packet_at, spelling}
-use Rattle.srv6_rules.specs.Packet4.{packet4_at, spelling4, ttl, lowered4}
+use Rattle.srv6_rules.specs.Packet.{Packet, header_len, most_len}
 use Rattle.srv6_rules.specs.Srh.{Srh, srh_spelling}
 use Rattle.srv6_rules.specs.Chain.{routing}
 use Rattle.srv6_rules.specs.Behaviours.{ipv6_inside, ipv4_inside}
-use Rattle.srv6_rules.specs.Encapsulation.{Encapsulation, has_segment_routing, segment_routing_of, pushed, inner_lowered}
-
--- the policies that headers are made of: at least one segment and at most 127 (own rule), and a flow label of 20 bits
-pub record IsPolicy (policy : Policy) : Type 0 where
-  pub some : 0 < length policy.segments
-  pub most : length policy.segments ≤ MAX_SEGMENTS
-  pub flow_label : policy.flow_label < 2 ^ 20
+use Rattle.srv6_rules.specs.Encapsulation.{Encapsulation, has_segment_routing, segment_routing_of, pushed}
 
 -- what a policy encapsulates with, in the full or the reduced form
 abbrev pub encapsulation_by : Policy → Bool → Encapsulation
@@ -57,7 +49,7 @@ abbrev pub most_payload : ℕ
 most_payload = most_len - header_len
 
 -- what comes of it: the outer packet; or none, since its payload of so many bytes would be too long, or since the inner
--- packet's hop limit or TTL is at most 1 (own rule)
+-- packet's hop limit or TTL is at most 1
 pub data Encapsulating : Type 0 where
   Outer : Packet → Encapsulating
   TooBig : ℕ → Encapsulating
@@ -75,17 +67,3 @@ pushed_by policy reduced inner bytes = unless_too_big (outer_by policy reduced i
 abbrev pub headend_by : Policy → Family → ℕ → List ℕ → Encapsulating
 headend_by policy inner hop lowered =
     if nat_le hop 1 then InnerHop else pushed_by policy policy.reduced inner lowered
-
--- the hop limit or the TTL of the packet of a family that bytes hold
-abbrev pub inner_hop : Family → List ℕ → ℕ
-inner_hop V6 bytes = (packet_at bytes).hop_limit
-inner_hop V4 bytes = ttl (packet4_at bytes)
-
--- the bytes of that packet, lowered by one: the hop limit, or the TTL and the checksum that follows it
-abbrev pub inner_lowered_bytes : Family → List ℕ → List ℕ
-inner_lowered_bytes V6 bytes = spelling (inner_lowered (packet_at bytes))
-inner_lowered_bytes V4 bytes = spelling4 (lowered4 (packet4_at bytes))
-
--- H.Encaps of the packet of a family that bytes hold
-abbrev pub encapsulated_by : Policy → Family → List ℕ → Encapsulating
-encapsulated_by policy inner bytes = headend_by policy inner (inner_hop inner bytes) (inner_lowered_bytes inner bytes)

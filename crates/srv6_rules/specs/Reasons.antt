@@ -3,7 +3,7 @@ use Rattle.std.specs.Prelude.{ℕ, List, codes}
 use Rattle.srv6_rules.specs.declared.reason.Reason.{Reason}
 use Rattle.srv6_rules.specs.declared.reason.Reason.TheVariants as reasons
 
--- a reason's name, as it is shown (own rule)
+-- a reason's name, as it is shown
 unfoldable pub reason_name : Reason → List ℕ
 reason_name reasons.Truncated = codes "Truncated"
 reason_name reasons.BadVersion = codes "BadVersion"

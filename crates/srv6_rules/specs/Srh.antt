@@ -1,5 +1,5 @@
 -- The segment routing header as a value, and its one spelling (RFC 8754 section 2).
-use Rattle.std.specs.Prelude.{◌≡◌, ℕ, ◌+◌, ◌*◌, ◌/◌, ◌^◌, ◌<◌, List, ◌∷◌, ◌++◌, length, take, drop, slice_index, All}
+use Rattle.std.specs.Prelude.{ℕ, ◌+◌, ◌*◌, ◌/◌, List, ◌∷◌, ◌++◌, take, drop, slice_index}
 use Rattle.srv6_rules.specs.declared.numbers.TheConstants.{SEGMENT_ROUTING, EXTENSION_UNIT, EXTENSION_LEN_AT, ROUTING_TYPE_AT, SEGMENTS_LEFT_AT, LAST_ENTRY_AT, FLAGS_AT, TAG_AT, SEGMENT_LIST_AT, SEGMENT_LEN}
 use Rattle.srv6_rules.specs.Packet.{two_bytes, two_number, address_number}
 
@@ -27,17 +27,6 @@ segments_left_at = SEGMENTS_LEFT_AT
 -- the one spelling of a header
 abbrev pub srh_spelling : Srh → List ℕ
 srh_spelling s = s.next_header ∷ s.extension_len ∷ segment_routing ∷ s.segments_left ∷ s.last_entry ∷ s.flags ∷ (two_bytes s.tag ++ s.body)
-
--- the headers that bytes can spell
-pub record IsSrhSpellable (s : Srh) : Type 0 where
-  pub next_header : s.next_header < 2 ^ 8
-  pub extension_len : s.extension_len < 2 ^ 8
-  pub segments_left : s.segments_left < 2 ^ 8
-  pub last_entry : s.last_entry < 2 ^ 8
-  pub flags : s.flags < 2 ^ 8
-  pub tag : s.tag < 2 ^ 16
-  pub body_len : length s.body ≡ EXTENSION_UNIT * s.extension_len
-  pub body : All (λ b. b < 2 ^ 8) s.body
 
 -- the header whose bytes these are: of a routing header the bytes from its start to its end
 abbrev pub srh_of : List ℕ → Srh

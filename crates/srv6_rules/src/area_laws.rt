@@ -3,7 +3,8 @@
 ghost use Rattle.std.specs.Prelude.{◌≡◌, ◌≢◌, ◌<◌, ◌≤◌, ◌+◌, ◌*◌, List, [], ℕ, length, drop, slice_index, Option, Some, None};
 ghost use Rattle.srv6_rules.specs.declared.numbers.TheConstants.{PAD1, HMAC, OPTIONS_AT, SEGMENT_LIST_AT, SEGMENT_LEN};
 ghost use Rattle.srv6_rules.specs.Areas.{Fault, item_bytes, first_of, area_fault, option_fault, options_fault, tlv_fault, tlvs_fault};
-ghost use Rattle.srv6_rules.specs.Chain.{Header, LiesIn};
+ghost use Rattle.srv6_rules.specs.Chain.{Header};
+ghost use Rattle.srv6_rules.specs.ChainTerms.{LiesIn};
 ghost use Rattle.srv6_rules.specs.Packet.{Packet};
 ghost use Rattle.srv6_rules.specs.Srh.{srh_of, segment_routing};
 ghost use Rattle.srv6_rules.specs.declared.reason.Reason.TheVariants.{BadChain, OptionDiscard, OptionUnknown, HmacTlv, BadTlv};
@@ -55,7 +56,6 @@ pub fn segment_routing_items_are_judged_by_type_and_length()
 
 /// A fault among items stands in their area: of options in their header, after its first two
 /// bytes, and of a segment routing header's area in that header, after the entry at Last Entry
-/// (own rule).
 pub fn fault_of_an_item_has_its_place_in_the_header()
     ensures area { (judge : ℕ → List ℕ → Option Fault)
         → ((at : ℕ) (item : List ℕ) (f : Fault) → judge at item ≡ Some f → f.at ≡ at)

@@ -2,7 +2,8 @@
 
 ghost use Rattle.std.specs.Prelude.{◌≡◌, ◌⊎◌, ◌<◌, ◌≤◌, ◌+◌, ◌-◌, ◌*◌, ◌^◌, true, false, if◌then◌else◌, List, [], ℕ, ◌∷◌, ◌++◌, length, take, slice_index, All};
 ghost use Rattle.srv6_rules.specs.declared.numbers.TheConstants.{NEXT_HEADER_AT};
-ghost use Rattle.srv6_rules.specs.Chain.{ChainPlace, Header, Upper, Cut, LiesIn, StandsIn, EndsIn, Follow, is_extension, routing, is_first, is_whole, extension_bytes, header_in, behind_in, behind, place_of, place_behind, without, lowered, renamed, in_front, start_of, chain_of, chain_at, from_place};
+ghost use Rattle.srv6_rules.specs.Chain.{ChainPlace, Header, Upper, Cut, is_extension, routing, is_first, is_whole, extension_bytes, header_in, behind_in, behind, without, start_of, chain_of, from_place};
+ghost use Rattle.srv6_rules.specs.ChainTerms.{LiesIn, StandsIn, EndsIn, Follow, place_of, place_behind, lowered, renamed, in_front, chain_at};
 ghost use Rattle.srv6_rules.specs.Endpoint.{as_in};
 ghost use Rattle.srv6_rules.specs.Packet.{Packet, IsSpellable, spelling, header_len};
 ghost use Rattle.srv6_rules.specs.Srh.{Srh, srh_spelling};

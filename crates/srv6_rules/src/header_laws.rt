@@ -4,8 +4,10 @@ ghost use Rattle.std.specs.Prelude.{◌≡◌, ◌⊎◌, ◌<◌, ◌≤◌, �
 ghost use Rattle.srv6_rules.specs.Behaviours.{goes_on};
 ghost use Rattle.srv6_rules.specs.CompressedSteps.{compression_of, is_replace, shifted};
 ghost use Rattle.srv6_rules.specs.Areas.{Fault, options_fault};
-ghost use Rattle.srv6_rules.specs.Chain.{ChainPlace, Header, ChainEnd, Upper, Cut, LiesIn, StandsIn, is_extension, hop_by_hop, routing, fragment, destination_options, is_first, is_whole, header_in, behind_in, behind, chain_at, from_place, segments_left, is_segment_routing};
-ghost use Rattle.srv6_rules.specs.Endpoint.{Endpoint, Onward, Refused, MovesWithPsp, TakesWhole, IsPassed, IsTakenOut, IsSkipped, IsReached, Decides, outcome_without, next_segment, next_csid, shifts_at, is_options, over_headers, over_chain, at_header_by, at_sid_routing, at_header, at_upper, at_sid, at_address_header, at_address};
+ghost use Rattle.srv6_rules.specs.Chain.{ChainPlace, Header, ChainEnd, Upper, Cut, is_extension, hop_by_hop, routing, fragment, destination_options, is_first, is_whole, header_in, behind_in, behind, from_place, segments_left, is_segment_routing};
+ghost use Rattle.srv6_rules.specs.ChainTerms.{LiesIn, StandsIn, chain_at};
+ghost use Rattle.srv6_rules.specs.Endpoint.{Endpoint, Onward, Refused, outcome_without, next_segment, next_csid, shifts_at, is_options, over_headers, at_header_by, at_sid_routing, at_header, at_upper, at_sid, at_address_header, at_address};
+ghost use Rattle.srv6_rules.specs.EndpointTerms.{MovesWithPsp, TakesWhole, IsPassed, IsTakenOut, IsSkipped, IsReached, Decides, over_chain};
 ghost use Rattle.srv6_rules.specs.Packet.{Packet, header_len};
 ghost use Rattle.srv6_rules.specs.Srh.{srh_of, segments_left_at, routing_type_at};
 ghost use Rattle.srv6_rules.specs.declared.sid.Csid.TheVariants.{Plain};

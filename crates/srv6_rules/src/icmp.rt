@@ -1,10 +1,13 @@
 //! Which ICMPv6 error a drop gives, and laws about errors and their checksums (RFC 4443, RFC 1071).
 
 ghost use Rattle.std.specs.Prelude.{◌≡◌, ◌+◌, ◌-◌, ◌/◌, ◌%◌, ◌^◌, ◌<◌, ◌≤◌, ◌⊎◌, true, false, ◌&&◌, not, if◌then◌else◌, List, [], ℕ, ◌∷◌, ◌++◌, length, All, Option, Some, None};
-ghost use Rattle.v6_addr.specs.Kinds.{is_multicast};
-ghost use Rattle.srv6_rules.specs.Chain.{ChainPlace, Header, Chain, Upper, is_extension, is_whole, header_in, behind_in, behind, start_of, chain_at, from_place};
-ghost use Rattle.srv6_rules.specs.Checksum.{all_ones, ones_sum, word_sum, carried, pseudo_header, upper_layer_sum, Verifies};
-ghost use Rattle.srv6_rules.specs.Errors.{kind_of, IsKind, is_error_message, leads_to_error, ends_in_error, is_later_fragment, message_head, quote_of, error_checksum, error_packet};
+ghost use Rattle.v6_addr.specs.AddressKinds.{is_multicast};
+ghost use Rattle.srv6_rules.specs.Chain.{ChainPlace, Header, Chain, Upper, is_extension, is_whole, header_in, behind_in, behind, start_of, from_place};
+ghost use Rattle.srv6_rules.specs.ChainTerms.{chain_at};
+ghost use Rattle.srv6_rules.specs.Checksum.{all_ones, ones_sum, pseudo_header, upper_layer_sum};
+ghost use Rattle.srv6_rules.specs.ChecksumTerms.{word_sum, carried, Verifies};
+ghost use Rattle.srv6_rules.specs.Errors.{kind_of, is_error_message, leads_to_error, ends_in_error, is_later_fragment, message_head, quote_of, error_checksum, error_packet};
+ghost use Rattle.srv6_rules.specs.ErrorsTerms.{IsKind};
 ghost use Rattle.srv6_rules.specs.Packet.{Packet, IsSpellable, spelling, header_len, two_bytes, four_bytes};
 ghost use Rattle.srv6_rules.specs.declared.numbers.TheConstants.{ICMPV6, MIN_MTU};
 ghost use Rattle.srv6_rules.specs.declared.icmp.IcmpKind.{IcmpKind as IcmpKindValue};

@@ -9,18 +9,18 @@
 
 pub mod area_laws;
 pub mod chain_laws;
-pub mod compressed;
+pub mod compressed_laws;
 mod compression;
-pub mod encapsulation;
+pub mod encapsulation_laws;
 mod family;
 pub mod figures;
 pub mod header_laws;
 pub mod icmp;
-pub mod ip4;
+pub mod ip4_laws;
 pub mod numbers;
 pub mod packet_laws;
-pub mod policies;
 mod policy;
+pub mod policy_laws;
 mod reason;
 mod sid;
 pub mod sid_laws;

@@ -116,7 +116,7 @@ pub const ICMPV6_HEADER_LEN: usize = 8;
 /// 1,232 (RFC 4443 section 2.4 (c)).
 pub const MAX_QUOTE_LEN: usize = MIN_MTU - IPV6_HEADER_LEN - ICMPV6_HEADER_LEN;
 
-/// The hop limit of an ICMPv6 error: 64 (own rule).
+/// The hop limit of an ICMPv6 error: 64.
 pub const ICMPV6_HOP_LIMIT: u8 = 64;
 
 /// The type of Destination Unreachable: 1 (RFC 4443 section 3.1).

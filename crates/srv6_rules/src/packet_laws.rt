@@ -2,8 +2,10 @@
 
 ghost use Rattle.std.specs.Prelude.{◌≡◌, ◌<◌, ◌≤◌, ◌+◌, ◌*◌, ◌^◌, List, ℕ, ◌++◌, length, take, drop, slice_index, slice_set, All, flat_map};
 ghost use Rattle.srv6_rules.specs.Chain.{segments_left};
-ghost use Rattle.srv6_rules.specs.Packet.{Packet, V6, IsSpellable, IsContent, Spells, spelling, content_of, read_as, entered, bytes_of, header_len, stated_len, packet_at, two_bytes, four_bytes, first_word, address_bytes, two_number, four_number, address_number};
-ghost use Rattle.srv6_rules.specs.Srh.{Srh, IsSrhSpellable, srh_of, srh_spelling, segment_routing};
+ghost use Rattle.srv6_rules.specs.Packet.{Packet, V6, IsSpellable, spelling, content_of, read_as, entered, bytes_of, header_len, stated_len, packet_at, two_bytes, four_bytes, first_word, address_bytes, two_number, four_number, address_number};
+ghost use Rattle.srv6_rules.specs.PacketTerms.{IsContent, Spells};
+ghost use Rattle.srv6_rules.specs.Srh.{Srh, srh_of, srh_spelling, segment_routing};
+ghost use Rattle.srv6_rules.specs.SrhTerms.{IsSrhSpellable};
 ghost use Rattle.srv6_rules.specs.declared.family.Family.{Family};
 
 /// A number has 2, 4 or 16 bytes, each below 256 (RFC 791 appendix B).
@@ -103,7 +105,7 @@ pub fn what_reads_was_spelled()
 {}
 
 /// What enters a node as a packet of a family is a content that bytes can spell, and its bytes read
-/// as it again (own rule).
+/// as it again.
 pub fn what_enters_is_a_content()
     ensures content { (family : Family) (bytes : List ℕ) → All (λ b. b < 2 ^ 8) bytes
         → IsContent (entered family bytes) }

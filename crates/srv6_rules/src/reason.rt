@@ -6,7 +6,7 @@ ghost use Rattle.srv6_rules.specs.Reasons.{reason_name};
 use std::fmt;
 use std::fmt::{Display, Formatter};
 
-/// Why a node dropped a packet (own rule).
+/// Why a node dropped a packet.
 #[derive(Clone, Copy, Debug, PartialEq, Eq)]
 pub enum Reason {
     /// Fewer bytes than the header and the lengths in it say, or IPv4 lengths that do not fit one

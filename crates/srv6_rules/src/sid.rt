@@ -1,8 +1,7 @@
 //! SIDs and their behaviours, and sets of links.
 
 ghost use Rattle.std.specs.Prelude.{◌≡◌};
-ghost use Rattle.srv6_rules.specs.Behaviours.{behaviour_goes_on, behaviour_exposes, behaviour_takes_links, behaviour_table, behaviour_policy, behaviour_reduces, behaviour_takes_flavours};
-ghost use Rattle.srv6_rules.specs.Behaviours.{goes_on, exposes};
+ghost use Rattle.srv6_rules.specs.Behaviours.{behaviour_goes_on, behaviour_exposes, behaviour_takes_links, behaviour_table, behaviour_policy, behaviour_reduces, behaviour_takes_flavours, goes_on, exposes};
 ghost use Rattle.srv6_rules.specs.CompressedSteps.{compression_of};
 
 use crate::compression::Compression;
@@ -67,7 +66,7 @@ pub enum Behaviour {
     },
 }
 
-/// A set of equal next hops, as numbers of links in the order of the description (own rule).
+/// A set of equal next hops, as numbers of links in the order of the description.
 pub type LinkSet = Seq<u32>;
 
 /// A SID: a prefix that a node has, and what is done with packets that come to it (RFC 8986

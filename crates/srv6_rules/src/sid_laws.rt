@@ -2,10 +2,12 @@
 
 ghost use Rattle.std.specs.Prelude.{◌≡◌, ◌⊎◌, ◌↔◌, ◌<◌, ◌≤◌, ◌+◌, true, false, List, ℕ, ◌++◌, length, drop};
 ghost use Rattle.srv6_rules.specs.Behaviours.{ipv6_inside, ipv4_inside, is_packet_inside, goes_on, exposes};
-ghost use Rattle.srv6_rules.specs.CompressedSteps.{SuitsCompression};
+ghost use Rattle.srv6_rules.specs.CompressedStepsTerms.{SuitsCompression};
 ghost use Rattle.srv6_rules.specs.Packet4.{Packet4, spelling4};
-ghost use Rattle.srv6_rules.specs.Endpoint.{Onward, Exposed, Delivered, Refused, StepsTo, StepsWithPsp, TakesWhole, ChangesFewBytes, ExposesFrom, at_sid, at_address};
-ghost use Rattle.srv6_rules.specs.Packet.{Packet, V6, V4, Unreadable, IsSpellable, IsContent, spelling, read_as, bytes_of, header_len};
+ghost use Rattle.srv6_rules.specs.Endpoint.{Onward, Exposed, Delivered, Refused, at_sid, at_address};
+ghost use Rattle.srv6_rules.specs.EndpointTerms.{StepsTo, StepsWithPsp, TakesWhole, ChangesFewBytes, ExposesFrom};
+ghost use Rattle.srv6_rules.specs.Packet.{Packet, V6, V4, Unreadable, IsSpellable, spelling, read_as, bytes_of, header_len};
+ghost use Rattle.srv6_rules.specs.PacketTerms.{IsContent};
 ghost use Rattle.srv6_rules.specs.declared.sid.Behaviour.TheVariants.{End, EndX, EndT, Dx6, Dx4, Dt6, Dt4, Dt46, B6, B6Red};
 ghost use Rattle.srv6_rules.specs.declared.family.Family.{Family};
 ghost use Rattle.srv6_rules.specs.declared.reason.Reason.{Reason};
@@ -107,7 +109,7 @@ pub fn delivered_packet_is_as_it_was()
         → at_address p ≡ Exposed family bytes → ⊥ }
 {}
 
-/// The place of a fault lies in the packet or at its end (own rule).
+/// The place of a fault lies in the packet or at its end.
 pub fn fault_has_its_place_in_the_packet()
     ensures at_sid { (s : SidEntry) (allow : List ℕ) (p : Packet) (reason : Reason) (at : ℕ)
         → at_sid s allow p ≡ Refused reason at → at ≤ header_len + length p.payload }

@@ -4,24 +4,24 @@ use Rattle.std.proofs.Math.Seq.{drop-append_seam}
 use Rattle.srx_edge.specs.Edge.{prepend_to, drop_from}
 use Rattle.srx_edge.specs.Sources.{SourceSeen, passed, taken, Gives, DrawnUpTo}
 
-prepend_to-prepend_to : (bytes more : List ℕ) (left : Option (List ℕ))
+prepend_to_prepend_to : (bytes more : List ℕ) (left : Option (List ℕ))
     → prepend_to bytes (prepend_to more left) ≡ prepend_to (bytes ++ more) left
-prepend_to-prepend_to bytes more None = refl
-prepend_to-prepend_to bytes more (Some left) = ap Some (sym (append_assoc bytes more left))
+prepend_to_prepend_to bytes more None = refl
+prepend_to_prepend_to bytes more (Some left) = ap Some (sym (append_assoc bytes more left))
 
 -- the bytes that were taken, and then more
 pub take_more : (bytes more : List ℕ) (first now later : Option (List ℕ)) → first ≡ prepend_to bytes now → now ≡ prepend_to more later
     → first ≡ prepend_to (bytes ++ more) later
-take_more bytes more first now later e next = e ∙ ap (prepend_to bytes) next ∙ prepend_to-prepend_to bytes more later
+take_more bytes more first now later e next = e ∙ ap (prepend_to bytes) next ∙ prepend_to_prepend_to bytes more later
 
-prepended-drop : (bytes : List ℕ) (first later : Option (List ℕ)) → first ≡ prepend_to bytes later → later ≡ drop_from (length bytes) first
-prepended-drop bytes first None e = ap (drop_from (length bytes)) (sym e)
-prepended-drop bytes first (Some left) e = ap Some (sym (drop-append_seam bytes left)) ∙ ap (drop_from (length bytes)) (sym e)
+prepended_drop : (bytes : List ℕ) (first later : Option (List ℕ)) → first ≡ prepend_to bytes later → later ≡ drop_from (length bytes) first
+prepended_drop bytes first None e = ap (drop_from (length bytes)) (sym e)
+prepended_drop bytes first (Some left) e = ap Some (sym (drop-append_seam bytes left)) ∙ ap (drop_from (length bytes)) (sym e)
 
-prepended-longer : (n : ℕ) (bytes : List ℕ) (first later : Option (List ℕ)) → length bytes ≡ n + 1 → first ≡ prepend_to bytes later
+prepended_longer : (n : ℕ) (bytes : List ℕ) (first later : Option (List ℕ)) → length bytes ≡ n + 1 → first ≡ prepend_to bytes later
     → IfSome first (λ input. n < length input)
-prepended-longer n bytes first None size e = subst (λ (o : Option (List ℕ)). IfSome o (λ input. n < length input)) (sym e) tt
-prepended-longer n bytes first (Some left) size e =
+prepended_longer n bytes first None size e = subst (λ (o : Option (List ℕ)). IfSome o (λ input. n < length input)) (sym e) tt
+prepended_longer n bytes first (Some left) size e =
     let longer : n < length (bytes ++ left) = omega (arith, length-append bytes left) in
     subst (λ (o : Option (List ℕ)). IfSome o (λ input. n < length input)) (sym e) longer
 
@@ -34,9 +34,9 @@ gave_some into filled count mid new gives room some =
     let others = gives.others in rw (wide, moves) at others
 
 -- only what is left changes what a read that passed leaves
-passed-same : (left : Option (List ℕ)) (old mid : SourceSeen) → mid.faults ≡ old.faults → mid.ends ≡ old.ends
+passed_same : (left : Option (List ℕ)) (old mid : SourceSeen) → mid.faults ≡ old.faults → mid.ends ≡ old.ends
     → passed left false mid ≡ passed left false old
-passed-same left old mid faults ends =
+passed_same left old mid faults ends =
     ap (λ (n : ℕ). record { left = left; faults = n; ends = mid.ends; stopped = false }) faults
     ∙ ap (λ (n : ℕ). record { left = left; faults = old.faults; ends = n; stopped = false }) ends
 
@@ -56,10 +56,10 @@ drawn_too_many limit count into filled bytes old mid new before faults ends give
     let all = bytes ++ take count filled in
     let whole = read_more into filled bytes count old mid new before gives in
     let size : length all ≡ limit + 1 = omega (arith, length-append bytes (take count filled), length-take count filled, gives.within) in
-    let left : new.left ≡ drop_from (limit + 1) old.left = rw size at (prepended-drop all old.left new.left whole) in (
-      prepended-longer limit all old.left new.left size whole,
+    let left : new.left ≡ drop_from (limit + 1) old.left = rw size at (prepended_drop all old.left new.left whole) in (
+      prepended_longer limit all old.left new.left size whole,
       gave_some into filled count mid new gives room some
-          ∙ (passed-same new.left old mid faults ends ∙ ap (λ (o : Option (List ℕ)). passed o false old) left),
+          ∙ (passed_same new.left old mid faults ends ∙ ap (λ (o : Option (List ℕ)). passed o false old) left),
     )
 
 -- at most the limit was taken, and memory was wanting
@@ -71,5 +71,5 @@ drawn_wanting limit count into filled bytes old mid new before faults ends gives
   bytes = bytes ++ take count filled;
   whole = read_more into filled bytes count old mid new before gives;
   fits = omega (arith, length-append bytes (take count filled), length-take count filled);
-  seen = gave_some into filled count mid new gives room some ∙ passed-same new.left old mid faults ends;
+  seen = gave_some into filled count mid new gives room some ∙ passed_same new.left old mid faults ends;
 }

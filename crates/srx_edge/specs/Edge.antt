@@ -1,4 +1,4 @@
--- Words on what files, sources and sinks tell of themselves. `None` tells nothing (own rules).
+-- Words on what files, sources and sinks tell of themselves. `None` tells nothing.
 use Rattle.std.specs.Prelude.{ℕ, ◌+◌, ◌-◌, ◌^◌, ◌==◌, List, [], ◌∷◌, ◌++◌, drop, Option, None, Some, if◌then◌else◌}
 use Rattle.std.specs.Str.{bytes_eq}
 

@@ -1,4 +1,5 @@
--- What is seen of the fakes in memory: what they tell, and the plan of their faults (own rules).
+-- Need not be believed: helps proofs and other laws.
+-- What is seen of the fakes in memory: what they tell, and the plan of their faults.
 use Rattle.std.specs.Prelude.{ℕ, Bool, false, List, Some}
 use Rattle.srx_edge.specs.Sinks.{SinkSeen}
 use Rattle.srx_edge.specs.Sources.{SourceSeen}

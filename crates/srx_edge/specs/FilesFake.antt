@@ -1,4 +1,5 @@
--- What a read of files in memory does (own rules).
+-- Need not be believed: helps proofs and other laws.
+-- What a read of files in memory does.
 use Rattle.std.specs.Prelude.{◌≡◌, ◌==◌, ℕ, ◌+◌, ◌<◌, ◌≤◌, ◌++◌, ◌∷◌, [], List, length, Bool, true, false, Contains, None, Some, IsSomeAnd, Result, Ok, Err}
 use Rattle.std.specs.Global.{Vec}
 use Rattle.srx_edge.specs.Edge.{next_count, file_named}

@@ -1,4 +1,4 @@
--- What is seen of files, and what a read does (own rules).
+-- What is seen of files, and what a read does.
 use Rattle.std.specs.Prelude.{◌≡◌, ℕ, ◌<◌, ◌≤◌, Bool, true, false, List, length, Option, None, Some, IfSome, IsSomeAnd, IsTrue, Result, Ok, Err}
 use Rattle.std.specs.Global.{Vec}
 use Rattle.srx_edge.specs.declared.file_access.FileFault.{FileFault}

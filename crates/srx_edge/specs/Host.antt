@@ -1,4 +1,5 @@
--- What is seen of the adapters: what they stand on, and what they count. Streams tell nothing (own rules).
+-- Need not be believed: helps proofs and other laws.
+-- What is seen of the adapters: what they stand on, and what they count. Streams tell nothing.
 use Rattle.std.specs.Prelude.{◌≡◌, ℕ, ◌<◌, ◌≤◌, false, List, length, Option, None, Some, IfSome, IsSomeAnd, Result, Ok, Err, ⊤}
 use Rattle.std.specs.Global.{Vec}
 use Rattle.srx_edge.specs.Edge.{file_named}

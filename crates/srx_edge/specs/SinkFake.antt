@@ -1,4 +1,5 @@
--- What a write to a sink in memory does (own rules).
+-- Need not be believed: helps proofs and other laws.
+-- What a write to a sink in memory does.
 use Rattle.std.specs.Prelude.{◌≡◌, ◌==◌, ℕ, true, false, ◌<◌, ◌++◌, List, length, Contains, Result, Ok, Err, if◌then◌else◌}
 use Rattle.srx_edge.specs.Edge.{next_count}
 use Rattle.srx_edge.specs.Fakes.{SinkState, SureSinkState}

@@ -1,9 +1,7 @@
--- What is seen of a sink, and what its calls do (own rules).
+-- What is seen of a sink, and what its calls do.
 use Rattle.std.specs.Prelude.{◌≡◌, ℕ, ◌<◌, ◌≤◌, Bool, true, false, ◌&&◌, ◌==◌, not, List, [], ◌∷◌, length, take, Option, Result, Ok, Err, if◌then◌else◌}
 use Rattle.srx_edge.specs.declared.output.SinkFault.{SinkFault}
 use Rattle.srx_edge.specs.declared.output.SinkFault.TheVariants as faults
-use Rattle.srx_edge.specs.declared.output.PourFault.{PourFault}
-use Rattle.srx_edge.specs.declared.output.PourFault.TheVariants as pours
 use Rattle.srx_edge.specs.Edge.{next_count, append_to}
 
 -- what is seen of a sink
@@ -38,10 +36,3 @@ Writes piece (Ok count) old new =
     (count ≤ length piece) × (new ≡ (if is_stuck piece count then failed old else sent (take count piece) old))
 Writes piece (Err faults.Failed) old new = (0 < length piece) × (new ≡ failed old)
 Writes piece (Err faults.NoMemory) old new = (0 < length piece) × (new ≡ wanting old)
-
--- `pour` sends all the bytes, or exactly the first `written` of them, which aren't all, and then the sink was stopped by
--- one fault or one want: no call that did anything came after it
-abbrev pub Pours : List ℕ → Result (Unit {0}) PourFault → SinkSeen → SinkSeen → Type 0
-Pours bytes (Ok unit) old new = new ≡ sent bytes old
-Pours bytes (Err (pours.Failed written)) old new = (written < length bytes) × (new ≡ failed (sent (take written bytes) old))
-Pours bytes (Err (pours.NoMemory written)) old new = (written < length bytes) × (new ≡ wanting (sent (take written bytes) old))

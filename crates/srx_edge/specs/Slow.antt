@@ -1,4 +1,5 @@
--- What the slow source and the slow sink stand on (own rules).
+-- Need not be believed: helps proofs and other laws.
+-- What the slow source and the slow sink stand on.
 use Rattle.srx_edge.specs.declared.slow_source.SlowSource.{SlowSource}
 use Rattle.srx_edge.specs.declared.slow_sink.SlowSink.{SlowSink}
 

@@ -1,4 +1,5 @@
--- What a read of a source in memory does (own rules).
+-- Need not be believed: helps proofs and other laws.
+-- What a read of a source in memory does.
 use Rattle.std.specs.Prelude.{◌≡◌, ◌==◌, ℕ, true, false, ◌<◌, ◌++◌, List, take, drop, length, min, Contains, Result, Ok, Err, if◌then◌else◌}
 use Rattle.srx_edge.specs.Edge.{next_count}
 use Rattle.srx_edge.specs.Fakes.{SourceState, SureSourceState}

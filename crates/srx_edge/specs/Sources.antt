@@ -1,10 +1,7 @@
--- What is seen of a source, and what its calls do (own rules).
-use Rattle.std.specs.Prelude.{◌≡◌, ℕ, ◌+◌, ◌<◌, ◌≤◌, Bool, true, false, ◌==◌, List, length, take, drop, Option, IfSome, Result, Ok, Err, if◌then◌else◌}
-use Rattle.std.specs.Global.{Vec}
+-- What is seen of a source, and what its calls do.
+use Rattle.std.specs.Prelude.{◌≡◌, ℕ, ◌<◌, ◌≤◌, Bool, true, false, ◌==◌, List, length, take, drop, Option, Result, Ok, Err, if◌then◌else◌}
 use Rattle.std.specs.Io.KnownBytes.{IsAtEnd}
 use Rattle.srx_edge.specs.declared.input.Failed.{Failed}
-use Rattle.srx_edge.specs.declared.input.DrawFault.{DrawFault}
-use Rattle.srx_edge.specs.declared.input.DrawFault.TheVariants as draws
 use Rattle.srx_edge.specs.Edge.{next_count, prepend_to, drop_from, emptied}
 
 -- what is seen of a source
@@ -50,12 +47,3 @@ pub record DrawnUpTo (limit : ℕ) (left_by : SourceSeen → SourceSeen) (old ne
   pub whole : old.left ≡ prepend_to bytes new.left
   pub fits : length bytes ≤ limit
   pub seen : new ≡ left_by (passed new.left false old)
-
--- `draw` gives all that was left, or one read failed, and no call came after it, or there is more than the limit, and one
--- byte more was taken, or memory was wanting
-abbrev pub Draws : ℕ → Result (Vec ℕ) DrawFault → SourceSeen → SourceSeen → Type 0
-Draws limit (Ok bytes) old new = (length bytes.items ≤ limit) × IfSome old.left (λ input. bytes.items ≡ input) × (new ≡ drained old)
-Draws limit (Err draws.Failed) old new = DrawnUpTo limit failed old new
-Draws limit (Err (draws.TooBig most)) old new =
-    (most ≡ limit) × IfSome old.left (λ input. limit < length input) × (new ≡ taken (limit + 1) old)
-Draws limit (Err draws.NoMemory) old new = DrawnUpTo limit (λ source. source) old new

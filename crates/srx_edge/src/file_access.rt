@@ -3,7 +3,7 @@ ghost use Rattle.srx_edge.specs.FilesRead.{FilesSeen, ReadsFile};
 
 use std::alloc::Global;
 
-/// Why a file was not read. (own rule)
+/// Why a file was not read.
 #[derive(Clone, Copy, Debug, PartialEq, Eq)]
 pub enum FileFault {
     /// The read failed; a file that is missing is a failure too.
@@ -17,7 +17,7 @@ pub enum FileFault {
     NoMemory,
 }
 
-/// Files that are read whole, by name. (own rule)
+/// Files that are read whole, by name.
 pub trait Files {
     /// What is seen of them: the files and the names asked for, where they are told, the faults,
     /// and whether they are stopped.

@@ -8,7 +8,7 @@ use crate::opening::{Opens, read_whole};
 use std::alloc::Global;
 use std::fs;
 
-/// What opens the files of the system. It tells nothing of them. (own rule)
+/// What opens the files of the system. It tells nothing of them.
 #[derive(Drop)]
 pub struct HostOpener<'a, R> {
     rt: &'a R,
@@ -26,7 +26,7 @@ impl<R: fs::Files> Opens for HostOpener<'_, R> {
 
 /// Files that are opened by name and read to their end, with a count of the reads that failed. They
 /// tell what their opener tells: a file that it tells to be missing is a failure, and of one that
-/// is opened all bytes are given. (own rule)
+/// is opened all bytes are given.
 #[derive(Drop)]
 pub struct HostFiles<O> {
     opener: O,
@@ -35,7 +35,7 @@ pub struct HostFiles<O> {
 }
 
 impl<'a, R> HostFiles<HostOpener<'a, R>> {
-    /// The files of the system. No read has failed yet. (own rule)
+    /// The files of the system. No read has failed yet.
     pub fn new(rt: &'a R) -> HostFiles<HostOpener<'a, R>>
         ensures { host_files_seen (λ _. None) result
             ≡ record { told = None; asked = None; faults = 0; stopped = false; sure = false } }
@@ -45,7 +45,7 @@ impl<'a, R> HostFiles<HostOpener<'a, R>> {
 }
 
 impl<O> HostFiles<O> {
-    /// The files that are opened so. No read has failed yet. (own rule)
+    /// The files that are opened so. No read has failed yet.
     pub fn over(opener: O) -> HostFiles<O>
         ensures opener { opener_of result ≡ opener }
         ensures seen { host_files_seen (λ _. None) result

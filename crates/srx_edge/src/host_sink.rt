@@ -8,7 +8,7 @@ use crate::output::{Sink, SinkFault};
 use std::io::Write;
 
 /// A writer of std as a sink, with a count of the writes that failed. It tells no bytes, and never
-/// answers NoMemory. It does not flush. (own rule)
+/// answers NoMemory. It does not flush.
 #[derive(Drop)]
 pub struct HostSink<W> {
     writer: W,
@@ -17,7 +17,7 @@ pub struct HostSink<W> {
 }
 
 impl<W> HostSink<W> {
-    /// No write has failed yet. (own rule)
+    /// No write has failed yet.
     pub fn new(writer: W) -> HostSink<W>
         ensures writer { writer_of result ≡ writer }
         ensures seen { host_sink_seen result

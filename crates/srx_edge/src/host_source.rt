@@ -10,7 +10,7 @@ use std::io::Read;
 const PIECE: usize = 4096;
 
 /// A reader of std as a source, with counts of the reads that failed and that found the end. It
-/// tells no bytes. (own rule)
+/// tells no bytes.
 #[derive(Drop)]
 pub struct HostSource<R> {
     reader: R,
@@ -20,7 +20,7 @@ pub struct HostSource<R> {
 }
 
 impl<R> HostSource<R> {
-    /// No read has failed yet. (own rule)
+    /// No read has failed yet.
     pub fn new(reader: R) -> HostSource<R>
         ensures reader { reader_of result ≡ reader }
         ensures seen { host_source_seen result

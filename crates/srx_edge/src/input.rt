@@ -1,13 +1,14 @@
 //! What gives bytes, in pieces.
-ghost use Rattle.srx_edge.specs.Sources.{SourceSeen, Reads, Draws};
+ghost use Rattle.srx_edge.specs.Sources.{SourceSeen, Reads};
+ghost use Rattle.srx_edge.specs.SourcesTerms.{Draws};
 
 use std::alloc::Global;
 
-/// A read that failed. (own rule)
+/// A read that failed.
 #[derive(Clone, Copy, Debug, PartialEq, Eq)]
 pub struct Failed;
 
-/// What gives bytes, in pieces. (own rule)
+/// What gives bytes, in pieces.
 pub trait Source {
     /// What is seen of it: the bytes that are left, where they are told, the faults, the ends that
     /// were found, and whether it is stopped.
@@ -21,7 +22,7 @@ pub trait Source {
         ensures { Reads into.old into.new result (seen self.old) (seen self.new) };
 }
 
-/// Why a source was not drawn to its end. (own rule)
+/// Why a source was not drawn to its end.
 #[derive(Clone, Copy, Debug, PartialEq, Eq)]
 pub enum DrawFault {
     /// A read failed.
@@ -40,7 +41,7 @@ const PIECE: usize = 4096;
 /// Takes all that is left, at most `limit` bytes, and finds the end once. TooBig comes exactly
 /// where one byte more than `limit` was taken, and no more, Failed only where the source's count of
 /// faults rose. No fault and no end is followed by another read: after Failed the source has one
-/// fault more and is stopped. After a refusal the bytes that were taken stay taken. (own rule)
+/// fault more and is stopped. After a refusal the bytes that were taken stay taken.
 pub fn draw<S: Source>(alloc: Global, source: &mut S, limit: usize) -> Result<Vec<u8>, DrawFault>
     ensures { Draws limit result (S.seen source.old) (S.seen source.new) }
 {

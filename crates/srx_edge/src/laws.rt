@@ -8,7 +8,7 @@ ghost use Rattle.srx_edge.specs.Sources.{Reads};
 ghost use Rattle.srx_edge.specs.Sinks.{Writes};
 
 /// Where the count of faults stays, no call fails: none of `SureSource` and `SureSink`, whether
-/// slowed or not. (own rule)
+/// slowed or not.
 pub fn sure_ends_never_fail()
     ensures source { (into filled : List ℕ) (fault : Failed) (old new : SureSourceState)
         → Reads into filled (Err fault) (sure_source_seen old) (sure_source_seen new) → ⊥ }

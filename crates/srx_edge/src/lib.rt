@@ -17,6 +17,7 @@
 //! which opens the file of a name.
 #![tactic(auto)]
 
+mod failing_calls;
 mod file_access;
 mod host_files;
 mod host_sink;
@@ -28,7 +29,6 @@ mod mem_sink;
 mod mem_source;
 mod opening;
 mod output;
-mod plan;
 mod rest;
 mod slow_sink;
 mod slow_source;

@@ -25,7 +25,7 @@ impl Model for Held {
 }
 
 /// Files in memory. The reads of the given numbers fail, counted from 1 among those that don't
-/// answer NoMemory, and so does each read of a name that isn't held. (own rule)
+/// answer NoMemory, and so does each read of a name that isn't held.
 #[derive(Drop)]
 pub struct MemFiles {
     alloc: Global,
@@ -64,7 +64,7 @@ fn find<'a>(files: &'a [Held], name: &str) -> Option<&'a [u8]>
 
 impl MemFiles {
     /// No file is held, and no name was asked for. `fails` has the numbers of the reads that fail,
-    /// counted from 1. (own rule)
+    /// counted from 1.
     pub fn new(alloc: Global, fails: &[u64]) -> Result<MemFiles, NoMemory>
         ensures { IfOk result (λ files. files
             ≡ record {
@@ -85,14 +85,14 @@ impl MemFiles {
         })
     }
 
-    /// Whether a file of this name is held. (own rule)
+    /// Whether a file of this name is held.
     pub fn holds(&self, name: &str) -> bool
         ensures { IsTrue result ↔ IsSome (file_named self.now.files name.now) }
     {
         find(&self.files, name).is_some()
     }
 
-    /// Adds a file, of a name that isn't held. (own rule)
+    /// Adds a file, of a name that isn't held.
     pub fn hold(&mut self, name: &str, bytes: &[u8]) -> Result<(), NoMemory>
         requires { file_named self.old.files name.now ≡ None }
         ensures ok { OnOk result (self.new

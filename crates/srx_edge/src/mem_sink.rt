@@ -3,14 +3,14 @@ ghost use Rattle.std.specs.Prelude.{◌≡◌, false, [], IfOk};
 ghost use Rattle.srx_edge.specs.Fakes.{sink_seen};
 ghost use Rattle.srx_edge.specs.SinkFake.{MemWrites};
 
+use crate::failing_calls::Plan;
 use crate::output::{Sink, SinkFault};
-use crate::plan::Plan;
 use base::NoMemory;
 use std::alloc::Global;
 use std::marker::Model;
 
 /// A sink in memory. The writes of the given numbers fail, counted from 1 among those of pieces
-/// that aren't empty and that don't answer NoMemory. (own rule)
+/// that aren't empty and that don't answer NoMemory.
 #[derive(Drop)]
 pub struct MemSink {
     bytes: Vec<u8>,
@@ -35,7 +35,7 @@ impl Model for MemSink {
 }
 
 impl MemSink {
-    /// An empty sink. `fails` has the numbers of the writes that fail, counted from 1. (own rule)
+    /// An empty sink. `fails` has the numbers of the writes that fail, counted from 1.
     pub fn new(alloc: Global, fails: &[u64]) -> Result<MemSink, NoMemory>
         ensures { IfOk result (λ sink. sink ≡ record {
           held = [];
@@ -54,7 +54,7 @@ impl MemSink {
         })
     }
 
-    /// What the sink holds. (own rule)
+    /// What the sink holds.
     pub fn held(&self) -> &[u8]
         ensures { result.now ≡ self.now.held }
     {

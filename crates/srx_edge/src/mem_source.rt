@@ -3,15 +3,15 @@ ghost use Rattle.std.specs.Prelude.{◌≡◌, false, IfOk};
 ghost use Rattle.srx_edge.specs.Fakes.{source_seen};
 ghost use Rattle.srx_edge.specs.SourceFake.{MemReads};
 
+use crate::failing_calls::Plan;
 use crate::input::{Failed, Source};
-use crate::plan::Plan;
 use crate::rest::Rest;
 use base::NoMemory;
 use std::alloc::Global;
 use std::marker::Model;
 
 /// A source in memory. The reads of the given numbers fail, counted from 1 among those into slices
-/// that aren't empty. (own rule)
+/// that aren't empty.
 #[derive(Drop)]
 pub struct MemSource {
     rest: Rest,
@@ -37,7 +37,7 @@ impl Model for MemSource {
 
 impl MemSource {
     /// A source that has these bytes left. `fails` has the numbers of the reads that fail, counted
-    /// from 1. (own rule)
+    /// from 1.
     pub fn new(alloc: Global, bytes: &[u8], fails: &[u64]) -> Result<MemSource, NoMemory>
         ensures { IfOk result (λ source. source ≡ record {
           left = bytes.now;

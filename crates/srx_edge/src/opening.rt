@@ -1,12 +1,12 @@
 //! What opens files by name, and all that is read of one.
 ghost use Rattle.std.specs.Prelude.{List, ℕ, Option};
-ghost use Rattle.srx_edge.specs.Whole.{Opened, ReadsWhole};
+ghost use Rattle.srx_edge.specs.WholeReads.{Opened, ReadsWhole};
 
 use crate::input::{DrawFault, Failed};
 use std::alloc::Global;
 use std::io::Read;
 
-/// What opens files by name. (own rule)
+/// What opens files by name.
 pub trait Opens {
     /// What is read of a file that was opened.
     type Reader: Read + Drop;
@@ -24,7 +24,7 @@ const PIECE: usize = 4096;
 
 /// Takes all that a reader has left, at most `limit` bytes. TooBig comes exactly where one byte
 /// more than `limit` was taken, and no more. By its code alone, since a `Read` tells neither its
-/// end nor its faults, nothing is read after the end or after a read that failed. (own rule)
+/// end nor its faults, nothing is read after the end or after a read that failed.
 pub fn read_whole<R: Read>(
     alloc: Global,
     reader: &mut R,

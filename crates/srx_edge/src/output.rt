@@ -1,7 +1,8 @@
 //! What takes bytes, in pieces.
-ghost use Rattle.srx_edge.specs.Sinks.{SinkSeen, Writes, Pours};
+ghost use Rattle.srx_edge.specs.Sinks.{SinkSeen, Writes};
+ghost use Rattle.srx_edge.specs.SinksTerms.{Pours};
 
-/// Why a piece was not written. (own rule)
+/// Why a piece was not written.
 #[derive(Clone, Copy, Debug, PartialEq, Eq)]
 pub enum SinkFault {
     /// The write failed.
@@ -10,7 +11,7 @@ pub enum SinkFault {
     NoMemory,
 }
 
-/// What takes bytes, in pieces. (own rule)
+/// What takes bytes, in pieces.
 pub trait Sink {
     /// What is seen of it: the bytes that it holds, where they are told, the faults, the wants of
     /// memory, and whether it is stopped.
@@ -24,7 +25,7 @@ pub trait Sink {
         ensures { Writes piece.now result (seen self.old) (seen self.new) };
 }
 
-/// Why not all bytes went out, and how many did, counted from the first. (own rule)
+/// Why not all bytes went out, and how many did, counted from the first.
 #[derive(Clone, Copy, Debug, PartialEq, Eq)]
 pub enum PourFault {
     /// A write failed, or took no byte.
@@ -42,7 +43,7 @@ pub enum PourFault {
 /// Writes all the bytes. After a fault exactly the first `written` of them went out, which are not
 /// all; Failed comes only where the sink's count of faults rose, NoMemory only where its count of
 /// wants did. Neither is followed by another write: the sink has one fault or one want more, and is
-/// stopped. (own rule)
+/// stopped.
 pub fn pour<O: Sink>(sink: &mut O, bytes: &[u8]) -> Result<(), PourFault>
     ensures { Pours bytes.now result (O.seen sink.old) (O.seen sink.new) }
 {

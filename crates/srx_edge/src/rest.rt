@@ -4,7 +4,7 @@ ghost use Rattle.std.specs.Prelude.{◌≡◌, ◌++◌, take, drop, length, min
 use std::alloc::{AllocError, Global};
 use std::marker::Model;
 
-/// What is left of bytes in memory. (own rule)
+/// What is left of bytes in memory.
 #[derive(Drop)]
 pub struct Rest {
     bytes: Vec<u8>,
@@ -22,7 +22,7 @@ impl Model for Rest {
 }
 
 impl Rest {
-    /// All the bytes are left. (own rule)
+    /// All the bytes are left.
     pub fn new(alloc: Global, bytes: &[u8]) -> Result<Rest, AllocError>
         ensures { IfOk result (λ rest. rest ≡ bytes.now) }
     {
@@ -32,7 +32,7 @@ impl Rest {
         })
     }
 
-    /// Takes as many bytes as there are and fit, and says how many they are. (own rule)
+    /// Takes as many bytes as there are and fit, and says how many they are.
     pub fn take_into(&mut self, into: &mut [u8]) -> usize
         ensures count { result ≡ min (length into.old) (length self.old) }
         ensures filled { into.new ≡ take result self.old ++ drop result into.old }

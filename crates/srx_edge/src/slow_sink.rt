@@ -6,21 +6,21 @@ ghost use Rattle.srx_edge.specs.Sinks.{Writes};
 use crate::output::{Sink, SinkFault};
 
 /// A sink that gives on to another one, at most one byte a call. It tells what the other one tells,
-/// and fails where that one does: over `SureSink` never. (own rule)
+/// and fails where that one does: over `SureSink` never.
 #[derive(Drop)]
 pub struct SlowSink<O> {
     sink: O,
 }
 
 impl<O> SlowSink<O> {
-    /// Slows a sink. (own rule)
+    /// Slows a sink.
     pub fn new(sink: O) -> SlowSink<O>
         ensures { sink_of result ≡ sink }
     {
         SlowSink { sink }
     }
 
-    /// The sink that takes the bytes. (own rule)
+    /// The sink that takes the bytes.
     pub fn sink(&self) -> &O
         ensures { result.now ≡ sink_of self.now }
     {

@@ -6,14 +6,14 @@ ghost use Rattle.srx_edge.specs.Sources.{Reads};
 use crate::input::{Failed, Source};
 
 /// A source that gives what another one gives, at most one byte a call. It tells what the other one
-/// tells, and fails where that one does: over `SureSource` never. (own rule)
+/// tells, and fails where that one does: over `SureSource` never.
 #[derive(Drop)]
 pub struct SlowSource<S> {
     source: S,
 }
 
 impl<S> SlowSource<S> {
-    /// Slows a source. (own rule)
+    /// Slows a source.
     pub fn new(source: S) -> SlowSource<S>
         ensures { source_of result ≡ source }
     {

@@ -8,7 +8,7 @@ use std::alloc::Global;
 use std::marker::Model;
 
 /// A sink in memory that never answers Failed; its count of faults is 0. A write may answer
-/// NoMemory. (own rule)
+/// NoMemory.
 #[derive(Drop)]
 pub struct SureSink {
     bytes: Vec<u8>,
@@ -25,7 +25,7 @@ impl Model for SureSink {
 }
 
 impl SureSink {
-    /// An empty sink. It takes no memory yet. (own rule)
+    /// An empty sink. It takes no memory yet.
     pub fn new(alloc: Global) -> SureSink
         ensures { result ≡ record { held = []; wants = 0; stopped = false } }
     {
@@ -36,7 +36,7 @@ impl SureSink {
         }
     }
 
-    /// What the sink holds. (own rule)
+    /// What the sink holds.
     pub fn held(&self) -> &[u8]
         ensures { result.now ≡ self.now.held }
     {

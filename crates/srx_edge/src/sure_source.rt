@@ -10,7 +10,7 @@ use std::alloc::Global;
 use std::marker::Model;
 
 /// A source in memory that never fails; its count of faults is 0, and it is never
-/// stopped. (own rule)
+/// stopped.
 #[derive(Drop)]
 pub struct SureSource {
     rest: Rest,
@@ -26,7 +26,7 @@ impl Model for SureSource {
 }
 
 impl SureSource {
-    /// A source that has these bytes left. (own rule)
+    /// A source that has these bytes left.
     pub fn new(alloc: Global, bytes: &[u8]) -> Result<SureSource, NoMemory>
         ensures { IfOk result (λ source. source ≡ record { left = bytes.now; ends = 0 }) }
     {

@@ -1,14 +1,14 @@
-/// A packet as it enters at B, in hexadecimal: hop limit 64, Segments Left 1. (own rule)
+/// A packet as it enters at B, in hexadecimal: hop limit 64, Segments Left 1.
 pub const ENTERS: &str = "\
     6000000000282b4020010db8000100000000000000000001fcbbbb00000200000000000000000000\
     3b04040101000000fcbbbb00000400000000000000000000fcbbbb00000200000000000000000000";
 
-/// The same packet after End at B: hop limit 63, Segments Left 0, to the other segment. (own rule)
+/// The same packet after End at B: hop limit 63, Segments Left 0, to the other segment.
 pub const STEPPED: &str = "\
     6000000000282b3f20010db8000100000000000000000001fcbbbb00000400000000000000000000\
     3b04040001000000fcbbbb00000400000000000000000000fcbbbb00000200000000000000000000";
 
-/// The same packet as it comes to D, after C lowered its hop limit to 62. (own rule)
+/// The same packet as it comes to D, after C lowered its hop limit to 62.
 pub const LOWERED: &str = "\
     6000000000282b3e20010db8000100000000000000000001fcbbbb00000400000000000000000000\
     3b04040001000000fcbbbb00000400000000000000000000fcbbbb00000200000000000000000000";

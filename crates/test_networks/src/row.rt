@@ -1,6 +1,6 @@
 /// Four nodes in a row, two links between the second and the third, and the routes to the locators
 /// of the second and the last; the last has a table of its own after a link that leaves the
-/// network. SIDs may stand after it. (own rule)
+/// network. SIDs may stand after it.
 pub const ROW: &str = r#"
 node = [
     { name = "A", address = "2001:db8::a" },
@@ -25,7 +25,6 @@ route = [
 "#;
 
 /// A block of NEXT-CSIDs of 16 bits, and End of it at the second node of `ROW` and at the last.
-/// (own rule)
 pub const NEXT_SIDS: &str = r#"
 block = [{ prefix = "fcbb:bb00::/32", kind = "next", csid = 16 }]
 sid = [

@@ -1,9 +1,9 @@
--- The words of the tables and keys of descriptions and intents, as they stand in the files (own rules).
+-- The words of the tables and keys of descriptions and intents, as they stand in the files.
 use Rattle.std.specs.Prelude.{ℕ, List, codes}
-use Rattle.text_faults.specs.declared.place.TableKind.{TableKind}
-use Rattle.text_faults.specs.declared.place.TableKind.TheVariants as tables
-use Rattle.text_faults.specs.declared.place.Key.{Key}
-use Rattle.text_faults.specs.declared.place.Key.TheVariants as keys
+use Rattle.text_faults.specs.declared.text_place.TableKind.{TableKind}
+use Rattle.text_faults.specs.declared.text_place.TableKind.TheVariants as tables
+use Rattle.text_faults.specs.declared.text_place.Key.{Key}
+use Rattle.text_faults.specs.declared.text_place.Key.TheVariants as keys
 
 -- a table's name; of the whole, as it stands in a refusal
 unfoldable pub table_text : TableKind → List ℕ

@@ -1,3 +1,3 @@
 pub mod Keys
-pub mod Faults
-pub mod Reading
+pub mod TextFaults
+pub mod TextReading

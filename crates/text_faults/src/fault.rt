@@ -2,11 +2,11 @@
 
 ghost use Rattle.std.specs.Prelude.{◌≡◌};
 
-use crate::kind::FaultKind;
-use crate::place::FaultPlace;
+use crate::fault_kind::FaultKind;
+use crate::text_place::FaultPlace;
 use std::alloc::{AllocError, AllocFailed};
 
-/// A fault of a text: what is wrong, and where (own rules).
+/// A fault of a text: what is wrong, and where.
 #[derive(Clone, Copy, Debug, PartialEq, Eq)]
 pub struct TextFault {
     /// Where.
@@ -15,7 +15,7 @@ pub struct TextFault {
     pub kind: FaultKind,
 }
 
-/// Why reading a text gives nothing (own rule).
+/// Why reading a text gives nothing.
 #[derive(Clone, Copy, Debug, PartialEq, Eq)]
 pub enum OrNoMemory<F> {
     /// The first fault of the text.
@@ -24,7 +24,7 @@ pub enum OrNoMemory<F> {
     NoMemory,
 }
 
-/// Why a text gives no network, or says no intent (own rule).
+/// Why a text gives no network, or says no intent.
 pub type NetFault = OrNoMemory<TextFault>;
 
 impl From<TextFault> for OrNoMemory<TextFault> {

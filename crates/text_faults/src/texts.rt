@@ -2,17 +2,16 @@
 
 ghost use Rattle.std.specs.Prelude.{◌≡◌, Some};
 ghost use Rattle.text_faults.specs.Keys.{table_text, key_text};
-ghost use Rattle.text_faults.specs.Faults.{place_text, fault_text};
+ghost use Rattle.text_faults.specs.TextFaults.{place_text, fault_text};
 
 use crate::fault::TextFault;
-use crate::kind::FaultKind;
-use crate::place::{FaultPlace, Key, TableKind};
+use crate::fault_kind::FaultKind;
+use crate::text_place::{FaultPlace, Key, TableKind};
 use std::fmt;
 use std::fmt::{Display, Formatter};
 
 impl TableKind {
-    /// The table's name, as it stands in a file; of the whole, as it stands in a refusal (own
-    /// rules).
+    /// The table's name, as it stands in a file; of the whole, as it stands in a refusal.
     #[tactic(auto, unfolding(crate::specs::Keys::table_text))]
     pub fn text(&self) -> &'static str
         ensures { result.now ≡ table_text self.now }
@@ -32,7 +31,7 @@ impl TableKind {
 }
 
 impl Key {
-    /// The key, as it stands in a file (own rules).
+    /// The key, as it stands in a file.
     #[tactic(auto, unfolding(crate::specs::Keys::key_text))]
     pub fn text(&self) -> &'static str
         ensures { result.now ≡ key_text self.now }
@@ -108,7 +107,7 @@ impl Display for FaultPlace {
 impl Display for TextFault {
     ghost output = { λ fault. Some (fault_text fault) };
 
-    #[tactic(auto, unfolding(crate::specs::Faults::fault_text))]
+    #[tactic(auto, unfolding(crate::specs::TextFaults::fault_text))]
     fn fmt<W: fmt::Write>(&self, f: &mut Formatter<W>) -> fmt::Result {
         let name = self.kind.name();
         let place = self.place;

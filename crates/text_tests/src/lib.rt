@@ -5,11 +5,11 @@
 #![tactic(auto)]
 
 #[cfg(test)]
-mod flat_networks_tests;
-#[cfg(test)]
 mod intent_reader_tests;
 #[cfg(test)]
-mod net_maker_tests;
+mod net_flatness_tests;
+#[cfg(test)]
+mod net_generator_tests;
 #[cfg(test)]
 mod net_model_tests;
 #[cfg(test)]

@@ -3,22 +3,22 @@ use Rattle.std.proofs.Common.{◌≡◌, ℕ, suc, ◌+◌, List, [], ◌∷◌,
 use Rattle.std.specs.List.{flat_map}
 use Rattle.std.proofs.lemmas.Grind.{flat_map-append}
 use Rattle.pcap_io.specs.declared.frame.Frame.{Frame}
-use Rattle.srx_edge.specs.Steps.{Ending, Whole, Memory}
+use Rattle.srx_edge.specs.CallSteps.{Ending, Whole, Memory}
 use Rattle.srv6_rules.specs.Packet.{Content}
 use Rattle.net_model.specs.Network.{Network}
 use Rattle.walk_rules.specs.declared.place.Place.{Place}
 use Rattle.walk_rules.specs.Treatment.{Gave, step_of}
 use Rattle.walk_rules.specs.Walk.{Stage, walk_of, next_place, decisions}
-use Rattle.trace_replay.specs.Laws.{walk_lines}
-use Rattle.trace_replay.specs.Lines.{stage_text, stages_text}
+use Rattle.trace_replay.specs.TraceLaws.{walk_lines}
+use Rattle.trace_replay.specs.TraceLines.{stage_text, stages_text}
 use Rattle.trace_replay.specs.Written.{Traced, fed, packet_trace, packets_trace, trace_end_bytes, trace_head_bytes, unended_text}
 use Rattle.command_output.specs.declared.halt.Failure.{Failure}
 use Rattle.command_output.specs.declared.refusal.Refusal.{Refusal}
-use Rattle.command_output.specs.Answers.{ending_of_failure}
-use Rattle.command_output.specs.Gathered.{Goes, Pooled}
-use Rattle.command_output.specs.Lines.{line}
-use Rattle.command_output.specs.Pieces.{Piece, ForOut}
-use Rattle.trace_commands.specs.Trace.{text_by, traced_of, traced_of_frame}
+use Rattle.command_output.specs.CommandAnswers.{ending_of_failure}
+use Rattle.command_output.specs.GatheredTerms.{Goes, Pooled}
+use Rattle.command_output.specs.OutputLines.{line}
+use Rattle.command_output.specs.OutputPieces.{Piece, ForOut}
+use Rattle.trace_commands.specs.TraceCommand.{text_by, traced_of, traced_of_frame}
 use Rattle.run_commands.proofs.PublicLaws.{outs_went, step_by, walk_begins, walk_goes_on, walk_ends}
 use Rattle.command_output.proofs.PublicLaws.{goes_kept, goes_out_both, goes_out_longer, goes_out_none}
 
@@ -59,8 +59,8 @@ module _ (net : Network) (place : Option Place) (left rest : List Stage) (s : St
   next = next_place net s.place s.gave.outcome
 
   -- what went out, and then the stage's line and those of the rest
-  lines-on : (p.bytes ++ stage_line) ++ fed (walk_lines net next rest) ≡ whole
-  lines-on = append_assoc p.bytes stage_line (fed (walk_lines net next rest))
+  lines_on : (p.bytes ++ stage_line) ++ fed (walk_lines net next rest) ≡ whole
+  lines_on = append_assoc p.bytes stage_line (fed (walk_lines net next rest))
       ∙ (ap (λ (bytes : List ℕ). p.bytes ++ bytes) (append_assoc (stage_text net s.gave) (10 ∷ []) (fed (walk_lines net next rest)))
       ∙ (ap (λ (steps : List Stage). p.bytes ++ fed (walk_lines net place steps)) (sym begins) ∙ p.text))
 
@@ -69,13 +69,13 @@ module _ (net : Network) (place : Option Place) (left rest : List Stage) (s : St
   stage_on went = record {
     bytes = p.bytes ++ stage_line;
     went = goes_out_both Whole p.bytes stage_line first now later p.went went;
-    text = lines-on;
+    text = lines_on;
   }
 
   -- a line that went out in part
   pub stage_cut : (failure : Failure) → Goes (ending_of_failure failure) (out_piece stage_line) now later
       → Goes (ending_of_failure failure) (out_piece whole) first later
-  stage_cut failure wrote = subst (λ (bytes : List ℕ). Goes (ending_of_failure failure) (out_piece bytes) first later) lines-on
+  stage_cut failure wrote = subst (λ (bytes : List ℕ). Goes (ending_of_failure failure) (out_piece bytes) first later) lines_on
       (goes_out_longer failure (p.bytes ++ stage_line) (fed (walk_lines net next rest)) first later
       (goes_out_both (ending_of_failure failure) p.bytes stage_line first now later p.went wrote))
 
@@ -148,19 +148,19 @@ pub ruleset packet = (wrote_one, goes_kept, goes_out_none)
 
 -- the packets of frames, one frame after the other
 
-frames-packets : (net : Network) (node : ℕ) (choices : List ℕ) (frames : List Frame)
+frames_packets : (net : Network) (node : ℕ) (choices : List ℕ) (frames : List Frame)
     → flat_map (λ frame. packets_trace net (traced_of_frame node choices frame)) frames
     ≡ packets_trace net (traced_of node choices frames)
-frames-packets net node choices [] = refl
-frames-packets net node choices (frame ∷ frames) =
-    ap (λ (bytes : List ℕ). packets_trace net (traced_of_frame node choices frame) ++ bytes) (frames-packets net node choices frames)
+frames_packets net node choices [] = refl
+frames_packets net node choices (frame ∷ frames) =
+    ap (λ (bytes : List ℕ). packets_trace net (traced_of_frame node choices frame) ++ bytes) (frames_packets net node choices frames)
     ∙ sym (flat_map-append (packet_trace net) (traced_of_frame node choices frame) (traced_of node choices frames))
 
 pub wrote_frames : (ending : Ending) (net : Network) (node : ℕ) (choices : List ℕ) (frames : List Frame) (old new : Pooled)
     → Goes ending (flat_map (λ (frame : Frame). out_piece (packets_trace net (traced_of_frame node choices frame))) frames) old new
     → Goes ending (out_piece (packets_trace net (traced_of node choices frames))) old new
 wrote_frames ending net node choices frames old new h =
-    subst (λ (bytes : List ℕ). Goes ending (out_piece bytes) old new) (frames-packets net node choices frames)
+    subst (λ (bytes : List ℕ). Goes ending (out_piece bytes) old new) (frames_packets net node choices frames)
     (outs_went (λ frame. packets_trace net (traced_of_frame node choices frame)) frames ending old new h)
 
 -- a trace's text: the head, the packets, and the end where nothing that is refused follows
@@ -171,14 +171,14 @@ module _ (net : Network) (packets : List Traced) where
   pub head_cut : (failure : Failure) (fault : Option Refusal) (old new : Pooled)
       → Goes (ending_of_failure failure) (out_piece trace_head_bytes) old new
       → Goes (ending_of_failure failure) (out_piece (text_by net packets fault)) old new
-  head_cut failure fault old new h = unended-cut failure fault old new
+  head_cut failure fault old new h = unended_cut failure fault old new
       (goes_out_longer failure trace_head_bytes (packets_trace net packets) old new h)
     where
-      unended-cut : (failure : Failure) (fault : Option Refusal) (old new : Pooled)
+      unended_cut : (failure : Failure) (fault : Option Refusal) (old new : Pooled)
           → Goes (ending_of_failure failure) (out_piece (unended_text net packets)) old new
           → Goes (ending_of_failure failure) (out_piece (text_by net packets fault)) old new
-      unended-cut failure None old new h = goes_out_longer failure (unended_text net packets) trace_end_bytes old new h
-      unended-cut failure (Some refusal) old new h = h
+      unended_cut failure None old new h = goes_out_longer failure (unended_text net packets) trace_end_bytes old new h
+      unended_cut failure (Some refusal) old new h = h
 
   pub packets_cut : (failure : Failure) (fault : Option Refusal) (old mid new : Pooled)
       → Goes Whole (out_piece trace_head_bytes) old mid → Goes (ending_of_failure failure) (out_piece (packets_trace net packets)) mid new

@@ -1,4 +1,6 @@
-pub mod Replay
-pub mod Trace
+pub mod ReplayCommand
+pub mod ReplayCommandTerms
+pub mod TraceCommand
+pub mod TraceCommandTerms
 pub mod Replaying
 pub mod Teller

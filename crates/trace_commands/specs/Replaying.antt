@@ -1,21 +1,23 @@
--- What `replay` says of the text that `trace` writes (own rule).
+-- Need not be believed: helps proofs and other laws.
+-- What `replay` says of the text that `trace` writes.
 use Rattle.std.specs.Prelude.{◌≡◌, ◌↔◌, ℕ, ◌+◌, ◌^◌, ◌<◌, ◌≤◌, All, List, [], length, Some, Ok}
 use Rattle.net_model.specs.Network.{Network}
 use Rattle.trace_replay.specs.declared.verdict.Replayed.{Replayed}
-use Rattle.trace_replay.specs.Written.{Traced, counts_written, packets_lines}
+use Rattle.trace_replay.specs.Written.{Traced}
+use Rattle.trace_replay.specs.WrittenTerms.{counts_written, packets_lines}
 use Rattle.srx_edge.specs.Edge.{file_named}
 use Rattle.srx_edge.specs.Sinks.{sent}
 use Rattle.net_model.specs.declared.limits.TheConstants.{MAX_TEXT_BYTES}
-use Rattle.command_inputs.specs.declared.packets.Packets.{Packets}
+use Rattle.command_inputs.specs.declared.input_packets.Packets.{Packets}
 use Rattle.command_output.specs.declared.refusal.Refusal.TheVariants as refusals
 use Rattle.command_output.specs.declared.status.Status.TheVariants as statuses
 use Rattle.command_output.specs.Outputs.{reported, refused}
-use Rattle.trace_commands.specs.Replay.{replay_shape, right_line}
-use Rattle.trace_commands.specs.Trace.{trace_output, traced_of}
+use Rattle.trace_commands.specs.ReplayCommand.{replay_spec, right_line}
+use Rattle.trace_commands.specs.TraceCommand.{trace_output, traced_of}
 use Rattle.command_inputs.specs.Judgements.{network_in, node_in}
-use Rattle.command_inputs.specs.Packets.{packets_in, reading_of}
-use Rattle.command_output.specs.Pieces.{Piece, Output, Sinks, bytes_for_out, gone}
-use Rattle.command_output.specs.Shape.{Held}
+use Rattle.command_inputs.specs.InputPackets.{packets_in, reading_of}
+use Rattle.command_output.specs.OutputPieces.{Piece, Output, Sinks, bytes_for_out, gone}
+use Rattle.command_output.specs.CommandSpec.{Held}
 
 -- the bytes of pieces for `out` are what `out` receives
 abbrev pub OutReceives : Type 0
@@ -42,7 +44,7 @@ traced_under choices judged = traced_of judged.node choices (reading_of judged.p
 abbrev pub ReplaysTo : List ℕ → List ℕ → Output → Type 0
 ReplaysTo text trace output = (file name : List ℕ) (held : Held) (input : List ℕ) (given : Output)
     → file_named held file ≡ Some text → file_named held name ≡ Some trace
-    → (replay_shape file name).wants held input given ↔ (given ≡ output)
+    → (replay_spec file name).wants held input given ↔ (given ≡ output)
 
 -- the output for a trace that is right, with its counts
 abbrev pub right_with : Replayed → Output

@@ -1,9 +1,10 @@
--- What tells a frame by the walk of its packet (own rules).
+-- Need not be believed: helps proofs and other laws.
+-- What tells a frame by the walk of its packet.
 use Rattle.std.specs.Prelude.{ℕ, ◌<◌, List, length}
 use Rattle.pcap_io.specs.declared.frame.Frame.{Frame}
 use Rattle.trace_replay.specs.Written.{packets_trace}
-use Rattle.trace_commands.specs.declared.trace.WalkTeller.{WalkTeller}
-use Rattle.trace_commands.specs.Trace.{traced_of_frame}
+use Rattle.trace_commands.specs.declared.trace_command.WalkTeller.{WalkTeller}
+use Rattle.trace_commands.specs.TraceCommand.{traced_of_frame}
 
 -- its node is one of the network, and it has choices
 abbrev pub MayTell : WalkTeller → Type 0

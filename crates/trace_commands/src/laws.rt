@@ -10,7 +10,7 @@ use net_reader::networks_keep_the_rules;
 /// output. Where `trace` refuses what is after the packets, and what it wrote before that has no
 /// more bytes than a file may have either, `replay` refuses what was written at the line after its
 /// last one. Of what is refused before the packets, as a head, nothing is said. What is said to be
-/// for `out` is what `out` receives. (own rule)
+/// for `out` is what `out` receives.
 pub fn what_is_traced_is_replayed()
     ensures out { OutReceives }
     ensures whole { WholeTracesAreRight }

@@ -1,3 +1,3 @@
 -- The lemmas that crates above cite, each a clause of one of the laws.
-pub use Rattle.trace_replay.proofs.Unended.{unended-bad}
-pub use Rattle.trace_replay.proofs.Written.{written-counts, written-good, written-lines, written-right}
+pub use Rattle.trace_replay.proofs.Unended.{unended_bad}
+pub use Rattle.trace_replay.proofs.Written.{written_counts, written_good, written_lines, written_right}

@@ -10,10 +10,10 @@ use Rattle.std.proofs.lemmas.List.Splits.{slice_split_at, slice_split_none}
 use Rattle.std.proofs.lemmas.Str.{IsUtf8-from_ascii}
 use Rattle.std.proofs.lemmas.Str.Ascii.{IsAscii-from_all}
 use Rattle.net_model.specs.Network.{Network}
-use Rattle.trace_replay.specs.Grammar.{line_read, words_of, words_read}
-use Rattle.trace_replay.specs.Reading.{pieces_of}
+use Rattle.trace_replay.specs.TraceGrammar.{line_read, words_of, words_read}
+use Rattle.trace_replay.specs.TraceReading.{pieces_of}
 use Rattle.trace_replay.specs.Written.{fed}
-use Rattle.trace_replay.proofs.WordLemmas.{some-text}
+use Rattle.trace_replay.proofs.WordLemmas.{some_text}
 
 -- the bytes of words, and those of lines: a line has spaces besides
 
@@ -33,32 +33,32 @@ pub both : (a b : Bool) → a ≡ true → b ≡ true → (a && b) ≡ true
 both true b h g = g
 both false b h g = cc
 
-pub all-by : (p : ℕ → Bool) (P : ℕ → Type 0) → ((b : ℕ) → p b ≡ true → P b) → (xs : List ℕ) → list_all p xs ≡ true → All P xs
-all-by p P each [] h = All-nil P
-all-by p P each (b ∷ bs) h =
-    let parts = and_parts (p b) (list_all p bs) h in All-cons P b bs (each b parts.0) (all-by p P each bs parts.1)
+pub all_by : (p : ℕ → Bool) (P : ℕ → Type 0) → ((b : ℕ) → p b ≡ true → P b) → (xs : List ℕ) → list_all p xs ≡ true → All P xs
+all_by p P each [] h = All-nil P
+all_by p P each (b ∷ bs) h =
+    let parts = and_parts (p b) (list_all p bs) h in All-cons P b bs (each b parts.0) (all_by p P each bs parts.1)
 
-pub pass-more : (p q : ℕ → Bool) → ((b : ℕ) → p b ≡ true → q b ≡ true) → (xs : List ℕ) → list_all p xs ≡ true → list_all q xs ≡ true
-pass-more p q each [] h = refl
-pass-more p q each (b ∷ bs) h =
+pub pass_more : (p q : ℕ → Bool) → ((b : ℕ) → p b ≡ true → q b ≡ true) → (xs : List ℕ) → list_all p xs ≡ true → list_all q xs ≡ true
+pass_more p q each [] h = refl
+pass_more p q each (b ∷ bs) h =
     let parts = and_parts (p b) (list_all p bs) h in
-    both (q b) (list_all q bs) (each b parts.0) (pass-more p q each bs parts.1)
+    both (q b) (list_all q bs) (each b parts.0) (pass_more p q each bs parts.1)
 
-word-no-space : (b : ℕ) → is_word_byte b ≡ true → (b == 32) ≡ false
-word-no-space b h =
+word_no_space : (b : ℕ) → is_word_byte b ≡ true → (b == 32) ≡ false
+word_no_space b h =
     let parts = and_parts (nat_lt 32 b) (nat_lt b 128) h in
     ne_eqb b 32 (λ e. let above = ltb-true 32 b parts.0 in omega (arith, above, e))
 
-line-no-feed : (b : ℕ) → is_line_byte b ≡ true → (b == 10) ≡ false
-line-no-feed b h =
+line_no_feed : (b : ℕ) → is_line_byte b ≡ true → (b == 10) ≡ false
+line_no_feed b h =
     let parts = and_parts (nat_le 32 b) (nat_lt b 128) h in
     ne_eqb b 10 (λ e. let above = leb-true 32 b parts.0 in omega (arith, above, e))
 
-line-ascii : (b : ℕ) → is_line_byte b ≡ true → b < 128
-line-ascii b h = let parts = and_parts (nat_le 32 b) (nat_lt b 128) h in ltb-true b 128 parts.1
+line_ascii : (b : ℕ) → is_line_byte b ≡ true → b < 128
+line_ascii b h = let parts = and_parts (nat_le 32 b) (nat_lt b 128) h in ltb-true b 128 parts.1
 
-word-in-line : (b : ℕ) → is_word_byte b ≡ true → is_line_byte b ≡ true
-word-in-line b h =
+word_in_line : (b : ℕ) → is_word_byte b ≡ true → is_line_byte b ≡ true
+word_in_line b h =
     let parts = and_parts (nat_lt 32 b) (nat_lt b 128) h in
     let above = ltb-true 32 b parts.0 in
     both (nat_le 32 b) (nat_lt b 128) (le-leb 32 b (omega (arith, above))) parts.1
@@ -73,45 +73,45 @@ abbrev pub AreWords : List (List ℕ) → Type 0
 AreWords [] = Unit {0}
 AreWords (word ∷ more) = IsWord word × AreWords more
 
-pub words-split : (word : List ℕ) (more : List (List ℕ)) → AreWords (word ∷ more) → words_of (joined (word ∷ more)) ≡ word ∷ more
-words-split word [] h =
-    slice_split_none (λ byte. byte == 32) word (all-by is_word_byte (λ b. (b == 32) ≡ false) word-no-space word h.0)
-words-split word (next ∷ more) h =
+pub words_split : (word : List ℕ) (more : List (List ℕ)) → AreWords (word ∷ more) → words_of (joined (word ∷ more)) ≡ word ∷ more
+words_split word [] h =
+    slice_split_none (λ byte. byte == 32) word (all_by is_word_byte (λ b. (b == 32) ≡ false) word_no_space word h.0)
+words_split word (next ∷ more) h =
     slice_split_at (λ byte. byte == 32) word 32 (joined (next ∷ more))
-    (all-by is_word_byte (λ b. (b == 32) ≡ false) word-no-space word h.0) refl
-    ∙ ap (λ (ws : List (List ℕ)). word ∷ ws) (words-split next more h.1)
+    (all_by is_word_byte (λ b. (b == 32) ≡ false) word_no_space word h.0) refl
+    ∙ ap (λ (ws : List (List ℕ)). word ∷ ws) (words_split next more h.1)
 
-pub words-line : (word : List ℕ) (more : List (List ℕ)) → AreWords (word ∷ more) → IsTextLine (joined (word ∷ more))
-words-line word [] h = pass-more is_word_byte is_line_byte word-in-line word h.0
-words-line word (next ∷ more) h =
+pub words_line : (word : List ℕ) (more : List (List ℕ)) → AreWords (word ∷ more) → IsTextLine (joined (word ∷ more))
+words_line word [] h = pass_more is_word_byte is_line_byte word_in_line word h.0
+words_line word (next ∷ more) h =
     list_all-append is_line_byte word (32 ∷ joined (next ∷ more))
     ∙ both (list_all is_line_byte word) (list_all is_line_byte (joined (next ∷ more)))
-    (pass-more is_word_byte is_line_byte word-in-line word h.0) (words-line next more h.1)
+    (pass_more is_word_byte is_line_byte word_in_line word h.0) (words_line next more h.1)
 
-line-text : (line : List ℕ) → IsTextLine line → IsUtf8 line
-line-text line h = IsUtf8-from_ascii line (IsAscii-from_all line (all-by is_line_byte (λ b. b < 128) line-ascii line h))
+line_text : (line : List ℕ) → IsTextLine line → IsUtf8 line
+line_text line h = IsUtf8-from_ascii line (IsAscii-from_all line (all_by is_line_byte (λ b. b < 128) line_ascii line h))
 
 -- a line of words is read as its words are
-pub words-read : (net : Network) (word : List ℕ) (more : List (List ℕ)) → AreWords (word ∷ more)
+pub words_read_law : (net : Network) (word : List ℕ) (more : List (List ℕ)) → AreWords (word ∷ more)
     → line_read net (joined (word ∷ more)) ≡ words_read net (word ∷ more)
-words-read net word more h =
-    sym (some-text net (joined (word ∷ more)) (line-text (joined (word ∷ more)) (words-line word more h)))
-    ∙ ap (words_read net) (words-split word more h)
+words_read_law net word more h =
+    sym (some_text net (joined (word ∷ more)) (line_text (joined (word ∷ more)) (words_line word more h)))
+    ∙ ap (words_read net) (words_split word more h)
 
 -- ---- lines of a text
 
-pub fed-append : (xs ys : List (List ℕ)) → fed (xs ++ ys) ≡ fed xs ++ fed ys
-fed-append [] ys = refl
-fed-append (x ∷ xs) ys =
-    ap (λ (t : List ℕ). x ++ 10 ∷ t) (fed-append xs ys) ∙ sym (append_assoc x (10 ∷ fed xs) (fed ys))
+pub fed_append : (xs ys : List (List ℕ)) → fed (xs ++ ys) ≡ fed xs ++ fed ys
+fed_append [] ys = refl
+fed_append (x ∷ xs) ys =
+    ap (λ (t : List ℕ). x ++ 10 ∷ t) (fed_append xs ys) ∙ sym (append_assoc x (10 ∷ fed xs) (fed ys))
 
-pub fed-flat : {X : Type 0} (f : X → List (List ℕ)) (xs : List X) → fed (flat_map f xs) ≡ flat_map (λ x. fed (f x)) xs
-fed-flat f [] = refl
-fed-flat f (x ∷ xs) = fed-append (f x) (flat_map f xs) ∙ ap (λ (t : List ℕ). fed (f x) ++ t) (fed-flat f xs)
+pub fed_flat : {X : Type 0} (f : X → List (List ℕ)) (xs : List X) → fed (flat_map f xs) ≡ flat_map (λ x. fed (f x)) xs
+fed_flat f [] = refl
+fed_flat f (x ∷ xs) = fed_append (f x) (flat_map f xs) ∙ ap (λ (t : List ℕ). fed (f x) ++ t) (fed_flat f xs)
 
-pub fed-parts : (lines : List (List ℕ)) → All IsTextLine lines → pieces_of (fed lines) ≡ lines ++ [] ∷ []
-fed-parts [] h = slice_split_none (λ byte. byte == 10) [] (All-nil (λ b. (b == 10) ≡ false))
-fed-parts (line ∷ more) h =
+pub fed_parts : (lines : List (List ℕ)) → All IsTextLine lines → pieces_of (fed lines) ≡ lines ++ [] ∷ []
+fed_parts [] h = slice_split_none (λ byte. byte == 10) [] (All-nil (λ b. (b == 10) ≡ false))
+fed_parts (line ∷ more) h =
     slice_split_at (λ byte. byte == 10) line 10 (fed more)
-    (all-by is_line_byte (λ b. (b == 10) ≡ false) line-no-feed line (All-head IsTextLine line more h)) refl
-    ∙ ap (λ (ls : List (List ℕ)). line ∷ ls) (fed-parts more (All-tail IsTextLine line more h))
+    (all_by is_line_byte (λ b. (b == 10) ≡ false) line_no_feed line (All-head IsTextLine line more h)) refl
+    ∙ ap (λ (ls : List (List ℕ)). line ∷ ls) (fed_parts more (All-tail IsTextLine line more h))

@@ -1,4 +1,5 @@
--- Outcomes whose numbers are those of a network's items (own rule).
+-- Need not be believed: helps proofs and other laws.
+-- Outcomes whose numbers are those of a network's items.
 use Rattle.std.specs.Prelude.{◌<◌, length}
 use Rattle.net_model.specs.Network.{Network}
 use Rattle.walk_rules.specs.declared.place.Outcome.{Outcome}

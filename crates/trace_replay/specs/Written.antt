@@ -1,16 +1,15 @@
--- A trace of packets as it is written (own rule): the text, and the lines that it has.
-use Rattle.std.specs.Prelude.{◌≡◌, ℕ, ◌^◌, ◌<◌, List, [], ◌∷◌, ◌++◌, length, slice_get, Option, Some, All}
+-- A trace of packets as it is written: the text, and the lines that it has.
+use Rattle.std.specs.Prelude.{ℕ, List, [], ◌∷◌, ◌++◌, slice_get, Some}
 use Rattle.std.specs.List.{flat_map}
 use Rattle.srv6_rules.specs.declared.family.Family.{Family}
-use Rattle.srv6_rules.specs.Packet.{Content, bytes_of, entered}
+use Rattle.srv6_rules.specs.Packet.{Content, bytes_of}
 use Rattle.net_model.specs.Network.{Network}
 use Rattle.walk_rules.specs.declared.place.How.TheVariants.{Arrived}
 use Rattle.walk_rules.specs.declared.place.Place.{Place}
 use Rattle.walk_rules.specs.Walk.{Stage, walk_of}
 use Rattle.walk_rules.specs.declared.limits.TheConstants.{MAX_STAGES}
-use Rattle.trace_replay.specs.Laws.{walk_lines}
-use Rattle.trace_replay.specs.Lines.{end_text, head_text, hex_text, name_of_node, packet_text}
-use Rattle.trace_replay.specs.declared.verdict.Replayed.{Replayed}
+use Rattle.trace_replay.specs.TraceLaws.{walk_lines}
+use Rattle.trace_replay.specs.TraceLines.{end_text, head_text, hex_text, name_of_node, packet_text}
 
 -- a packet whose walk is written: its number, its family, the node where it enters, what enters, and the choice of each decision
 -- of its walk
@@ -20,14 +19,6 @@ pub record Traced : Type 0 where
   pub node : ℕ
   pub content : Content
   pub pick : ℕ → ℕ
-
--- bytes have entered, of the packet's family and at a node that is there; the number is one of 32 bits
-pub record IsTraced (net : Network) (p : Traced) : Type 0 where
-  pub number : p.number < 2 ^ 32
-  pub node : p.node < length net.nodes
-  pub bytes : List ℕ
-  pub each : All (λ b. b < 2 ^ 8) bytes
-  pub content : p.content ≡ entered p.family bytes
 
 -- where a packet enters: it has arrived at its node, and is looked up in table 0
 abbrev pub entry_place : Traced → Place
@@ -44,17 +35,10 @@ packet_line net p = packet_text p.number p.family (name_of_node (slice_get net.n
 abbrev pub packet_lines : Network → Traced → List (List ℕ)
 packet_lines net p = packet_line net p ∷ walk_lines net (Some (entry_place p)) (traced_walk net p)
 
-abbrev pub packets_lines : Network → List Traced → List (List ℕ)
-packets_lines net packets = flat_map (packet_lines net) packets
-
 -- lines, each with its line feed
 abbrev pub fed : List (List ℕ) → List ℕ
 fed [] = []
 fed (line ∷ more) = line ++ 10 ∷ fed more
-
--- the bytes of a walk of at most so many stages from a place, if there is one
-abbrev pub walk_trace : ℕ → Network → Option Place → Content → (ℕ → ℕ) → ℕ → List ℕ
-walk_trace left net place content pick taken = fed (walk_lines net place (walk_of left net place content pick taken))
 
 -- the bytes of a trace's head, of a packet, of packets one after the other, and of the end
 
@@ -77,11 +61,3 @@ unended_text net packets = trace_head_bytes ++ packets_trace net packets
 -- a trace
 abbrev pub trace_text : Network → List Traced → List ℕ
 trace_text net packets = unended_text net packets ++ trace_end_bytes
-
--- the lines that it has
-abbrev pub trace_lines : Network → List Traced → List (List ℕ)
-trace_lines net packets = head_text ∷ (packets_lines net packets ++ end_text ∷ [])
-
--- what it has: its packets, and the lines of these
-abbrev pub counts_written : Network → List Traced → Replayed
-counts_written net packets = record { packets = length packets; lines = length (packets_lines net packets) }

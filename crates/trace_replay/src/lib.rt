@@ -2,22 +2,22 @@
 //!
 //! A trace has a first line, for each packet a line with its bytes as it enters and then a line for
 //! each stage, and a last line. `print_head`, `print_packet`, `print_event`, `print_stages` and
-//! `print_end` write one line each, as `specs/Lines.antt` has it. `read_trace` reads a text by the
-//! grammar of `specs/Grammar.antt`, or tells its first bad line. `replay` runs each packet again
+//! `print_end` write one line each, as `specs/TraceLines.antt` has it. `read_trace` reads a text by the
+//! grammar of `specs/TraceGrammar.antt`, or tells its first bad line. `replay` runs each packet again
 //! and tests its lines one by one, as `specs/Replays.antt` says.
 #![tactic(auto)]
 
-mod flight;
-mod judge;
 mod laws;
 mod line;
+mod line_judge;
 mod numbers;
 mod print;
-mod reading;
+mod replay_flight;
 mod stage_words;
 mod state;
+mod trace_reading;
+mod trace_words;
 mod verdict;
-mod words;
 
 pub use laws::{
     a_line_is_right_where_an_outcome_has_it, a_packet_is_written_stage_by_stage,
@@ -26,5 +26,5 @@ pub use laws::{
 };
 pub use numbers::number_of_word;
 pub use print::{is_numbered, print_end, print_event, print_head, print_packet, print_stages};
-pub use reading::{Trace, TraceFault, read_trace};
+pub use trace_reading::{Trace, TraceFault, read_trace};
 pub use verdict::{ReplayFault, Replayed, replay};

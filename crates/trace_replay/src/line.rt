@@ -1,13 +1,14 @@
 //! The lines of a trace, read.
 
 ghost use Rattle.std.specs.Prelude.{◌≡◌, ◌<◌, ◌∷◌, [], IfOk, Some, None, bytes_eq, if◌then◌else◌, length, map};
-ghost use Rattle.trace_replay.specs.Grammar.{IsLine, line_read, packet_by, packet_read, words_of, words_read};
+ghost use Rattle.trace_replay.specs.TraceGrammar.{line_read, packet_by, packet_read, words_of, words_read};
+ghost use Rattle.trace_replay.specs.TraceGrammarTerms.{IsLine};
 ghost use Rattle.net_model.specs.Network.{Network};
-ghost use Rattle.trace_replay.specs.Lines.{end_text, stages_text};
+ghost use Rattle.trace_replay.specs.TraceLines.{end_text, stages_text};
 
 use crate::numbers::is_number;
 use crate::stage_words::is_stage;
-use crate::words::{family_of, hex_of};
+use crate::trace_words::{family_of, hex_of};
 use base::{NoMemory, Seq};
 use net_model::Net;
 use node_stage::Content;
@@ -96,7 +97,7 @@ fn packet_of(
 }
 
 /// What the one word of a line is, where the line is no stage's.
-#[tactic(auto, unfolding(crate::specs::Lines::stages_text, crate::specs::Lines::end_text))]
+#[tactic(auto, unfolding(crate::specs::TraceLines::stages_text, crate::specs::TraceLines::end_text))]
 fn only_word(word: &str) -> Option<Line>
     ensures line { result ≡ (if bytes_eq word.now stages_text then Some Line.Stages
         else if bytes_eq word.now end_text then Some Line.End else None) }

@@ -3,7 +3,7 @@
 ghost use Rattle.std.specs.Prelude.{◌≡◌};
 ghost use Rattle.std.specs.Char.{is_ascii_digit};
 ghost use Rattle.std.specs.List.{list_all};
-ghost use Rattle.trace_replay.specs.Grammar.{is_number, is_numeral, number_in};
+ghost use Rattle.trace_replay.specs.TraceGrammar.{is_number, is_numeral, number_in};
 
 /// Whether all bytes are decimal digits.
 fn are_digits(bytes: &[u8]) -> bool
@@ -22,7 +22,7 @@ fn is_numeral(bytes: &[u8]) -> bool
     }
 }
 
-/// The number that a word is: one of 32 bits in decimal digits without a leading zero. (own rule)
+/// The number that a word is: one of 32 bits in decimal digits without a leading zero.
 pub fn number_of_word(word: &str) -> Option<u32>
     ensures { result ≡ number_in word.now }
 {
@@ -36,7 +36,7 @@ pub fn number_of_word(word: &str) -> Option<u32>
 }
 
 /// Whether a word is a number that is at most another.
-#[tactic(auto, using(crate::proofs::NumberLemmas::number_at_most, crate::proofs::NumberLemmas::number_missing))]
+#[tactic(auto, using(crate::proofs::ReplayNumberLemmas::number_at_most, crate::proofs::ReplayNumberLemmas::number_missing))]
 pub(crate) fn is_number(most: u32, word: &str) -> bool
     ensures { result ≡ is_number most word.now }
 {

@@ -1,7 +1,7 @@
 //! The lines of a trace, written.
 
 ghost use Rattle.std.specs.Prelude.{◌≡◌, true, ◌<◌, ◌++◌, ◌∷◌, [], length, slice_get, IfOk, OnErr, OnOk, string_bytes};
-ghost use Rattle.trace_replay.specs.Lines.{again_table_text, again_text, again_through_text, drop_text, end_text, family_number, hand_table_text, hand_text, hand_through_text, head_text, hex_text, local_text, name_of_node, outcome_text, packet_text, send_text, stages_text};
+ghost use Rattle.trace_replay.specs.TraceLines.{again_table_text, again_text, again_through_text, drop_text, end_text, family_number, hand_table_text, hand_text, hand_through_text, head_text, hex_text, local_text, name_of_node, outcome_text, packet_text, send_text, stages_text};
 ghost use Rattle.trace_replay.specs.Numbered.{IsNumbered};
 
 use base::NoMemory;
@@ -12,7 +12,7 @@ use v6_addr::Prefix;
 use walk_rules::{How, Outcome};
 
 /// Bytes in hexadecimal digits of lower case, two each; a dash where there are none.
-#[tactic(auto, unfolding(crate::specs::Lines::hex_text))]
+#[tactic(auto, unfolding(crate::specs::TraceLines::hex_text))]
 fn text_of_bytes(alloc: Global, bytes: &[u8]) -> Result<String, AllocError>
     ensures { IfOk result (λ text. string_bytes text ≡ hex_text bytes.now) }
 {
@@ -32,7 +32,7 @@ fn number_of(family: Family) -> u32
     }
 }
 
-#[tactic(auto, unfolding(crate::specs::Lines::again_table_text))]
+#[tactic(auto, unfolding(crate::specs::TraceLines::again_table_text))]
 fn text_of_again_table(
     alloc: Global,
     sid: &Prefix,
@@ -44,7 +44,7 @@ fn text_of_again_table(
     format!(in alloc; "again {sid} table {table} {hex}")
 }
 
-#[tactic(auto, unfolding(crate::specs::Lines::again_through_text))]
+#[tactic(auto, unfolding(crate::specs::TraceLines::again_through_text))]
 fn text_of_again_through(alloc: Global, sid: &Prefix, hex: &str) -> Result<String, AllocError>
     ensures { IfOk result (λ text. string_bytes text ≡ again_through_text sid.now hex.now) }
 {
@@ -63,7 +63,7 @@ fn text_of_again(alloc: Global, sid: &Prefix, how: &How, hex: &str) -> Result<St
     }
 }
 
-#[tactic(auto, unfolding(crate::specs::Lines::hand_table_text))]
+#[tactic(auto, unfolding(crate::specs::TraceLines::hand_table_text))]
 fn text_of_hand_table(
     alloc: Global,
     sid: &Prefix,
@@ -78,7 +78,7 @@ fn text_of_hand_table(
     format!(in alloc; "hand {sid} table {table} {version} {hex}")
 }
 
-#[tactic(auto, unfolding(crate::specs::Lines::hand_through_text))]
+#[tactic(auto, unfolding(crate::specs::TraceLines::hand_through_text))]
 fn text_of_hand_through(
     alloc: Global,
     sid: &Prefix,
@@ -110,21 +110,21 @@ fn text_of_hand(
 }
 
 /// The line of a packet that is sent on a link.
-#[tactic(auto, unfolding(crate::specs::Lines::send_text))]
+#[tactic(auto, unfolding(crate::specs::TraceLines::send_text))]
 pub(crate) fn text_of_send(alloc: Global, link: &Name, hex: &str) -> Result<String, AllocError>
     ensures { IfOk result (λ text. string_bytes text ≡ send_text link.now hex.now) }
 {
     format!(in alloc; "send {link} {hex}")
 }
 
-#[tactic(auto, unfolding(crate::specs::Lines::local_text))]
+#[tactic(auto, unfolding(crate::specs::TraceLines::local_text))]
 fn text_of_local(alloc: Global) -> Result<String, AllocError>
     ensures { IfOk result (λ text. string_bytes text ≡ local_text) }
 {
     format!(in alloc; "local")
 }
 
-#[tactic(auto, unfolding(crate::specs::Lines::drop_text))]
+#[tactic(auto, unfolding(crate::specs::TraceLines::drop_text))]
 fn text_of_drop(alloc: Global, reason: Reason, hex: &str) -> Result<String, AllocError>
     ensures { IfOk result (λ text. string_bytes text ≡ drop_text reason hex.now) }
 {
@@ -175,7 +175,7 @@ fn append_line(mut text: String, out: &mut Vec<u8>) -> Result<(), NoMemory>
     Ok(())
 }
 
-/// Whether the SID or the link that an outcome names is one of the network's. (own rule)
+/// Whether the SID or the link that an outcome names is one of the network's.
 pub fn is_numbered(net: &Net, outcome: &Outcome) -> bool
     ensures yes { result ≡ true → IsNumbered net.now outcome.now }
     ensures no { IsNumbered net.now outcome.now → result ≡ true }
@@ -189,7 +189,7 @@ pub fn is_numbered(net: &Net, outcome: &Outcome) -> bool
 
 /// Appends the line of one stage: its outcome, the bytes of the packet after it, and those of the
 /// ICMPv6 error that is sent about a drop, none where none is. The numbers of SIDs and links are
-/// those of the network. With `NoMemory` nothing is appended. (own rule)
+/// those of the network. With `NoMemory` nothing is appended.
 pub fn print_event(
     alloc: Global,
     net: &Net,
@@ -206,7 +206,7 @@ pub fn print_event(
     append_line(text_of_outcome(alloc, net, outcome, packet, error)?, out)
 }
 
-#[tactic(auto, unfolding(crate::specs::Lines::packet_text))]
+#[tactic(auto, unfolding(crate::specs::TraceLines::packet_text))]
 fn text_of_packet(
     alloc: Global,
     number: u32,
@@ -222,7 +222,7 @@ fn text_of_packet(
 }
 
 /// Appends the line with which a packet begins: its number, its family, the node where it enters,
-/// and its bytes. With `NoMemory` nothing is appended. (own rule)
+/// and its bytes. With `NoMemory` nothing is appended.
 pub fn print_packet(
     alloc: Global,
     net: &Net,
@@ -246,7 +246,7 @@ pub fn print_packet(
     )
 }
 
-#[tactic(auto, unfolding(crate::specs::Lines::stages_text))]
+#[tactic(auto, unfolding(crate::specs::TraceLines::stages_text))]
 fn text_of_stages(alloc: Global) -> Result<String, AllocError>
     ensures { IfOk result (λ text. string_bytes text ≡ stages_text) }
 {
@@ -254,7 +254,7 @@ fn text_of_stages(alloc: Global) -> Result<String, AllocError>
 }
 
 /// Appends the line after those of a packet that used all its stages. With `NoMemory` nothing is
-/// appended. (own rule)
+/// appended.
 pub fn print_stages(alloc: Global, out: &mut Vec<u8>) -> Result<(), NoMemory>
     ensures ok { OnOk result (out.new.items ≡ out.old.items ++ (stages_text ++ 10 ∷ [])) }
     ensures err { OnErr result (out.new.items ≡ out.old.items) }
@@ -262,14 +262,14 @@ pub fn print_stages(alloc: Global, out: &mut Vec<u8>) -> Result<(), NoMemory>
     append_line(text_of_stages(alloc)?, out)
 }
 
-#[tactic(auto, unfolding(crate::specs::Lines::head_text))]
+#[tactic(auto, unfolding(crate::specs::TraceLines::head_text))]
 fn text_of_head(alloc: Global) -> Result<String, AllocError>
     ensures { IfOk result (λ text. string_bytes text ≡ head_text) }
 {
     format!(in alloc; "srv6 trace 1")
 }
 
-/// Appends a trace's first line. With `NoMemory` nothing is appended. (own rule)
+/// Appends a trace's first line. With `NoMemory` nothing is appended.
 pub fn print_head(alloc: Global, out: &mut Vec<u8>) -> Result<(), NoMemory>
     ensures ok { OnOk result (out.new.items ≡ out.old.items ++ (head_text ++ 10 ∷ [])) }
     ensures err { OnErr result (out.new.items ≡ out.old.items) }
@@ -277,14 +277,14 @@ pub fn print_head(alloc: Global, out: &mut Vec<u8>) -> Result<(), NoMemory>
     append_line(text_of_head(alloc)?, out)
 }
 
-#[tactic(auto, unfolding(crate::specs::Lines::end_text))]
+#[tactic(auto, unfolding(crate::specs::TraceLines::end_text))]
 fn text_of_end(alloc: Global) -> Result<String, AllocError>
     ensures { IfOk result (λ text. string_bytes text ≡ end_text) }
 {
     format!(in alloc; "end")
 }
 
-/// Appends a trace's last line. With `NoMemory` nothing is appended. (own rule)
+/// Appends a trace's last line. With `NoMemory` nothing is appended.
 pub fn print_end(alloc: Global, out: &mut Vec<u8>) -> Result<(), NoMemory>
     ensures ok { OnOk result (out.new.items ≡ out.old.items ++ (end_text ++ 10 ∷ [])) }
     ensures err { OnErr result (out.new.items ≡ out.old.items) }

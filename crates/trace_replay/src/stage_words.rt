@@ -1,10 +1,10 @@
 //! The words of stages' lines.
 
 ghost use Rattle.std.specs.Prelude.{◌≡◌, ◌∷◌, [], map};
-ghost use Rattle.trace_replay.specs.Grammar.{is_stage};
+ghost use Rattle.trace_replay.specs.TraceGrammar.{is_stage};
 
 use crate::numbers::is_number;
-use crate::words::{family_of, is_hex, is_prefix, is_reason};
+use crate::trace_words::{family_of, is_hex, is_prefix, is_reason};
 use net_model::{LAST_TABLE, is_name};
 
 /// Whether three words are the line of a packet that is sent or dropped.

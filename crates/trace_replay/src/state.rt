@@ -5,7 +5,7 @@ use walk_rules::Place;
 
 /// What there is of a packet between two lines of a trace.
 #[derive(Debug, Drop)]
-pub(crate) enum State {
+pub(crate) enum ReplayState {
     /// It has ended, or no packet came yet.
     Ended,
     /// It has a stage still to come.

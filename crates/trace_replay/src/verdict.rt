@@ -1,18 +1,18 @@
 //! Traces, run again.
 
 ghost use Rattle.std.specs.Prelude.{◌≡◌, ◌≤◌, count_by, length};
-ghost use Rattle.trace_replay.specs.Judging.{Replays};
-ghost use Rattle.trace_replay.specs.Reading.{IsTrace};
+ghost use Rattle.trace_replay.specs.ReplayJudging.{Replays};
+ghost use Rattle.trace_replay.specs.TraceReadingTerms.{IsTrace};
 ghost use Rattle.trace_replay.specs.Replays.{begins_packet, counts_of};
 
-use crate::flight::{LineFault, judge_line};
-use crate::reading::Trace;
-use crate::state::State;
+use crate::replay_flight::{LineFault, judge_line};
+use crate::state::ReplayState;
+use crate::trace_reading::Trace;
 use base::Seq;
 use net_model::{MAX_TEXT_BYTES, Net};
 use std::alloc::Global;
 
-/// What a trace that is right has. (own rule)
+/// What a trace that is right has.
 #[derive(Clone, Copy, Debug, PartialEq, Eq)]
 pub struct Replayed {
     /// How many packets.
@@ -21,7 +21,7 @@ pub struct Replayed {
     pub lines: u32,
 }
 
-/// Why a trace is not right. (own rule)
+/// Why a trace is not right.
 #[derive(Debug, Drop)]
 pub enum ReplayFault {
     /// A line is wrong, the first that is.
@@ -66,13 +66,13 @@ fn counts_of(lines: &[Seq<u8>]) -> Replayed
 /// right, and after a packet's end only another packet's first line or the trace's last.
 /// `Mismatch` tells the first wrong line: where a stage is to come the line of the stage under
 /// choice 0 should stand there, after all stages `stages`, and after a packet's end `ended` is
-/// told. The trace's lines are those of a text that is a trace of this network. (own rule)
+/// told. The trace's lines are those of a text that is a trace of this network.
 pub fn replay(alloc: Global, net: &Net, trace: &Trace) -> Result<Replayed, ReplayFault>
     requires { IsTrace net.now trace.now }
     ensures { Replays net.now trace.now result }
 {
     let lines = trace.lines();
-    let mut state = State::Ended;
+    let mut state = ReplayState::Ended;
     for n in 1..lines.len() {
         match judge_line(alloc, net, state, lines[n].as_slice()) {
             Ok(next) => state = next,

@@ -10,18 +10,18 @@ use Rattle.walk_rules.specs.declared.place.Ended.TheVariants as ends
 use Rattle.walk_rules.specs.Treatment.{Gave}
 use Rattle.walk_rules.specs.Walk.{Stage}
 use Rattle.packet_walk.specs.Flight.{InFlight, staged}
-use Rattle.update_walks.specs.Alike.{SameGave, SameStages}
-use Rattle.update_walks.proofs.PublicLaws.{same-each}
-use Rattle.command_output.specs.Lines.{packet_line}
-use Rattle.run_commands.specs.Capture.{frame_by, frame_of_error, frame_of_gave, frames_of}
-use Rattle.update_events.specs.Moving.{Happening}
-use Rattle.update_commands.specs.Whole.{stages_told}
+use Rattle.update_spec.specs.Alike.{SameGave, SameStages}
+use Rattle.update_walks_theory.proofs.PublicLaws.{same_each}
+use Rattle.command_output.specs.OutputLines.{packet_line}
+use Rattle.run_commands.specs.WrittenCapture.{frame_by, frame_of_error, frame_of_gave, frames_of}
+use Rattle.update_driver.specs.Moving.{Happening}
+use Rattle.update_commands.specs.WholeUpdate.{stages_happened}
 use Rattle.update_commands.proofs.Entered.{tellings}
 
 module _ (a b : Network) (number : ℕ) where
-  frame-same : (x y : Gave) → SameGave a b x y → frame_of_gave number x ≡ frame_of_gave number y
-  frame-same x y same =
-      same-each a b (λ o p. frame_by number o x.after x.error ≡ frame_by number p y.after y.error)
+  frame_same : (x y : Gave) → SameGave a b x y → frame_of_gave number x ≡ frame_of_gave number y
+  frame_same x y same =
+      same_each a b (λ o p. frame_by number o x.after x.error ≡ frame_by number p y.after y.error)
       (record {
         again = λ m n how on sid goes. refl;
         hand = λ m n how on family sid goes. refl;
@@ -31,26 +31,26 @@ module _ (a b : Network) (number : ℕ) where
       })
       x.outcome y.outcome same.outcome
 
-  pub frames-same : (ss ts : List Stage) → SameStages a b ss ts → frames_of number ss ≡ frames_of number ts
-  frames-same [] [] same = refl
-  frames-same [] (t ∷ ts) same = absurd same
-  frames-same (s ∷ ss) [] same = absurd same
-  frames-same (s ∷ ss) (t ∷ ts) same =
-      ap₂ (λ (xs ys : List ℕ). xs ++ ys) (frame-same s.gave t.gave same.0.gave) (frames-same ss ts same.1)
+  pub frames_same : (ss ts : List Stage) → SameStages a b ss ts → frames_of number ss ≡ frames_of number ts
+  frames_same [] [] same = refl
+  frames_same [] (t ∷ ts) same = absurd same
+  frames_same (s ∷ ss) [] same = absurd same
+  frames_same (s ∷ ss) (t ∷ ts) same =
+      ap₂ (λ (xs ys : List ℕ). xs ++ ys) (frame_same s.gave t.gave same.0.gave) (frames_same ss ts same.1)
 
 -- a line is the same with the same names
-pub line-same : (a b : Network) (number : ℕ) (end : Ended) → a.nodes ≡ b.nodes → a.links ≡ b.links
+pub line_same : (a b : Network) (number : ℕ) (end : Ended) → a.nodes ≡ b.nodes → a.links ≡ b.links
     → packet_line a number end ≡ packet_line b number end
-line-same a b number (ends.Left link) nodes links =
+line_same a b number (ends.Left link) nodes links =
     ap (λ (ls : List Link). packet_line (record a { links = ls }) number (ends.Left link)) links
-line-same a b number (ends.Delivered node) nodes links =
+line_same a b number (ends.Delivered node) nodes links =
     ap (λ (ns : List Node). packet_line (record a { nodes = ns }) number (ends.Delivered node)) nodes
-line-same a b number (ends.Dropped node reason) nodes links =
+line_same a b number (ends.Dropped node reason) nodes links =
     ap (λ (ns : List Node). packet_line (record a { nodes = ns }) number (ends.Dropped node reason)) nodes
-line-same a b number ends.Stages nodes links = refl
+line_same a b number ends.Stages nodes links = refl
 
 -- the stages that are told
-pub stages-tellings : (number : ℕ) (net : Network) (p : InFlight) (steps : List Stage) (behind : List Happening)
-    → stages_told (tellings number net p steps ++ behind) ≡ steps ++ stages_told behind
-stages-tellings number net p [] behind = refl
-stages-tellings number net p (s ∷ more) behind = ap (λ (ss : List Stage). s ∷ ss) (stages-tellings number net (staged net p) more behind)
+pub stages_tellings : (number : ℕ) (net : Network) (p : InFlight) (steps : List Stage) (behind : List Happening)
+    → stages_happened (tellings number net p steps ++ behind) ≡ steps ++ stages_happened behind
+stages_tellings number net p [] behind = refl
+stages_tellings number net p (s ∷ more) behind = ap (λ (ss : List Stage). s ∷ ss) (stages_tellings number net (staged net p) more behind)

@@ -1,2 +1,2 @@
 -- The lemmas that crates above may cite.
-pub use Rattle.update_commands.proofs.OneOutput.{update-one}
+pub use Rattle.update_commands.proofs.WholeOneOutput.{update_one}

@@ -1,2 +1,3 @@
-pub mod Whole
-pub mod Update
+pub mod WholeUpdate
+pub mod UpdateCommand
+pub mod UpdateCommandTerms

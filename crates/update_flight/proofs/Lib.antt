@@ -1,10 +1,10 @@
 pub mod OwnStages
-pub mod Firsts
-pub mod EditLemmas
-pub mod Kept
+pub mod PassingFirsts
+pub mod PassingEditLemmas
+pub mod PassingKept
 pub mod Whole
-pub mod Passed
-pub mod Entering
+pub mod PassingPassed
+pub mod PassingEntering
 pub mod Named
 pub mod Planned
 pub mod PublicLaws

@@ -11,15 +11,16 @@ use Rattle.net_model.specs.Best.{lookup_of}
 use Rattle.walk_rules.specs.declared.place.How.{How}
 use Rattle.walk_rules.specs.declared.place.How.TheVariants.{Arrived, Submitted, Through}
 use Rattle.walk_rules.specs.declared.place.Place.{Place}
-use Rattle.walk_rules.specs.Way.{Way, Away, Over, Own, Into, is_multicast_of, way_by, way_by_hit, way_of}
+use Rattle.walk_rules.specs.Way.{Way, NoWay, Over, Own, Into, is_multicast_of, way_by, way_by_hit, way_of}
 use Rattle.walk_rules.specs.Treatment.{Gave, error_of, free_step_of, judged, step_of, treated, treated4}
 use Rattle.walk_rules.specs.Walk.{Stage, choice_at, stage_of}
 use Rattle.packet_walk.specs.Flight.{InFlight, advanced, left_by, stage_in, staged}
-use Rattle.update_flight.specs.Tables.{AreAlike, HasRoute, KeepsOwn}
+use Rattle.update_flight.specs.MomentTables.{HasRoute}
+use Rattle.update_flight.specs.MomentTablesTerms.{AreAlike, KeepsOwn}
 
 -- tables that look up alike keep all matches
-pub kept-alike : (own now : Network) → AreAlike own now → KeepsOwn own now
-kept-alike own now alike = record {
+pub kept_alike : (own now : Network) → AreAlike own now → KeepsOwn own now
+kept_alike own now alike = record {
   nodes = alike.nodes;
   links = alike.links;
   routes = alike.routes;
@@ -33,8 +34,8 @@ module _ (own now : Network) (keeps : KeepsOwn own now) where
   abbrev same : Network
   same = record now { nodes = own.nodes; links = own.links; routes = own.routes; policies = own.policies; sids = own.sids }
 
-  is-same : now ≡ same
-  is-same = λ i. record now {
+  is_same : now ≡ same
+  is_same = λ i. record now {
     nodes = keeps.nodes i;
     links = keeps.links i;
     routes = keeps.routes i;
@@ -45,148 +46,148 @@ module _ (own now : Network) (keeps : KeepsOwn own now) where
   finds : (node table : ℕ) (family : Family) (a : ℕ) → lookup_of own node table family a ≢ hits.Nothing
       → lookup_of same node table family a ≡ lookup_of own node table family a
   finds node table family a some =
-      ap (λ (net : Network). lookup_of net node table family a) (sym is-same) ∙ keeps.matches node table family a some
+      ap (λ (net : Network). lookup_of net node table family a) (sym is_same) ∙ keeps.matches node table family a some
 
   -- the way is the same
 
-  way-hit : (lower : Bool) (h g : Hit) → (h ≢ hits.Nothing → g ≡ h) → way_by_hit own lower h ≢ Away reasons.NoRoute
+  way_hit : (lower : Bool) (h g : Hit) → (h ≢ hits.Nothing → g ≡ h) → way_by_hit own lower h ≢ NoWay reasons.NoRoute
       → way_by_hit same lower g ≡ way_by_hit own lower h
-  way-hit lower h g found route =
+  way_hit lower h g found route =
       let e : g ≡ h = found (λ none. route (ap (way_by_hit own lower) none)) in ap (way_by_hit same lower) e
 
-  way-unless : (multicast lower : Bool) (h g : Hit) → (h ≢ hits.Nothing → g ≡ h)
-      → (if multicast then Away reasons.Multicast else way_by_hit own lower h) ≢ Away reasons.NoRoute
-      → (if multicast then Away reasons.Multicast else way_by_hit same lower g)
-      ≡ (if multicast then Away reasons.Multicast else way_by_hit own lower h)
-  way-unless true lower h g found route = refl
-  way-unless false lower h g found route = way-hit lower h g found route
+  way_unless : (multicast lower : Bool) (h g : Hit) → (h ≢ hits.Nothing → g ≡ h)
+      → (if multicast then NoWay reasons.Multicast else way_by_hit own lower h) ≢ NoWay reasons.NoRoute
+      → (if multicast then NoWay reasons.Multicast else way_by_hit same lower g)
+      ≡ (if multicast then NoWay reasons.Multicast else way_by_hit own lower h)
+  way_unless true lower h g found route = refl
+  way_unless false lower h g found route = way_hit lower h g found route
 
-  way-how : (node : ℕ) (how : How) (family : Family) (a : ℕ) → way_by own node how family a ≢ Away reasons.NoRoute
+  way_how : (node : ℕ) (how : How) (family : Family) (a : ℕ) → way_by own node how family a ≢ NoWay reasons.NoRoute
       → way_by same node how family a ≡ way_by own node how family a
-  way-how node (Arrived table) family a route =
-      way-unless (is_multicast_of family a) true (lookup_of own node table family a) (lookup_of same node table family a)
+  way_how node (Arrived table) family a route =
+      way_unless (is_multicast_of family a) true (lookup_of own node table family a) (lookup_of same node table family a)
       (finds node table family a) route
-  way-how node (Submitted table) family a route =
-      way-unless (is_multicast_of family a) false (lookup_of own node table family a) (lookup_of same node table family a)
+  way_how node (Submitted table) family a route =
+      way_unless (is_multicast_of family a) false (lookup_of own node table family a) (lookup_of same node table family a)
       (finds node table family a) route
-  way-how node (Through sid lower) family a route = refl
+  way_how node (Through sid lower) family a route = refl
 
-  way-same : (place : Place) (a : ℕ) → way_of own place a ≢ Away reasons.NoRoute → way_of same place a ≡ way_of own place a
+  way_same : (place : Place) (a : ℕ) → way_of own place a ≢ NoWay reasons.NoRoute → way_of same place a ≡ way_of own place a
   unfolding way_of
-  way-same place a route = way-how place.node place.how place.family a route
+  way_same place a route = way_how place.node place.how place.family a route
 
   -- and so is what is done with a packet on it
 
-  treated-same : (node : ℕ) (way : Way) (p : Packet) (choice : ℕ) → treated same node way p choice ≡ treated own node way p choice
+  treated_same : (node : ℕ) (way : Way) (p : Packet) (choice : ℕ) → treated same node way p choice ≡ treated own node way p choice
   unfolding error_of
-  treated-same node (Away reason) p choice = refl
-  treated-same node (Over set lower) p choice = refl
-  treated-same node Own p choice = refl
-  treated-same node (Into n) p choice = refl
+  treated_same node (NoWay reason) p choice = refl
+  treated_same node (Over set lower) p choice = refl
+  treated_same node Own p choice = refl
+  treated_same node (Into n) p choice = refl
 
-  treated4-same : (node : ℕ) (way : Way) (p : Packet4) (choice : ℕ) → treated4 same node way p choice ≡ treated4 own node way p choice
+  treated4_same : (node : ℕ) (way : Way) (p : Packet4) (choice : ℕ) → treated4 same node way p choice ≡ treated4 own node way p choice
   unfolding error_of
-  treated4-same node (Away reason) p choice = refl
-  treated4-same node (Over set lower) p choice = refl
-  treated4-same node Own p choice = refl
-  treated4-same node (Into n) p choice = refl
+  treated4_same node (NoWay reason) p choice = refl
+  treated4_same node (Over set lower) p choice = refl
+  treated4_same node Own p choice = refl
+  treated4_same node (Into n) p choice = refl
 
-  judged-same : (node : ℕ) (content : Content) (gave : Gave) → judged same node content gave ≡ judged own node content gave
+  judged_same : (node : ℕ) (content : Content) (gave : Gave) → judged same node content gave ≡ judged own node content gave
   unfolding error_of
-  judged-same node content gave = refl
+  judged_same node content gave = refl
 
-  step-same : (place : Place) (content : Content) (choice : ℕ) → HasRoute (stage_of own place content choice)
+  step_same : (place : Place) (content : Content) (choice : ℕ) → HasRoute (stage_of own place content choice)
       → step_of same place content choice ≡ step_of own place content choice
   unfolding error_of
-  step-same place (Unreadable bytes reason) choice route = refl
-  step-same place (V6 p) choice route =
-      judged-same place.node (V6 p) (free_step_of same place (V6 p) choice)
+  step_same place (Unreadable bytes reason) choice route = refl
+  step_same place (V6 p) choice route =
+      judged_same place.node (V6 p) (free_step_of same place (V6 p) choice)
       ∙ ap (judged own place.node (V6 p))
-      (treated-same place.node (way_of same place p.destination) p choice
+      (treated_same place.node (way_of same place p.destination) p choice
       ∙ ap (λ (way : Way). treated own place.node way p choice)
-      (way-same place p.destination
-      (λ (away : way_of own place p.destination ≡ Away reasons.NoRoute). route
+      (way_same place p.destination
+      (λ (away : way_of own place p.destination ≡ NoWay reasons.NoRoute). route
       (is_some (error_of own place.node reasons.NoRoute 0 (V6 p)))
       (ap (λ (way : Way). (judged own place.node (V6 p) (treated own place.node way p choice)).outcome) away))))
-  step-same place (V4 p) choice route =
-      judged-same place.node (V4 p) (free_step_of same place (V4 p) choice)
+  step_same place (V4 p) choice route =
+      judged_same place.node (V4 p) (free_step_of same place (V4 p) choice)
       ∙ ap (judged own place.node (V4 p))
-      (treated4-same place.node (way_of same place (destination4 p)) p choice
+      (treated4_same place.node (way_of same place (destination4 p)) p choice
       ∙ ap (λ (way : Way). treated4 own place.node way p choice)
-      (way-same place (destination4 p)
-      (λ (away : way_of own place (destination4 p) ≡ Away reasons.NoRoute). route
+      (way_same place (destination4 p)
+      (λ (away : way_of own place (destination4 p) ≡ NoWay reasons.NoRoute). route
       (is_some (error_of own place.node reasons.NoRoute 0 (V4 p)))
       (ap (λ (way : Way). (judged own place.node (V4 p) (treated4 own place.node way p choice)).outcome) away))))
 
-  pub own-step : (place : Place) (content : Content) (choice : ℕ) → HasRoute (stage_of own place content choice)
+  pub own_step : (place : Place) (content : Content) (choice : ℕ) → HasRoute (stage_of own place content choice)
       → step_of now place content choice ≡ step_of own place content choice
-  own-step place content choice route =
-      ap (λ (net : Network). step_of net place content choice) is-same ∙ step-same place content choice route
+  own_step place content choice route =
+      ap (λ (net : Network). step_of net place content choice) is_same ∙ step_same place content choice route
 
   -- a packet takes the same stage, and is the same after it
 
-  pub own-stage : (p : InFlight) → HasRoute (stage_in own p) → stage_in now p ≡ stage_in own p
-  own-stage p route =
-      ap (λ (gave : Gave). stage p gave) (own-step p.place p.content (choice_at p.choices p.decisions) route) where
+  pub own_stage : (p : InFlight) → HasRoute (stage_in own p) → stage_in now p ≡ stage_in own p
+  own_stage p route =
+      ap (λ (gave : Gave). stage p gave) (own_step p.place p.content (choice_at p.choices p.decisions) route) where
         stage : InFlight → Gave → Stage
         stage p gave = record { place = p.place; before = p.content; gave = gave }
 
-  advanced-same : (s : Stage) (p : InFlight)
+  advanced_same : (s : Stage) (p : InFlight)
       → advanced same s.gave.outcome (left_by same p s) p ≡ advanced own s.gave.outcome (left_by own p s) p
-  advanced-same s p = refl
+  advanced_same s p = refl
 
-  pub own-staged : (p : InFlight) → HasRoute (stage_in own p) → staged now p ≡ staged own p
-  own-staged p route =
+  pub own_staged : (p : InFlight) → HasRoute (stage_in own p) → staged now p ≡ staged own p
+  own_staged p route =
       let by : Network → Stage → InFlight = λ net s. advanced net s.gave.outcome (left_by net p s) p in
-      ap (by now) (own-stage p route)
-      ∙ (ap (λ (net : Network). by net (stage_in own p)) is-same
-      ∙ advanced-same (stage_in own p) p)
+      ap (by now) (own_stage p route)
+      ∙ (ap (λ (net : Network). by net (stage_in own p)) is_same
+      ∙ advanced_same (stage_in own p) p)
 
   -- by tables that look up alike it is the same, whatever it is
 
   module _ (all : (node table : ℕ) (family : Family) (a : ℕ) → lookup_of now node table family a ≡ lookup_of own node table family a) where
-    finds-all : (node table : ℕ) (family : Family) (a : ℕ) → lookup_of same node table family a ≡ lookup_of own node table family a
-    finds-all node table family a = ap (λ (net : Network). lookup_of net node table family a) (sym is-same) ∙ all node table family a
+    finds_all : (node table : ℕ) (family : Family) (a : ℕ) → lookup_of same node table family a ≡ lookup_of own node table family a
+    finds_all node table family a = ap (λ (net : Network). lookup_of net node table family a) (sym is_same) ∙ all node table family a
 
-    way-by-all : (node : ℕ) (how : How) (family : Family) (a : ℕ) → way_by same node how family a ≡ way_by own node how family a
-    way-by-all node (Arrived table) family a =
-        ap (λ (h : Hit). if is_multicast_of family a then Away reasons.Multicast else way_by_hit own true h) (finds-all node table family a)
-    way-by-all node (Submitted table) family a =
-        ap (λ (h : Hit). if is_multicast_of family a then Away reasons.Multicast else way_by_hit own false h)
-        (finds-all node table family a)
-    way-by-all node (Through sid lower) family a = refl
+    way_by_all : (node : ℕ) (how : How) (family : Family) (a : ℕ) → way_by same node how family a ≡ way_by own node how family a
+    way_by_all node (Arrived table) family a =
+        ap (λ (h : Hit). if is_multicast_of family a then NoWay reasons.Multicast else way_by_hit own true h) (finds_all node table family a)
+    way_by_all node (Submitted table) family a =
+        ap (λ (h : Hit). if is_multicast_of family a then NoWay reasons.Multicast else way_by_hit own false h)
+        (finds_all node table family a)
+    way_by_all node (Through sid lower) family a = refl
 
-    way-all : (place : Place) (a : ℕ) → way_of same place a ≡ way_of own place a
+    way_all : (place : Place) (a : ℕ) → way_of same place a ≡ way_of own place a
     unfolding way_of
-    way-all place a = way-by-all place.node place.how place.family a
+    way_all place a = way_by_all place.node place.how place.family a
 
-    step-all : (place : Place) (content : Content) (choice : ℕ) → step_of same place content choice ≡ step_of own place content choice
+    step_all : (place : Place) (content : Content) (choice : ℕ) → step_of same place content choice ≡ step_of own place content choice
     unfolding error_of
-    step-all place (Unreadable bytes reason) choice = refl
-    step-all place (V6 p) choice =
-        judged-same place.node (V6 p) (free_step_of same place (V6 p) choice)
+    step_all place (Unreadable bytes reason) choice = refl
+    step_all place (V6 p) choice =
+        judged_same place.node (V6 p) (free_step_of same place (V6 p) choice)
         ∙ ap (judged own place.node (V6 p))
-        (treated-same place.node (way_of same place p.destination) p choice
-        ∙ ap (λ (way : Way). treated own place.node way p choice) (way-all place p.destination))
-    step-all place (V4 p) choice =
-        judged-same place.node (V4 p) (free_step_of same place (V4 p) choice)
+        (treated_same place.node (way_of same place p.destination) p choice
+        ∙ ap (λ (way : Way). treated own place.node way p choice) (way_all place p.destination))
+    step_all place (V4 p) choice =
+        judged_same place.node (V4 p) (free_step_of same place (V4 p) choice)
         ∙ ap (judged own place.node (V4 p))
-        (treated4-same place.node (way_of same place (destination4 p)) p choice
-        ∙ ap (λ (way : Way). treated4 own place.node way p choice) (way-all place (destination4 p)))
+        (treated4_same place.node (way_of same place (destination4 p)) p choice
+        ∙ ap (λ (way : Way). treated4 own place.node way p choice) (way_all place (destination4 p)))
 
-    pub all-step : (place : Place) (content : Content) (choice : ℕ) → step_of now place content choice ≡ step_of own place content choice
-    all-step place content choice =
-        ap (λ (net : Network). step_of net place content choice) is-same ∙ step-all place content choice
+    pub all_step : (place : Place) (content : Content) (choice : ℕ) → step_of now place content choice ≡ step_of own place content choice
+    all_step place content choice =
+        ap (λ (net : Network). step_of net place content choice) is_same ∙ step_all place content choice
 
-    pub all-stage : (p : InFlight) → stage_in now p ≡ stage_in own p
-    all-stage p =
-        ap (λ (gave : Gave). stage p gave) (all-step p.place p.content (choice_at p.choices p.decisions)) where
+    pub all_stage : (p : InFlight) → stage_in now p ≡ stage_in own p
+    all_stage p =
+        ap (λ (gave : Gave). stage p gave) (all_step p.place p.content (choice_at p.choices p.decisions)) where
           stage : InFlight → Gave → Stage
           stage p gave = record { place = p.place; before = p.content; gave = gave }
 
-    pub all-staged : (p : InFlight) → staged now p ≡ staged own p
-    all-staged p =
+    pub all_staged : (p : InFlight) → staged now p ≡ staged own p
+    all_staged p =
         let by : Network → Stage → InFlight = λ net s. advanced net s.gave.outcome (left_by net p s) p in
-        ap (by now) (all-stage p)
-        ∙ (ap (λ (net : Network). by net (stage_in own p)) is-same
-        ∙ advanced-same (stage_in own p) p)
+        ap (by now) (all_stage p)
+        ∙ (ap (λ (net : Network). by net (stage_in own p)) is_same
+        ∙ advanced_same (stage_in own p) p)

@@ -11,80 +11,82 @@ use Rattle.srv6_rules.specs.declared.sid.SidEntry.{SidEntry}
 use Rattle.net_model.specs.declared.net.Hit.{Hit}
 use Rattle.net_model.specs.declared.net.Hit.TheVariants as hits
 use Rattle.net_model.specs.Network.{Network}
-use Rattle.net_model.specs.Rules.{IsNetwork}
-use Rattle.net_model.specs.Judging.{title_text}
+use Rattle.net_model.specs.NetworkRulesTerms.{IsNetwork}
+use Rattle.net_model.specs.NetworkJudging.{title_text}
 use Rattle.net_model.specs.Best.{Entry, entries_of, hit_of, longest, lookup_of}
 use Rattle.net_model.specs.Entries.{IsEntryAs}
 use Rattle.net_model.proofs.PublicLaws.{contains_first, contains_later, entry_means}
 use Rattle.net_model.specs.declared.net.EntryId.{EntryId}
-use Rattle.update_rules.specs.Joined.{added_routes, added_sids, joined_of, numbered, numbered_beside}
-use Rattle.update_rules.specs.Lookups.{SameHit, is_of_new, is_of_old, shown_lookup}
-use Rattle.update_rules.specs.Planning.{planning}
-use Rattle.update_rules.proofs.PublicLaws.{new_lookups, new_match_stays, old_match_stays, old_lookups}
+use Rattle.update_spec.specs.Joined.{added_routes, added_sids, joined_of, numbered, numbered_beside}
+use Rattle.update_spec.specs.Lookups.{SameHit}
+use Rattle.update_theory.specs.LookupsTerms.{is_of_new, is_of_old, shown_lookup}
+use Rattle.update_spec.specs.Planning.{planning}
+use Rattle.update_theory.proofs.PublicLaws.{new_lookups, new_match_stays, old_match_stays, old_lookups}
 use Rattle.update_flight.specs.Interleaving.{PassOver}
-use Rattle.update_flight.specs.Planned.{ShowsEdits, added_entries, is_shown_after, names, removed_entries}
-use Rattle.update_flight.specs.Tables.{KeepsOwn}
+use Rattle.update_flight.specs.Planned.{added_entries, removed_entries}
+use Rattle.update_flight.specs.PlannedTerms.{ShowsEdits, is_shown_after, names}
+use Rattle.update_flight.specs.MomentTablesTerms.{KeepsOwn}
 use Rattle.update_flight.specs.Transition.{edits}
-use Rattle.update_flight.proofs.Named.{added-none, added-route, added-sid, named_in, none-dropped, none-taken, removed-none, removed-some}
-use Rattle.update_flight.proofs.EditLemmas.{length-edits}
+use Rattle.update_flight.proofs.Named.{added_none, added_route, added_sid, named_in, none_dropped, none_taken, removed_none, removed_some}
+use Rattle.update_flight.proofs.PassingEditLemmas.{length_edits}
 
 -- entries that pass one test are those that pass another, where both tests say the same of each entry that is there
-filter-same : (p q : Entry → Bool) (es : List Entry) → ((e : Entry) → Contains es e → p e ≡ q e) → filter p es ≡ filter q es
-filter-same p q [] same = refl
-filter-same p q (x ∷ xs) same =
-    ap₂ (λ b l. cond b (x ∷ l) l) (same x (contains_first x xs)) (filter-same p q xs (λ e c. same e (contains_later x xs e c)))
+filter_same : (p q : Entry → Bool) (es : List Entry) → ((e : Entry) → Contains es e → p e ≡ q e) → filter p es ≡ filter q es
+filter_same p q [] same = refl
+filter_same p q (x ∷ xs) same =
+    ap₂ (λ b l. cond b (x ∷ l) l) (same x (contains_first x xs)) (filter_same p q xs (λ e c. same e (contains_later x xs e c)))
 
 -- SIDs that are numbered anew are as many as before
 
-length-beside : (o : Option (List ℕ)) (c : ℕ) (s : SidEntry) (rest : ℕ → List SidEntry) (n : ℕ) → ((m : ℕ) → length (rest m) ≡ n)
+length_beside : (o : Option (List ℕ)) (c : ℕ) (s : SidEntry) (rest : ℕ → List SidEntry) (n : ℕ) → ((m : ℕ) → length (rest m) ≡ n)
     → length (numbered_beside o c s rest) ≡ suc n
-length-beside None c s rest n each = ap suc (each c)
-length-beside (Some text) c s rest n each = ap suc (each (c + 1))
+length_beside None c s rest n each = ap suc (each c)
+length_beside (Some text) c s rest n each = ap suc (each (c + 1))
 
-length-numbered : (texts : List (List ℕ)) (c : ℕ) (ss : List SidEntry) → length (numbered texts c ss) ≡ length ss
-length-numbered texts c [] = refl
-length-numbered texts c (s ∷ ss) =
-    length-beside (title_text texts s) c s (λ m. numbered texts m ss) (length ss) (λ m. length-numbered texts m ss)
+length_numbered : (texts : List (List ℕ)) (c : ℕ) (ss : List SidEntry) → length (numbered texts c ss) ≡ length ss
+length_numbered texts c [] = refl
+length_numbered texts c (s ∷ ss) =
+    length_beside (title_text texts s) c s (λ m. numbered texts m ss) (length ss) (λ m. length_numbered texts m ss)
 
 -- what is shown, by what is still to be added and what was removed
 
 module _ (added removed : List EntryId) (done : ℕ) (h : Hit) where
-  shown-by : (front back : Bool) → named_in h (drop done added) ≡ front → named_in h (take (done - suc (length added)) removed) ≡ back
+  shown_by : (front back : Bool) → named_in h (drop done added) ≡ front → named_in h (take (done - suc (length added)) removed) ≡ back
       → is_shown_after added removed done h ≡ not (front || back)
-  shown-by front back one other =
+  shown_by front back one other =
       ap not (list_any-append (λ entry. names entry h) (drop done added) (take (done - suc (length added)) removed)
       ∙ ap₂ (λ b c. b || c) one other)
 
   -- before the first removal
-  none-removed : done ≤ suc (length added) → named_in h (take (done - suc (length added)) removed) ≡ false
-  none-removed few =
-      let e : done - suc (length added) ≡ 0 = omega (arith, few) in ap (λ n. named_in h (take n removed)) e ∙ taken-none removed where
-        taken-none : (entries : List EntryId) → named_in h (take 0 entries) ≡ false
-        taken-none [] = refl
-        taken-none (entry ∷ entries) = refl
+  none_removed : done ≤ suc (length added) → named_in h (take (done - suc (length added)) removed) ≡ false
+  none_removed few =
+      let e : done - suc (length added) ≡ 0 = omega (arith, few) in ap (λ n. named_in h (take n removed)) e ∙ taken_none removed where
+        taken_none : (entries : List EntryId) → named_in h (take 0 entries) ≡ false
+        taken_none [] = refl
+        taken_none (entry ∷ entries) = refl
 
-  pub shown-old : done ≤ suc (length added) → named_in h added ≡ false → is_shown_after added removed done h ≡ true
-  shown-old few none = shown-by false false (none-dropped h added done none) (none-removed few)
+  pub shown_old : done ≤ suc (length added) → named_in h added ≡ false → is_shown_after added removed done h ≡ true
+  shown_old few none = shown_by false false (none_dropped h added done none) (none_removed few)
 
   -- after the last addition
-  pub shown-new : length added ≤ done → named_in h removed ≡ false → is_shown_after added removed done h ≡ true
-  shown-new all none =
-      shown-by false false (ap (named_in h) (drop_all done added all)) (none-taken h removed (done - suc (length added)) none)
+  pub shown_new : length added ≤ done → named_in h removed ≡ false → is_shown_after added removed done h ≡ true
+  shown_new all none =
+      shown_by false false (ap (named_in h) (drop_all done added all)) (none_taken h removed (done - suc (length added)) none)
 
   -- after the last edit
-  pub hidden-new : done ≡ length added + length removed + 1 → named_in h removed ≡ true → is_shown_after added removed done h ≡ false
-  hidden-new is some =
+  pub hidden_new : done ≡ length added + length removed + 1 → named_in h removed ≡ true → is_shown_after added removed done h ≡ false
+  hidden_new is some =
       let e : done - suc (length added) ≡ length removed = omega (arith, is) in
-      shown-by false true (ap (named_in h) (drop_all done added (omega (arith, is))))
+      shown_by false true (ap (named_in h) (drop_all done added (omega (arith, is))))
       (ap (λ n. named_in h (take n removed)) e ∙ (ap (named_in h) (take_all (length removed) removed (omega arith)) ∙ some))
 
 -- before the first edit
-hidden-old : (added removed : List EntryId) (h : Hit) → named_in h added ≡ true → is_shown_after added removed 0 h ≡ false
-hidden-old added removed h some =
-    shown-by added removed 0 h true false (dropped-none added some) (none-removed added removed 0 h (omega arith)) where
-      dropped-none : (entries : List EntryId) → named_in h entries ≡ true → named_in h (drop 0 entries) ≡ true
-      dropped-none [] is = is
-      dropped-none (entry ∷ entries) is = is
+hidden_old : (added removed : List EntryId) (h : Hit) → named_in h added ≡ true → is_shown_after added removed 0 h ≡ false
+hidden_old added removed h some =
+    shown_by added removed 0 h true false (dropped_none added some) (none_removed added removed 0 h (omega arith)) where
+      dropped_none : (entries : List EntryId) → named_in h entries ≡ true → named_in h (drop 0 entries) ≡ true
+      dropped_none [] is = is
+      dropped_none (entry ∷ entries) is = is
 
 module _ (old new : Network) where
   abbrev added : List EntryId
@@ -101,62 +103,62 @@ module _ (old new : Network) where
 
   -- no entry of the joined network that isn't an old one is shown before the first edit
 
-  hidden-sid : (n : ℕ) (s : SidEntry) → slice_get joined.sids n ≡ Some s → length old.sids ≤ n
+  hidden_sid : (n : ℕ) (s : SidEntry) → slice_get joined.sids n ≡ Some s → length old.sids ≤ n
       → is_shown_after added removed 0 (hits.Sid n) ≡ false
-  hidden-sid n s there above =
+  hidden_sid n s there above =
       let within : n < length joined.sids = slice_get_within joined.sids n s there in
       let e : length joined.sids ≡ length old.sids + length (numbered new.titles (length old.titles) (added_sids old new)) =
       length-append old.sids (numbered new.titles (length old.titles) (added_sids old new)) in
-      let f = length-numbered new.titles (length old.titles) (added_sids old new) in
-      hidden-old added removed (hits.Sid n) (added-sid old new n above (omega (arith, within, e, f)))
+      let f = length_numbered new.titles (length old.titles) (added_sids old new) in
+      hidden_old added removed (hits.Sid n) (added_sid old new n above (omega (arith, within, e, f)))
 
-  at-start : (node table : ℕ) (family : Family) (p : PrefixValue) (h : Hit) → IsEntryAs joined node table family p h
+  at_start : (node table : ℕ) (family : Family) (p : PrefixValue) (h : Hit) → IsEntryAs joined node table family p h
       → is_shown_after added removed 0 h ≡ is_of_old old h
-  at-start node table family p (hits.Sid n) is = elim (cases_lt n (length old.sids)) [
+  at_start node table family p (hits.Sid n) is = elim (cases_lt n (length old.sids)) [
     | inl below ↦ (let here : is_of_old old (hits.Sid n) ≡ true = lt-ltb n (length old.sids) below in
-        shown-old added removed 0 (hits.Sid n) (omega arith) (added-none old new (hits.Sid n) here) ∙ sym here)
-    | inr above ↦ hidden-sid n is.0 is.1 above ∙ sym (le-ltb n (length old.sids) above)
+        shown_old added removed 0 (hits.Sid n) (omega arith) (added_none old new (hits.Sid n) here) ∙ sym here)
+    | inr above ↦ hidden_sid n is.0 is.1 above ∙ sym (le-ltb n (length old.sids) above)
   ]
-  at-start node table family p hits.Address is = shown-old added removed 0 hits.Address (omega arith) (added-none old new hits.Address refl)
-  at-start node table family p (hits.Route n) is = elim (cases_lt n (length old.routes)) [
+  at_start node table family p hits.Address is = shown_old added removed 0 hits.Address (omega arith) (added_none old new hits.Address refl)
+  at_start node table family p (hits.Route n) is = elim (cases_lt n (length old.routes)) [
     | inl below ↦ (let here : is_of_old old (hits.Route n) ≡ true = lt-ltb n (length old.routes) below in
-        shown-old added removed 0 (hits.Route n) (omega arith) (added-none old new (hits.Route n) here) ∙ sym here)
+        shown_old added removed 0 (hits.Route n) (omega arith) (added_none old new (hits.Route n) here) ∙ sym here)
     | inr above ↦ (let within : n < length joined.routes = slice_get_within joined.routes n is.0 is.1 in
         let e : length joined.routes ≡ length old.routes + length (added_routes old new) =
         length-append old.routes (added_routes old new) in
-        hidden-old added removed (hits.Route n) (added-route old new n above (omega (arith, within, e)))
+        hidden_old added removed (hits.Route n) (added_route old new n above (omega (arith, within, e)))
         ∙ sym (le-ltb n (length old.routes) above))
   ]
-  at-start node table family p hits.Nothing is = absurd is
+  at_start node table family p hits.Nothing is = absurd is
 
-  at-end : (h : Hit) → is_shown_after added removed last h ≡ is_of_new old new h
-  at-end h =
-      let e = length-edits added removed in
+  at_end_law : (h : Hit) → is_shown_after added removed last h ≡ is_of_new old new h
+  at_end_law h =
+      let e = length_edits added removed in
       elim (cases_Bool (is_of_new old new h)) [
-        | inl is ↦ shown-new added removed last h (omega (arith, e)) (removed-none old new h is) ∙ sym is
-        | inr other ↦ hidden-new added removed last h e (removed-some old new h other) ∙ sym other
+        | inl is ↦ shown_new added removed last h (omega (arith, e)) (removed_none old new h is) ∙ sym is
+        | inr other ↦ hidden_new added removed last h e (removed_some old new h other) ∙ sym other
       ]
 
   module _ (node table : ℕ) (family : Family) (a : ℕ) where
     abbrev found : (Hit → Bool) → Hit
     found shown = shown_lookup shown joined node table family a
 
-    first-found : found (is_shown_after added removed 0) ≡ found (is_of_old old)
-    first-found = ap (λ es. hit_of (longest a es))
-        (filter-same (λ e. is_shown_after added removed 0 e.hit) (λ e. is_of_old old e.hit) (entries_of joined node table family)
-        (λ e c. at-start node table family e.prefix e.hit (entry_means joined node table family e c)))
+    first_found : found (is_shown_after added removed 0) ≡ found (is_of_old old)
+    first_found = ap (λ es. hit_of (longest a es))
+        (filter_same (λ e. is_shown_after added removed 0 e.hit) (λ e. is_of_old old e.hit) (entries_of joined node table family)
+        (λ e c. at_start node table family e.prefix e.hit (entry_means joined node table family e c)))
 
-    last-found : found (is_shown_after added removed last) ≡ found (is_of_new old new)
-    last-found = ap (λ es. hit_of (longest a es))
-        (filter-same (λ e. is_shown_after added removed last e.hit) (λ e. is_of_new old new e.hit) (entries_of joined node table family)
-        (λ e c. at-end e.hit))
+    last_found : found (is_shown_after added removed last) ≡ found (is_of_new old new)
+    last_found = ap (λ es. hit_of (longest a es))
+        (filter_same (λ e. is_shown_after added removed last e.hit) (λ e. is_of_new old new e.hit) (entries_of joined node table family)
+        (λ e c. at_end_law e.hit))
 
   module _ (tables : ℕ → Network) (rules : IsNetwork old) (accepted : planning old new ≡ Ok tt) (shows : ShowsEdits old new tables) where
-    keeps-by : (first done : ℕ)
+    keeps_by : (first done : ℕ)
         → ((node table : ℕ) (family : Family) (a : ℕ) → lookup_of (tables first) node table family a ≢ hits.Nothing
         → lookup_of (tables done) node table family a ≡ lookup_of (tables first) node table family a)
         → KeepsOwn (tables first) (tables done)
-    keeps-by first done matches = record {
+    keeps_by first done matches = record {
       nodes = shows.nodes done ∙ sym (shows.nodes first);
       links = shows.links done ∙ sym (shows.links first);
       routes = shows.routes done ∙ sym (shows.routes first);
@@ -165,36 +167,36 @@ module _ (old new : Network) where
       matches = matches;
     }
 
-    old-kept : (done : ℕ) → done ≤ suc (length added) → KeepsOwn (tables 0) (tables done)
-    old-kept done few = keeps-by 0 done (λ node table family a some.
+    old_kept : (done : ℕ) → done ≤ suc (length added) → KeepsOwn (tables 0) (tables done)
+    old_kept done few = keeps_by 0 done (λ node table family a some.
         let base : lookup_of (tables 0) node table family a ≡ found node table family a (is_of_old old) =
-        shows.looks_up 0 node table family a ∙ first-found node table family a in
+        shows.looks_up 0 node table family a ∙ first_found node table family a in
         shows.looks_up done node table family a
         ∙ (old_match_stays old new (is_shown_after added removed done) node table family a accepted
-        (λ h is. shown-old added removed done h few (added-none old new h is)) (λ none. some (base ∙ none)) ∙ sym base))
+        (λ h is. shown_old added removed done h few (added_none old new h is)) (λ none. some (base ∙ none)) ∙ sym base))
 
-    new-kept : (done : ℕ) → length added ≤ done → done ≤ last → KeepsOwn (tables last) (tables done)
-    new-kept done all within = keeps-by last done (λ node table family a some.
+    new_kept : (done : ℕ) → length added ≤ done → done ≤ last → KeepsOwn (tables last) (tables done)
+    new_kept done all within = keeps_by last done (λ node table family a some.
         let base : lookup_of (tables last) node table family a ≡ found node table family a (is_of_new old new) =
-        shows.looks_up last node table family a ∙ last-found node table family a in
+        shows.looks_up last node table family a ∙ last_found node table family a in
         shows.looks_up done node table family a
         ∙ (new_match_stays old new (is_shown_after added removed done) node table family a rules accepted
-        (λ h is. shown-new added removed done h all (removed-none old new h is)) (λ none. some (base ∙ none)) ∙ sym base))
+        (λ h is. shown_new added removed done h all (removed_none old new h is)) (λ none. some (base ∙ none)) ∙ sym base))
 
-    pub passes-over : PassOver tables added removed
-    passes-over = record { old = old-kept; new = new-kept }
+    pub passes_over : PassOver tables added removed
+    passes_over = record { old = old_kept; new = new_kept }
 
   -- the first tables look up as the old description, and the last as the new one
 
-  pub starts-old : (tables : ℕ → Network) (node table : ℕ) (family : Family) (a : ℕ) → old.hidden ≡ [] → ShowsEdits old new tables
+  pub starts_old : (tables : ℕ → Network) (node table : ℕ) (family : Family) (a : ℕ) → old.hidden ≡ [] → ShowsEdits old new tables
       → lookup_of (tables 0) node table family a ≡ lookup_of old node table family a
-  starts-old tables node table family a whole shows =
-      shows.looks_up 0 node table family a ∙ (first-found node table family a ∙ old_lookups old new node table family a whole)
+  starts_old tables node table family a whole shows =
+      shows.looks_up 0 node table family a ∙ (first_found node table family a ∙ old_lookups old new node table family a whole)
 
-  pub ends-new : (tables : ℕ → Network) (node table : ℕ) (family : Family) (a : ℕ) → IsNetwork old → IsNetwork new
+  pub ends_new : (tables : ℕ → Network) (node table : ℕ) (family : Family) (a : ℕ) → IsNetwork old → IsNetwork new
       → new.hidden ≡ [] → planning old new ≡ Ok tt → ShowsEdits old new tables
       → SameHit joined new (lookup_of (tables last) node table family a) (lookup_of new node table family a)
-  ends-new tables node table family a rules new_rules whole accepted shows =
+  ends_new tables node table family a rules new_rules whole accepted shows =
       subst (λ (h : Hit). SameHit joined new h (lookup_of new node table family a))
-      (sym (shows.looks_up last node table family a ∙ last-found node table family a))
+      (sym (shows.looks_up last node table family a ∙ last_found node table family a))
       (new_lookups old new node table family a rules new_rules whole accepted)

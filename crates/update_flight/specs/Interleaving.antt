@@ -1,10 +1,11 @@
--- Any sequence of packets that enter, turns of packets and edits, and what it gives each packet (own rules).
+-- Need not be believed: helps proofs and other laws.
+-- Any sequence of packets that enter, turns of packets and edits, and what it gives each packet.
 use Rattle.std.specs.Prelude.{ℕ, suc, ◌≤◌, Bool, false, nat_le, nat_eq, if◌then◌else◌, List, [], ◌∷◌, ◌++◌, length}
 use Rattle.net_model.specs.Network.{Network}
 use Rattle.walk_rules.specs.Walk.{Stage}
 use Rattle.packet_walk.specs.Flight.{InFlight, packet_in}
 use Rattle.packet_walk.specs.Rest.{given_by}
-use Rattle.update_flight.specs.Tables.{KeepsOwn}
+use Rattle.update_flight.specs.MomentTablesTerms.{KeepsOwn}
 use Rattle.net_model.specs.declared.net.EntryId.{EntryId}
 use Rattle.update_flight.specs.Transition.{Transition, edit_count, edited, edits, entered, turned_in}
 

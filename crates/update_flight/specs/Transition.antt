@@ -1,14 +1,13 @@
--- The edits of an update, and packets in flight between them (own rules). The edits come in one order: each addition, the switch, each
+-- The edits of an update, and packets in flight between them. The edits come in one order: each addition, the switch, each
 -- removal. A packet that enters before the switch is one of the old description, and one that enters after it is one of the new. A
 -- removal waits until all packets from before the switch have ended.
-use Rattle.std.specs.Prelude.{◌≡◌, ℕ, suc, ◌+◌, ◌^◌, ◌<◌, ◌≤◌, Bool, nat_le, if◌then◌else◌, is_some, List, [], ◌∷◌, ◌++◌, length, map, take, slice_get, Option, Some, None, IsSome, Result, Ok, Err}
-use Rattle.base.specs.declared.no_memory.NoMemory.{NoMemory}
+use Rattle.std.specs.Prelude.{ℕ, suc, ◌+◌, Bool, nat_le, if◌then◌else◌, is_some, List, [], ◌∷◌, ◌++◌, length, map, take, slice_get, Option, Some, None, Result, Ok, Err}
 use Rattle.net_model.specs.Network.{Network}
-use Rattle.packet_walk.specs.Flight.{InFlight, Packets, Flight, packet_in, turned, within}
+use Rattle.packet_walk.specs.Flight.{InFlight, Packets, Flight, turned, within}
 use Rattle.net_model.specs.declared.net.EntryId.{EntryId}
-use Rattle.update_flight.specs.declared.edit.Edit.{Edit}
-use Rattle.update_flight.specs.declared.edit.Edit.TheVariants.{Added, Switched, Removed, Finished}
-use Rattle.update_flight.specs.declared.edit.Busy.{Busy}
+use Rattle.update_flight.specs.declared.table_edit.Edit.{Edit}
+use Rattle.update_flight.specs.declared.table_edit.Edit.TheVariants.{Added, Switched, Removed, Finished}
+use Rattle.update_flight.specs.declared.table_edit.Busy.{Busy}
 
 -- the entries that are added and those that are removed, how many edits are done, how many packets entered before the switch, and the
 -- packets
@@ -99,33 +98,3 @@ packets_of f = record { error = f.error; packets = f.packets }
 
 abbrev pub turned_in : Network → ℕ → Transition → Transition
 turned_in net number t = record t { packets = packets_of (turned number (within net t.packets)) }
-
--- what entering answers and leaves
-abbrev pub EntersAs : Transition → InFlight → InFlight → Result ℕ NoMemory → Transition → Type 0
-EntersAs t old new (Ok number) after = (number ≡ length t.packets.packets + 1) × (after ≡ entered t old new)
-EntersAs t old new (Err why) after = after ≡ t
-
--- the first packets, so many, have ended
-abbrev pub HaveEnded : ℕ → List InFlight → Type 0
-HaveEnded count packets = (number : ℕ) (p : InFlight) → number ≤ count → packet_in packets number ≡ Some p → IsSome p.ended
-
--- no more edits are done than there are; before the switch all packets are early ones, and after the first removal all those have
--- ended
-pub record IsTransition (t : Transition) : Type 0 where
-  pub edits : t.done ≤ edit_count t
-  pub early : t.early ≤ length t.packets.packets
-  pub before : t.done ≤ length t.added → t.early ≡ length t.packets.packets
-  pub after : suc (length t.added) < t.done → HaveEnded t.early t.packets.packets
-
--- a transition by what is held of it
-abbrev pub transition_value : List EntryId → List EntryId → ℕ → ℕ → Packets → Transition
-transition_value added removed done early packets =
-    record { added = added; removed = removed; done = done; early = early; packets = packets }
-
--- the first packets, so many, were passed, since they have ended; and numbers can count all edits and all packets
-pub record IsPassed (passed : ℕ) (t : Transition) : Type 0 where
-  pub is : IsTransition t
-  pub few : edit_count t < 2 ^ 32
-  pub numbers : length t.packets.packets < 2 ^ 32
-  pub most : passed ≤ t.early
-  pub ended : HaveEnded passed t.packets.packets

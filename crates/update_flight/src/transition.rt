@@ -4,11 +4,14 @@ ghost use Rattle.std.specs.Prelude.{◌≡◌, ◌+◌, ◌<◌, ◌^◌, IfSome
 ghost use Rattle.net_model.specs.Network.{Network};
 ghost use Rattle.srv6_rules.specs.Packet.{entered as entered_as};
 ghost use Rattle.node_stage.specs.Fronted.{fronted};
-ghost use Rattle.packet_walk.specs.Flight.{ArePlaced, IsNumber, Turns, entering, packet_in, stage_in, within};
-ghost use Rattle.update_flight.specs.Tables.{HasRoute, KeepsOwn};
-ghost use Rattle.update_flight.specs.Transition.{EntersAs, IsTransition, answer_of, edited, first_early, is_before_switch, next_edit, starting, steps};
+ghost use Rattle.packet_walk.specs.Flight.{entering, packet_in, stage_in, within};
+ghost use Rattle.packet_walk.specs.FlightTerms.{ArePlaced, IsNumber, Turns};
+ghost use Rattle.update_flight.specs.MomentTables.{HasRoute};
+ghost use Rattle.update_flight.specs.MomentTablesTerms.{KeepsOwn};
+ghost use Rattle.update_flight.specs.Transition.{answer_of, edited, first_early, is_before_switch, next_edit, starting, steps};
+ghost use Rattle.update_flight.specs.TransitionTerms.{EntersAs, IsTransition};
 
-use crate::edit::{Busy, Edit};
+use crate::table_edit::{Busy, Edit};
 use base::NoMemory;
 use net_model::{EntryId, Net};
 use node_stage::ContentBuf;
@@ -19,7 +22,7 @@ use std::marker::Model;
 use walk_rules::Place;
 
 /// An update on its way, apart from the tables: its edits, in their order, and the packets in
-/// flight between them. The tables are the caller's, who changes them as each edit says (own rule).
+/// flight between them. The tables are the caller's, who changes them as each edit says.
 #[derive(Debug, Drop)]
 pub struct Transition<'a> {
     added: Vec<EntryId>,
@@ -31,7 +34,8 @@ pub struct Transition<'a> {
 }
 
 impl<'a> Model for Transition<'a> {
-    ghost use Rattle.update_flight.specs.Transition.{IsPassed, Transition as TransitionValue, transition_value};
+    ghost use Rattle.update_flight.specs.Transition.{Transition as TransitionValue};
+    ghost use Rattle.update_flight.specs.TransitionTerms.{IsPassed, transition_value};
 
     ghost Value = { TransitionValue };
 
@@ -53,7 +57,7 @@ fn steps(edit: Edit) -> usize
 
 impl<'a> Transition<'a> {
     /// No edit is done, and no packet has entered; takes no memory. The entries are those that are
-    /// added and those that are removed, each in the order of its edits (own rule).
+    /// added and those that are removed, each in the order of its edits.
     pub fn new(alloc: Global, added: Vec<EntryId>, removed: Vec<EntryId>) -> Transition<'a>
         requires { length added.items + length removed.items + 1 < 2 ^ 32 }
         ensures { result ≡ starting added.items removed.items }
@@ -68,15 +72,14 @@ impl<'a> Transition<'a> {
         }
     }
 
-    /// The packets in flight, by numbers from 1 in the order in which they entered (own rule).
+    /// The packets in flight, by numbers from 1 in the order in which they entered.
     pub fn packets(&self) -> &Packets<'a>
         ensures { result.now ≡ self.now.packets }
     {
         &self.packets
     }
 
-    /// Whether packets that enter are those of the old description: the switch is still to come (own
-    /// rule).
+    /// Whether packets that enter are those of the old description: the switch is still to come.
     pub fn is_before_switch(&self) -> bool
         ensures { result ≡ is_before_switch self.now }
     {
@@ -90,7 +93,7 @@ impl<'a> Transition<'a> {
         let _ = &self.passed;
     }
 
-    /// The next edit: each addition, then the switch, then each removal, and then none (own rule).
+    /// The next edit: each addition, then the switch, then each removal, and then none.
     fn next_edit(&self) -> Edit
         ensures { result ≡ next_edit self.now }
     {
@@ -124,7 +127,7 @@ impl<'a> Transition<'a> {
         None
     }
 
-    /// What the next edit answers, as `edit` does; nothing is done yet (own rule).
+    /// What the next edit answers, as `edit` does; nothing is done yet.
     pub fn answer(&mut self) -> Result<Edit, Busy>
         ensures answer { result ≡ answer_of self.old }
         ensures same { self.new ≡ self.old }
@@ -141,7 +144,7 @@ impl<'a> Transition<'a> {
     /// The next edit is done, where it is no removal that has to wait: `Busy` comes exactly where it is
     /// a removal and a packet that entered before the switch is in flight, and leaves all as it was;
     /// `Finished` exactly where no edit is left. No packet is changed. The caller changes the tables
-    /// as the edit says before the next turn (own rule).
+    /// as the edit says before the next turn.
     pub fn edit(&mut self) -> Result<Edit, Busy>
         ensures answer { result ≡ answer_of self.old }
         ensures edited { self.new ≡ edited self.old }
@@ -157,7 +160,7 @@ impl<'a> Transition<'a> {
 
     /// What stands at a place enters there, with the choices of its decisions, as a packet of the old
     /// description before the switch and as one of the new after it, as `Packets::enter_content` has
-    /// it. `NoMemory` leaves all as it was (own rule).
+    /// it. `NoMemory` leaves all as it was.
     pub fn enter_content(
         &mut self,
         content: ContentBuf,
@@ -183,7 +186,7 @@ impl<'a> Transition<'a> {
 
     /// A packet enters at a place with the choices of its decisions, as `Packets::enter` has it: with
     /// the first buffer before the switch, and with the second after it. `NoMemory` leaves all as it
-    /// was, and both buffers are given up (own rule).
+    /// was, and both buffers are given up.
     pub fn enter(
         &mut self,
         old: PktBuf,
@@ -210,7 +213,7 @@ impl<'a> Transition<'a> {
         }
     }
 
-    /// The next stage of a packet by the tables of the moment, as `Packets::turn` has it (own rule).
+    /// The next stage of a packet by the tables of the moment, as `Packets::turn` has it.
     /// Where the tables keep the matches of the packet's own description, and its stage there is no
     /// drop for want of a route, it is that stage.
     pub fn turn(&mut self, net: &Net, number: u32) -> Result<Option<Event>, NoMemory>

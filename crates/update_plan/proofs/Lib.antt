@@ -1,6 +1,9 @@
-pub mod RouteNumbers
-pub mod Meant
-pub mod PlanLemmas
-pub mod ChangeLemmas
-pub mod PrefixLemmas
-pub mod QuietLemmas
+pub mod UpdateShown
+pub mod Hideable
+pub mod UpdateBetween
+pub mod UpdateEdits
+pub mod Turns
+pub mod PlanFacts
+pub mod WholeWalks
+pub mod Placed
+pub mod PublicLaws

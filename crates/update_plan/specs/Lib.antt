@@ -1,3 +1,2 @@
-pub mod RouteKeys
-pub mod Entries
-pub mod PrefixKeys
+pub mod UpdateState
+pub mod UpdateStateTerms

@@ -13,7 +13,7 @@ use std::alloc::{AllocError, Global};
 use std::process::Abort;
 use std::test::Fail;
 use update_flight::Edit;
-use updates::{EditFault, Plan, Update, plan_update};
+use update_plan::{EditFault, Plan, Update, plan};
 use walk_rules::{Outcome, arrival};
 
 /// The nodes, and links from the first to the others and from those out of the network.
@@ -48,7 +48,7 @@ fn net_with(rt: &impl Abort, alloc: Global, entries: &str) -> Result<Net, AllocE
 fn plan_of(rt: &impl Abort, alloc: Global, old: &str, new: &str) -> Result<Plan, AllocError> {
     let old = net_with(rt, alloc, old)?;
     let new = net_with(rt, alloc, new)?;
-    Ok(plan_update(alloc, &old, &new).ok().expect(rt, "a plan"))
+    Ok(plan(alloc, &old, &new).ok().expect(rt, "a plan"))
 }
 
 /// What is asked of an update.

@@ -39,16 +39,16 @@ above_longer a b rest width above same =
 -- ---- at positions in an address
 
 -- a field that is written as it stands changes nothing
-pub with_field_of-same : (a at width : ℕ) → at + width ≤ 128 → with_field_of a at width (field_of a at width) ≡ a
+pub with_field_of_same : (a at width : ℕ) → at + width ≤ 128 → with_field_of a at width (field_of a at width) ≡ a
 unfolding field_of cut
-with_field_of-same a at width within =
+with_field_of_same a at width within =
     with_field_is_put a at width (field_of a at width) within ∙ put_cut a (128 - at - width) width
 
 -- a prefix holds an address where a shorter one does that holds its value too, and the fields after the shorter one are equal
-pub Holds-longer : (p q : PrefixValue) (a width : ℕ) → p.len + width ≡ q.len → q.len ≤ 128 → Holds p a → Holds p q.value
+pub Holds_longer : (p q : PrefixValue) (a width : ℕ) → p.len + width ≡ q.len → q.len ≤ 128 → Holds p a → Holds p q.value
     → field_of a p.len width ≡ field_of q.value p.len width → Holds q a
 unfolding Holds field_of cut
-Holds-longer p q a width sum within holds_a holds_q same =
+Holds_longer p q a width sum within holds_a holds_q same =
     let rest : 128 - p.len - width ≡ 128 - q.len = omega arith in
     let high : 128 - p.len ≡ 128 - q.len + width = omega arith in
     let P : ℕ → Type 0 = λ n. a / 2 ^ n ≡ q.value / 2 ^ n in

@@ -92,25 +92,25 @@ with_field_is_put a at width v within =
     ap (λ n. a / 2 ^ n * 2 ^ n + v * 2 ^ (128 - at - width) + a % 2 ^ (128 - at - width)) sum
 
 -- a field that was written is read back
-pub field_of-same : (a at width v : ℕ) → at + width ≤ 128 → v < 2 ^ width → field_of (with_field_of a at width v) at width ≡ v
+pub field_of_same : (a at width v : ℕ) → at + width ≤ 128 → v < 2 ^ width → field_of (with_field_of a at width v) at width ≡ v
 unfolding field_of cut
-field_of-same a at width v within fits =
+field_of_same a at width v within fits =
     ap (λ n. field_of n at width) (with_field_is_put a at width v within) ∙ put_same a (128 - at - width) width v fits
 
 -- a field before one that was written is as it was
-pub field_of-before : (a at width v other size : ℕ) → at + width ≤ 128 → v < 2 ^ width → other + size ≤ at
+pub field_of_before : (a at width v other size : ℕ) → at + width ≤ 128 → v < 2 ^ width → other + size ≤ at
     → field_of (with_field_of a at width v) other size ≡ field_of a other size
 unfolding field_of cut
-field_of-before a at width v other size within fits before =
+field_of_before a at width v other size within fits before =
     ap (λ n. field_of n other size) (with_field_is_put a at width v within)
     ∙ cut_above (put a (128 - at - width) width v) a (128 - at - width + width) (128 - other - size) size (omega arith)
     (put_above a (128 - at - width) width v fits)
 
 -- a field after one that was written is as it was
-pub field_of-behind : (a at width v other size : ℕ) → at + width ≤ 128 → v < 2 ^ width → at + width ≤ other → other + size ≤ 128
+pub field_of_behind : (a at width v other size : ℕ) → at + width ≤ 128 → v < 2 ^ width → at + width ≤ other → other + size ≤ 128
     → field_of (with_field_of a at width v) other size ≡ field_of a other size
 unfolding field_of cut
-field_of-behind a at width v other size within fits behind ends =
+field_of_behind a at width v other size within fits behind ends =
     ap (λ n. field_of n other size) (with_field_is_put a at width v within)
     ∙ cut_below (put a (128 - at - width) width v) a (128 - at - width) (128 - other - size) size (omega arith)
     (put_below a (128 - at - width) width v fits)
@@ -122,10 +122,10 @@ with_field_of_bound a at width v within below fits =
     subst P (sym (with_field_is_put a at width v within)) (put_bound a (128 - at - width) width v 128 (omega arith) below fits)
 
 -- a prefix holds an address with a field written after the prefix where it held the address
-pub Holds-with_field : (p : PrefixValue) (a at width v : ℕ) → at + width ≤ 128 → v < 2 ^ width → p.len ≤ at → Holds p a
+pub Holds_with_field : (p : PrefixValue) (a at width v : ℕ) → at + width ≤ 128 → v < 2 ^ width → p.len ≤ at → Holds p a
     → Holds p (with_field_of a at width v)
 unfolding Holds
-Holds-with_field p a at width v within fits behind h =
+Holds_with_field p a at width v within fits behind h =
     ap (λ n. n / 2 ^ (128 - p.len)) (with_field_is_put a at width v within)
     ∙ same_above (put a (128 - at - width) width v) a (128 - at - width + width) (128 - p.len) (omega arith)
     (put_above a (128 - at - width) width v fits)

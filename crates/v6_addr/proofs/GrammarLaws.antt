@@ -10,8 +10,8 @@ use Rattle.std.proofs.lemmas.List.Splits.{slice_split_none, slice_split_at, join
 use Rattle.std.proofs.lemmas.Option.{same_Some, none-some}
 use Rattle.std.proofs.lemmas.Bool.{and_parts, and_from, and_left, and_right, ltb-true, lt-ltb, leb-true, le-leb, eqb-true, ne_eqb, cond-true, cond-false}
 use Rattle.v6_addr.specs.Text.{number_of_text, group_of_text, groups_of_texts, groups_of_text, full_address, shortened_address, gap_of, address_of_parts, address_of_text}
-use Rattle.v6_addr.specs.Grammar.{IsGroupText, IsGroupsText, IsFullText, IsShortenedText, IsAddressText}
-use Rattle.v6_addr.proofs.Reading.{groups_of_some_text}
+use Rattle.v6_addr.specs.AddressGrammar.{IsGroupText, IsGroupsText, IsFullText, IsShortenedText, IsAddressText}
+use Rattle.v6_addr.proofs.AddressReading.{groups_of_some_text}
 use Rattle.v6_addr.proofs.GroupSums.{full_reads, shortened_parts}
 
 -- ---- cases of options

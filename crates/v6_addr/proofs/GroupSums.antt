@@ -51,30 +51,30 @@ number_from n (g ∷ groups) =
     let right = number_from (0 * 2 ^ 16 + g) groups in
     rw power (omega (arith, left, right))
 
-pub number_of_groups-append : (left right : List ℕ)
+pub number_of_groups_append : (left right : List ℕ)
     → number_of_groups (left ++ right) ≡ number_of_groups left * 2 ^ (16 * length right) + number_of_groups right
 unfolding number_of_groups
-number_of_groups-append left right =
+number_of_groups_append left right =
     fold-append (λ m g. m * 2 ^ 16 + g) 0 left right ∙ number_from (fold (λ m g. m * 2 ^ 16 + g) 0 left) right
 
-pub number_of_groups-zeros : (n : ℕ) → number_of_groups (replicate n 0) ≡ 0
+pub number_of_groups_zeros : (n : ℕ) → number_of_groups (replicate n 0) ≡ 0
 unfolding number_of_groups
-number_of_groups-zeros zero = refl
-number_of_groups-zeros (suc n) = number_of_groups-zeros n
+number_of_groups_zeros zero = refl
+number_of_groups_zeros (suc n) = number_of_groups_zeros n
 
 -- groups, zeros and groups that are eight together
-pub number_of_groups-around : (left right : List ℕ) → length left + length right ≤ 8
+pub number_of_groups_around : (left right : List ℕ) → length left + length right ≤ 8
     → number_of_groups (left ++ replicate (8 - (length left + length right)) 0 ++ right) ≡ number_of_groups left * 2 ^
     (128 - 16 * length left) + number_of_groups right
-number_of_groups-around left right few =
+number_of_groups_around left right few =
     let zeros = 8 - (length left + length right) in
     let sum : 16 * zeros + 16 * length right ≡ 128 - 16 * length left = omega arith in
     let high : number_of_groups (left ++ replicate zeros 0) ≡ number_of_groups left * 2 ^ (16 * zeros) =
-    number_of_groups-append left (replicate zeros 0)
+    number_of_groups_append left (replicate zeros 0)
     ∙ ap (λ n. number_of_groups left * 2 ^ (16 * n) + number_of_groups (replicate zeros 0)) (length-replicate zeros 0)
-    ∙ ap (λ n. number_of_groups left * 2 ^ (16 * zeros) + n) (number_of_groups-zeros zeros)
+    ∙ ap (λ n. number_of_groups left * 2 ^ (16 * zeros) + n) (number_of_groups_zeros zeros)
     ∙ add-zero (number_of_groups left * 2 ^ (16 * zeros)) in
-    number_of_groups-append (left ++ replicate zeros 0) right
+    number_of_groups_append (left ++ replicate zeros 0) right
     ∙ ap (λ n. n * 2 ^ (16 * length right) + number_of_groups right) high
     ∙ ap (λ n. n + number_of_groups right)
     (mul_assoc (number_of_groups left) (2 ^ (16 * zeros)) (2 ^ (16 * length right))
@@ -173,6 +173,6 @@ pub shortened_reads : (text left right ls rs : List ℕ) (gap value : ℕ) → l
     → Some value ≡ address_of_parts text (Some gap)
 unfolding shortened_address
 shortened_reads text left right ls rs gap value is_left is_right read_left read_right few is_value =
-    ap Some (is_value ∙ sym (number_of_groups-around ls rs (omega arith)))
+    ap Some (is_value ∙ sym (number_of_groups_around ls rs (omega arith)))
     ∙ sym (shortened_parts text left right ls rs gap is_left is_right read_left read_right
     ∙ cond-true _ _ _ (lt-ltb (length ls + length rs) 8 (omega arith)))

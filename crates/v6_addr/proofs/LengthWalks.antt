@@ -7,13 +7,14 @@ use Rattle.std.proofs.lemmas.Slice.Eq.{bytes_eq-Decides}
 use Rattle.std.proofs.lemmas.Option.{same_Some, none-some}
 use Rattle.std.proofs.Math.Nat.{zero-mod}
 use Rattle.v6_addr.specs.Text.{length_text}
-use Rattle.v6_addr.specs.Faults.{Begins}
-use Rattle.v6_addr.specs.Lengths.{next_number, furthest, length_goes_on, length_behind, length_step, IsLengthOf}
+use Rattle.v6_addr.specs.AddressFaults.{Begins}
+use Rattle.v6_addr.specs.Lengths.{next_number}
+use Rattle.v6_addr.specs.LengthsTerms.{furthest, length_goes_on, length_behind, length_step, IsLengthOf}
 use Rattle.v6_addr.specs.Scan.{walked}
 use Rattle.v6_addr.proofs.Fields.{same_below}
 use Rattle.v6_addr.proofs.GrammarLaws.{some_cond, some_then}
-use Rattle.v6_addr.proofs.Numbers.{number_text, next_spells, KeepsNumbers, number_walked}
-use Rattle.v6_addr.proofs.Walks.{Reaches, walked_append, walked_spelled}
+use Rattle.v6_addr.proofs.AddressNumbers.{number_text, next_spells, KeepsNumbers, number_walked}
+use Rattle.v6_addr.proofs.AddressWalks.{Reaches, walked_append, walked_spelled}
 
 -- ---- the furthest length
 

@@ -10,10 +10,11 @@ use Rattle.std.proofs.lemmas.Bool.{ltb-true, eqb-true, false≢true}
 use Rattle.v6_addr.specs.declared.scan.Scanned.{Scanned}
 use Rattle.v6_addr.specs.declared.scan.Scanned.TheVariants.{Start, Colon, Group, Between, Gap}
 use Rattle.v6_addr.specs.Text.{number_of_groups}
-use Rattle.v6_addr.specs.Grammar.{IsGroupText, IsGroupsText, IsAddressText}
-use Rattle.v6_addr.specs.Scan.{behind_digit, behind_colon, behind, walked, reached, is_end}
+use Rattle.v6_addr.specs.AddressGrammar.{IsGroupText, IsGroupsText, IsAddressText}
+use Rattle.v6_addr.specs.Scan.{walked}
+use Rattle.v6_addr.specs.ScanTerms.{behind_digit, behind_colon, behind, reached, is_end}
 use Rattle.v6_addr.proofs.GrammarLaws.{some_cond}
-use Rattle.v6_addr.proofs.Places.{more_texts, joined_more}
+use Rattle.v6_addr.proofs.AddressPlaces.{more_texts, joined_more}
 
 -- a place where an address may end
 abbrev pub EndsAt : Option Scanned → Type 0

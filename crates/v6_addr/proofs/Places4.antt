@@ -8,15 +8,17 @@ use Rattle.std.proofs.lemmas.List.{append-nil}
 use Rattle.std.proofs.lemmas.Option.{same_Some, none-some}
 use Rattle.std.proofs.Math.Nat.{mul-le-mul_right, pow-le-pow_right}
 use Rattle.v6_addr.specs.declared.scan4.Place4.{Place4}
-use Rattle.v6_addr.specs.Faults.{Begins}
+use Rattle.v6_addr.specs.AddressFaults.{Begins}
 use Rattle.v6_addr.specs.Lengths.{with_digit, next_number}
 use Rattle.v6_addr.specs.Scan.{walked}
-use Rattle.v6_addr.specs.Scan4.{IsPlace4, start4, up_to_255, number_behind, behind_dot, behind4, address_at}
+use Rattle.v6_addr.specs.Scan4.{start4, up_to_255, number_behind, behind_dot, behind4, address_at}
+use Rattle.v6_addr.specs.Scan4Terms.{IsPlace4}
 use Rattle.v6_addr.specs.Text.{length_text}
-use Rattle.v6_addr.specs.Text4.{dotted_text, IsAddress4Text}
+use Rattle.v6_addr.specs.Text4.{dotted_text}
+use Rattle.v6_addr.specs.Text4Terms.{IsAddress4Text}
 use Rattle.v6_addr.proofs.GrammarLaws.{some_cond, some_then}
-use Rattle.v6_addr.proofs.Numbers.{number_text, next_spells, KeepsNumbers, number_walked}
-use Rattle.v6_addr.proofs.Walks.{Reaches, walked_append, walked_one, walked_spelled}
+use Rattle.v6_addr.proofs.AddressNumbers.{number_text, next_spells, KeepsNumbers, number_walked}
+use Rattle.v6_addr.proofs.AddressWalks.{Reaches, walked_append, walked_one, walked_spelled}
 
 -- one more number below the dots
 pub value_more : (value done n : ℕ) → value < 256 ^ done → n ≤ 255 → value * 256 + n < 256 ^ (done + 1)

@@ -7,9 +7,9 @@ use Rattle.std.proofs.lemmas.List.Elements.{All-get_or}
 use Rattle.std.proofs.Math.Seq.{take-append_seam, drop-append_seam, get_or-append_seam}
 use Rattle.v6_addr.specs.Address.{PrefixValue}
 use Rattle.v6_addr.specs.Text.{length_text}
-use Rattle.v6_addr.specs.Faults.{Begins, IsLongestBeginning, HasSetBits, IsPrefixFault}
-use Rattle.v6_addr.specs.Lengths.{IsLengthOf}
-use Rattle.v6_addr.proofs.Walks.{take_past}
+use Rattle.v6_addr.specs.AddressFaults.{Begins, IsLongestBeginning, HasSetBits, IsPrefixFault}
+use Rattle.v6_addr.specs.LengthsTerms.{IsLengthOf}
+use Rattle.v6_addr.proofs.AddressWalks.{take_past}
 
 -- what is known of the texts of addresses of one kind
 pub record Texts (IsText : List ℕ → ℕ → Type 0) (limit : ℕ) : Type 0 where

@@ -6,15 +6,17 @@ use Rattle.std.proofs.lemmas.List.Elements.{All-nil, All-cons, All-append}
 use Rattle.std.proofs.lemmas.Option.{same_Some, none-some}
 use Rattle.std.proofs.Math.Nat.{mul-mod_left}
 use Rattle.v6_addr.specs.declared.scan4.Place4.{Place4}
-use Rattle.v6_addr.specs.Address.{PrefixValue, IsPrefix}
-use Rattle.v6_addr.specs.Faults.{Begins, IsLongestBeginning, IsPrefixFault}
-use Rattle.v6_addr.specs.Lengths.{IsLengthOf}
+use Rattle.v6_addr.specs.Address.{PrefixValue}
+use Rattle.v6_addr.specs.AddressTerms.{IsPrefix}
+use Rattle.v6_addr.specs.AddressFaults.{Begins, IsLongestBeginning, IsPrefixFault}
+use Rattle.v6_addr.specs.LengthsTerms.{IsLengthOf}
 use Rattle.v6_addr.specs.Scan.{walked}
 use Rattle.v6_addr.specs.Scan4.{start4, behind4, address_at}
 use Rattle.v6_addr.specs.Text.{length_of_text, length_text}
-use Rattle.v6_addr.specs.Text4.{dotted_text, IsAddress4Text, IsPrefix4Text}
+use Rattle.v6_addr.specs.Text4.{dotted_text}
+use Rattle.v6_addr.specs.Text4Terms.{IsAddress4Text, IsPrefix4Text}
 use Rattle.v6_addr.proofs.Places4.{one_address4, no_address4}
-use Rattle.v6_addr.proofs.PrefixGrammar.{NoSlash, length_text-1, length_text-2, length_text-3, length_is, length_reads}
+use Rattle.v6_addr.proofs.PrefixGrammar.{NoSlash, length_text_1, length_text_2, length_text_3, length_is, length_reads}
 use Rattle.v6_addr.proofs.PrefixFaults.{Texts, PrefixTextOf, fault_in_address, fault_of_bits, fault_in_length, fault_said, no_prefix_in_address, no_prefix_in_length, no_prefix_of_bits, text_round_slash}
 
 -- ---- the texts of addresses
@@ -34,11 +36,11 @@ number_no_slash : (n : ℕ) → n ≤ 255 → NoSlash (length_text n)
 number_no_slash n small =
     let nothing = All-nil (λ c. eqb c 47 ≡ false) in
     elim (cases_lt n 10) [
-      | inl one ↦ subst NoSlash (sym (length_text-1 n one)) (one_no_slash n [] one nothing)
+      | inl one ↦ subst NoSlash (sym (length_text_1 n one)) (one_no_slash n [] one nothing)
       | inr more ↦ elim (cases_lt n 100) [
-        | inl two ↦ subst NoSlash (sym (length_text-2 n more two))
+        | inl two ↦ subst NoSlash (sym (length_text_2 n more two))
             (one_no_slash (n / 10) (digit_char (n % 10) ∷ []) (omega arith) (one_no_slash (n % 10) [] (omega arith) nothing))
-        | inr three ↦ subst NoSlash (sym (length_text-3 n three))
+        | inr three ↦ subst NoSlash (sym (length_text_3 n three))
             (one_no_slash (n / 100) (digit_char (n / 10 % 10) ∷ digit_char (n % 10) ∷ []) (omega arith)
             (one_no_slash (n / 10 % 10) (digit_char (n % 10) ∷ []) (omega arith) (one_no_slash (n % 10) [] (omega arith) nothing)))
       ]

@@ -3,9 +3,9 @@ use Rattle.std.proofs.Common.{◌≡◌, ℕ, suc, ◌+◌, ◌<◌, List, lengt
 use Rattle.std.proofs.lemmas.Option.{same_Some, none-some}
 use Rattle.v6_addr.specs.Address.{PrefixValue}
 use Rattle.v6_addr.specs.Text.{address_of_text, length_of_text, prefix_of_text}
-use Rattle.v6_addr.specs.Grammar.{IsAddressText, IsPrefixText}
-use Rattle.v6_addr.specs.Faults.{Begins, IsLongestBeginning, IsPrefixFault}
-use Rattle.v6_addr.specs.Lengths.{IsLengthOf}
+use Rattle.v6_addr.specs.AddressGrammar.{IsAddressText, IsPrefixText}
+use Rattle.v6_addr.specs.AddressFaults.{Begins, IsLongestBeginning, IsPrefixFault}
+use Rattle.v6_addr.specs.LengthsTerms.{IsLengthOf}
 use Rattle.v6_addr.proofs.GrammarLaws.{address_text_is}
 use Rattle.v6_addr.proofs.PrefixGrammar.{address_below, address_no_slash, length_is, length_reads, prefix_text_is}
 use Rattle.v6_addr.proofs.PrefixFaults.{Texts, PrefixTextOf, fault_in_address, fault_of_bits, fault_in_length, fault_said}

@@ -17,7 +17,7 @@ use Rattle.std.proofs.Math.Nat.{pow-le-pow_right}
 use Rattle.std.proofs.Math.Seq.{take-append_seam, drop-append-add, get_or-append_seam}
 use Rattle.v6_addr.specs.Address.{PrefixValue}
 use Rattle.v6_addr.specs.Text.{number_of_text, number_of_groups, address_of_text, length_of_text, length_text, prefix_of_parts, prefix_of_text}
-use Rattle.v6_addr.specs.Grammar.{IsGroupText, IsGroupsText, IsAddressText, IsPrefixText}
+use Rattle.v6_addr.specs.AddressGrammar.{IsGroupText, IsGroupsText, IsAddressText, IsPrefixText}
 use Rattle.v6_addr.proofs.GroupSums.{number_from as number_behind}
 use Rattle.v6_addr.proofs.GrammarLaws.{some_cond, number_is, address_text_is}
 
@@ -116,30 +116,30 @@ short_length n (Some m) e =
 
 -- ---- the digits of a length
 
-pub length_text-1 : (n : ℕ) → n < 10 → length_text n ≡ digit_char n ∷ []
+pub length_text_1 : (n : ℕ) → n < 10 → length_text n ≡ digit_char n ∷ []
 unfolding length_text
-length_text-1 n below = cond-true _ _ _ (lt-ltb n 10 below)
+length_text_1 n below = cond-true _ _ _ (lt-ltb n 10 below)
 
-pub length_text-2 : (n : ℕ) → 10 ≤ n → n < 100 → length_text n ≡ digit_char (n / 10) ∷ digit_char (n % 10) ∷ []
+pub length_text_2 : (n : ℕ) → 10 ≤ n → n < 100 → length_text n ≡ digit_char (n / 10) ∷ digit_char (n % 10) ∷ []
 unfolding length_text
-length_text-2 n above below = cond-false _ _ _ (le-ltb n 10 above) ∙ cond-true _ _ _ (lt-ltb n 100 below)
+length_text_2 n above below = cond-false _ _ _ (le-ltb n 10 above) ∙ cond-true _ _ _ (lt-ltb n 100 below)
 
-pub length_text-3 : (n : ℕ) → 100 ≤ n → length_text n ≡ digit_char (n / 100) ∷ digit_char (n / 10 % 10) ∷ digit_char (n % 10) ∷ []
+pub length_text_3 : (n : ℕ) → 100 ≤ n → length_text n ≡ digit_char (n / 100) ∷ digit_char (n / 10 % 10) ∷ digit_char (n % 10) ∷ []
 unfolding length_text
-length_text-3 n above = cond-false _ _ _ (le-ltb n 10 (omega arith)) ∙ cond-false _ _ _ (le-ltb n 100 above)
+length_text_3 n above = cond-false _ _ _ (le-ltb n 10 (omega arith)) ∙ cond-false _ _ _ (le-ltb n 100 above)
 
 one_digit : (a : ℕ) → a < 10 → length_text (0 * 10 + a) ≡ digit_char a ∷ []
 one_digit a below =
     let n = 0 * 10 + a in
     let last : n ≡ a = omega arith in
-    length_text-1 n (omega arith) ∙ ap (λ d. digit_char d ∷ []) last
+    length_text_1 n (omega arith) ∙ ap (λ d. digit_char d ∷ []) last
 
 two_digits : (a b : ℕ) → 1 ≤ a → a < 10 → b < 10 → length_text ((0 * 10 + a) * 10 + b) ≡ digit_char a ∷ digit_char b ∷ []
 two_digits a b some below_a below_b =
     let n = (0 * 10 + a) * 10 + b in
     let first : n / 10 ≡ a = omega arith in
     let last : n % 10 ≡ b = omega arith in
-    length_text-2 n (omega arith) (omega arith) ∙ ap (λ d. digit_char d ∷ digit_char (n % 10) ∷ []) first
+    length_text_2 n (omega arith) (omega arith) ∙ ap (λ d. digit_char d ∷ digit_char (n % 10) ∷ []) first
     ∙ ap (λ d. digit_char a ∷ digit_char d ∷ []) last
 
 three_digits : (a b c : ℕ) → 1 ≤ a → a < 10 → b < 10 → c < 10
@@ -149,7 +149,7 @@ three_digits a b c some below_a below_b below_c =
     let first : n / 100 ≡ a = omega arith in
     let middle : n / 10 % 10 ≡ b = omega arith in
     let last : n % 10 ≡ c = omega arith in
-    length_text-3 n (omega arith) ∙ ap (λ d. digit_char d ∷ digit_char (n / 10 % 10) ∷ digit_char (n % 10) ∷ []) first
+    length_text_3 n (omega arith) ∙ ap (λ d. digit_char d ∷ digit_char (n / 10 % 10) ∷ digit_char (n % 10) ∷ []) first
     ∙ ap (λ d. digit_char a ∷ digit_char d ∷ digit_char (n % 10) ∷ []) middle
     ∙ ap (λ d. digit_char a ∷ digit_char b ∷ digit_char d ∷ []) last
 

@@ -8,7 +8,7 @@ use Rattle.v6_addr.specs.declared.scan4.Place4.{Place4}
 use Rattle.v6_addr.specs.Scan.{walked}
 use Rattle.v6_addr.specs.Scan4.{start4, behind4, address_at, address4_of_text, length4_of_text, prefix4_of_text}
 use Rattle.v6_addr.specs.Text.{length_of_text, length_text}
-use Rattle.v6_addr.specs.Text4.{IsAddress4Text, IsPrefix4Text}
+use Rattle.v6_addr.specs.Text4Terms.{IsAddress4Text, IsPrefix4Text}
 use Rattle.v6_addr.proofs.GrammarLaws.{some_cond, some_then}
 use Rattle.v6_addr.proofs.Places4.{ended4, address4_reached}
 use Rattle.v6_addr.proofs.PrefixFaults4.{address4_no_slash, address4_below}

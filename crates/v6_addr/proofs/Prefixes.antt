@@ -3,7 +3,8 @@ use Rattle.std.proofs.Common.{◌≡◌, ℕ, ◌+◌, ◌-◌, ◌*◌, ◌/◌
 use Rattle.std.proofs.lemmas.Nat.{shr-shr, shr_split}
 use Rattle.std.proofs.lemmas.Bool.{and_parts, and_from, ltb-true, lt-ltb, le-ltb, eqb-true, eq-eqb}
 use Rattle.std.proofs.Math.Nat.{div-one}
-use Rattle.v6_addr.specs.Address.{PrefixValue, IsPrefix, Holds, holds_address, IsInside, is_inside}
+use Rattle.v6_addr.specs.Address.{PrefixValue, Holds, holds_address, IsInside, is_inside}
+use Rattle.v6_addr.specs.AddressTerms.{IsPrefix}
 
 same_above_more : (a b low more : ℕ) → a / 2 ^ low ≡ b / 2 ^ low → a / 2 ^ (low + more) ≡ b / 2 ^ (low + more)
 same_above_more a b low more same =
@@ -74,16 +75,16 @@ same_value p q a prefix_p prefix_q same hp hq =
     ∙ shr_split q.value k
 
 -- the code's test of the lengths, and then of the address
-pub is_inside-longer : (inner outer : PrefixValue) (value len outer_len : ℕ) → value ≡ inner.value → len ≡ inner.len → outer_len ≡ outer.len
+pub is_inside_longer : (inner outer : PrefixValue) (value len outer_len : ℕ) → value ≡ inner.value → len ≡ inner.len → outer_len ≡ outer.len
     → outer_len < len → holds_address outer value ≡ is_inside inner outer
 unfolding is_inside
-is_inside-longer inner outer value len outer_len is_value is_len is_outer longer =
+is_inside_longer inner outer value len outer_len is_value is_len is_outer longer =
     let before : outer.len < inner.len = omega arith in
     rw (lt-ltb outer.len inner.len before) (ap (λ n. holds_address outer n) is_value)
 
-pub is_inside-not_longer : (inner outer : PrefixValue) (len outer_len : ℕ) → len ≡ inner.len → outer_len ≡ outer.len → len ≤ outer_len
+pub is_inside_not_longer : (inner outer : PrefixValue) (len outer_len : ℕ) → len ≡ inner.len → outer_len ≡ outer.len → len ≤ outer_len
     → ltb outer_len len ≡ is_inside inner outer
 unfolding is_inside
-is_inside-not_longer inner outer len outer_len is_len is_outer shorter =
+is_inside_not_longer inner outer len outer_len is_len is_outer shorter =
     let before : inner.len ≤ outer.len = omega arith in
     rw (le-ltb outer.len inner.len before, le-ltb outer_len len shorter) refl

@@ -11,12 +11,13 @@ use Rattle.std.proofs.lemmas.Nat.{shr_split, shr-shr, mod_below}
 use Rattle.std.proofs.lemmas.Str.{digit_value-digit_char}
 use Rattle.std.proofs.Math.Pow.{shr_mod}
 use Rattle.std.proofs.Math.Nat.{div-one}
-use Rattle.v6_addr.specs.Address.{PrefixValue, IsPrefix, field_of}
+use Rattle.v6_addr.specs.Address.{PrefixValue, field_of}
+use Rattle.v6_addr.specs.AddressTerms.{IsPrefix}
 use Rattle.v6_addr.specs.Text.{Run, number_of_groups, groups_of, group_text, groups_text, longest_run, text_with_run, address_text, address_of_text, length_text, prefix_text, prefix_of_text}
-use Rattle.v6_addr.specs.Grammar.{IsGroupText, IsGroupsText, IsAddressText, IsZeroRun}
+use Rattle.v6_addr.specs.AddressGrammar.{IsGroupText, IsGroupsText, IsAddressText, IsZeroRun}
 use Rattle.v6_addr.proofs.RunLaws.{run_without, front_without, longest_run_is}
 use Rattle.v6_addr.proofs.GrammarLaws.{address_text_is}
-use Rattle.v6_addr.proofs.PrefixGrammar.{prefix_text_is, length_text-1, length_text-2, length_text-3}
+use Rattle.v6_addr.proofs.PrefixGrammar.{prefix_text_is, length_text_1, length_text_2, length_text_3}
 
 -- ---- a group
 
@@ -37,41 +38,41 @@ group_written g digits text is_text below lengths is_number =
     let P : List ℕ → Type 0 = AllDigits 16 in
     (lengths.0, lengths.1, subst P (sym is_text) written.0, is_number ∙ written.1 ∙ ap (digits_value 16) (sym is_text))
 
-group_text-1 : (g : ℕ) → g < 16 → group_text g ≡ digit_char g ∷ []
+group_text_1 : (g : ℕ) → g < 16 → group_text g ≡ digit_char g ∷ []
 unfolding group_text
-group_text-1 g below = cond-true _ _ _ (lt-ltb g 16 below)
+group_text_1 g below = cond-true _ _ _ (lt-ltb g 16 below)
 
-group_text-2 : (g : ℕ) → 16 ≤ g → g < 256 → group_text g ≡ digit_char (g / 16) ∷ digit_char (g % 16) ∷ []
+group_text_2 : (g : ℕ) → 16 ≤ g → g < 256 → group_text g ≡ digit_char (g / 16) ∷ digit_char (g % 16) ∷ []
 unfolding group_text
-group_text-2 g above below = cond-false _ _ _ (le-ltb g 16 above) ∙ cond-true _ _ _ (lt-ltb g 256 below)
+group_text_2 g above below = cond-false _ _ _ (le-ltb g 16 above) ∙ cond-true _ _ _ (lt-ltb g 256 below)
 
-group_text-3 : (g : ℕ) → 256 ≤ g → g < 4096 → group_text g ≡ digit_char (g / 256) ∷ digit_char (g / 16 % 16) ∷ digit_char (g % 16) ∷ []
+group_text_3 : (g : ℕ) → 256 ≤ g → g < 4096 → group_text g ≡ digit_char (g / 256) ∷ digit_char (g / 16 % 16) ∷ digit_char (g % 16) ∷ []
 unfolding group_text
-group_text-3 g above below = cond-false _ _ _ (le-ltb g 16 (omega arith)) ∙ cond-false _ _ _ (le-ltb g 256 above)
+group_text_3 g above below = cond-false _ _ _ (le-ltb g 16 (omega arith)) ∙ cond-false _ _ _ (le-ltb g 256 above)
     ∙ cond-true _ _ _ (lt-ltb g 4096 below)
 
-group_text-4 : (g : ℕ) → 4096 ≤ g → group_text g ≡ digit_char (g / 4096) ∷ digit_char (g / 256 % 16) ∷ digit_char (g / 16 % 16) ∷ digit_char
+group_text_4 : (g : ℕ) → 4096 ≤ g → group_text g ≡ digit_char (g / 4096) ∷ digit_char (g / 256 % 16) ∷ digit_char (g / 16 % 16) ∷ digit_char
     (g % 16) ∷ []
 unfolding group_text
-group_text-4 g above = cond-false _ _ _ (le-ltb g 16 (omega arith)) ∙ cond-false _ _ _ (le-ltb g 256 (omega arith))
+group_text_4 g above = cond-false _ _ _ (le-ltb g 16 (omega arith)) ∙ cond-false _ _ _ (le-ltb g 256 (omega arith))
     ∙ cond-false _ _ _ (le-ltb g 4096 above)
 
 group_1 : (g : ℕ) → g < 16 → IsGroupText (group_text g) g
 group_1 g below =
     let P : List ℕ → Type 0 = λ t. IsGroupText t g in
-    subst P (sym (group_text-1 g below)) (group_written g (g ∷ []) (digit_char g ∷ []) refl (below, tt) (lit≤ tt, lit≤ tt) (omega arith))
+    subst P (sym (group_text_1 g below)) (group_written g (g ∷ []) (digit_char g ∷ []) refl (below, tt) (lit≤ tt, lit≤ tt) (omega arith))
 
 group_2 : (g : ℕ) → 16 ≤ g → g < 256 → IsGroupText (group_text g) g
 group_2 g above below =
     let P : List ℕ → Type 0 = λ t. IsGroupText t g in
-    subst P (sym (group_text-2 g above below))
+    subst P (sym (group_text_2 g above below))
     (group_written g (g / 16 ∷ g % 16 ∷ []) (digit_char (g / 16) ∷ digit_char (g % 16) ∷ []) refl (omega arith, (omega arith, tt))
     (lit≤ tt, lit≤ tt) (omega arith))
 
 group_3 : (g : ℕ) → 256 ≤ g → g < 4096 → IsGroupText (group_text g) g
 group_3 g above below =
     let P : List ℕ → Type 0 = λ t. IsGroupText t g in
-    subst P (sym (group_text-3 g above below))
+    subst P (sym (group_text_3 g above below))
     (group_written g (g / 256 ∷ g / 16 % 16 ∷ g % 16 ∷ []) (digit_char (g / 256) ∷ digit_char (g / 16 % 16) ∷ digit_char (g % 16) ∷ []) refl
     (omega arith, (omega arith, (omega arith, tt)))
     (lit≤ tt, lit≤ tt) (omega arith))
@@ -79,7 +80,7 @@ group_3 g above below =
 group_4 : (g : ℕ) → 4096 ≤ g → g < 65536 → IsGroupText (group_text g) g
 group_4 g above below =
     let P : List ℕ → Type 0 = λ t. IsGroupText t g in
-    subst P (sym (group_text-4 g above))
+    subst P (sym (group_text_4 g above))
     (group_written g (g / 4096 ∷ g / 256 % 16 ∷ g / 16 % 16 ∷ g % 16 ∷ [])
     (digit_char (g / 4096) ∷ digit_char (g / 256 % 16) ∷ digit_char (g / 16 % 16) ∷ digit_char (g % 16) ∷ []) refl
     (omega arith, (omega arith, (omega arith, (omega arith, tt)))) (lit≤ tt, lit≤ tt) (omega arith))
@@ -122,16 +123,16 @@ groups_below a = All-from_recursion (λ g. g < 65536) (groups_of a) (
   ),
 )
 
-groups_of-length : (a : ℕ) → length (groups_of a) ≡ 8
+groups_of_length : (a : ℕ) → length (groups_of a) ≡ 8
 unfolding groups_of
-groups_of-length a = refl
+groups_of_length a = refl
 
 pub more_bits : (a k : ℕ) → a / 2 ^ (k + 16) * 2 ^ 16 + a / 2 ^ k % 2 ^ 16 ≡ a / 2 ^ k
 more_bits a k = ap (λ n. n * 2 ^ 16 + a / 2 ^ k % 2 ^ 16) (sym (shr-shr a k 16)) ∙ shr_split (a / 2 ^ k) 16
 
-number_of_groups-groups_of : (a : ℕ) → a < 2 ^ 128 → number_of_groups (groups_of a) ≡ a
+number_of_groups_groups_of : (a : ℕ) → a < 2 ^ 128 → number_of_groups (groups_of a) ≡ a
 unfolding number_of_groups groups_of field_of
-number_of_groups-groups_of a below =
+number_of_groups_groups_of a below =
     let f : ℕ → ℕ → ℕ = λ n g. n * 2 ^ 16 + g in
     let g = λ (at : ℕ). a / 2 ^ (128 - at - 16) % 2 ^ 16 in
     let top : 0 * 2 ^ 16 + g 0 ≡ a / 2 ^ 112 = zero-add (g 0) ∙ shr_mod {n = a} 16 112 below in
@@ -204,8 +205,8 @@ written_by_test a groups run false test eight below value zeros = written_full a
 pub address_text_written : (a : ℕ) → a < 2 ^ 128 → IsAddressText (address_text a) a
 unfolding address_text text_with_run
 address_text_written a below =
-    written_by_test a (groups_of a) (longest_run (groups_of a)) (leb 2 (longest_run (groups_of a)).count) refl (groups_of-length a)
-    (groups_below a) (sym (number_of_groups-groups_of a below))
+    written_by_test a (groups_of a) (longest_run (groups_of a)) (leb 2 (longest_run (groups_of a)).count) refl (groups_of_length a)
+    (groups_below a) (sym (number_of_groups_groups_of a below))
     (longest_run_is (groups_of a)).zeros
 
 pub address_read_back : (a : ℕ) → a < 2 ^ 128 → address_of_text (address_text a) ≡ Some a
@@ -216,13 +217,13 @@ address_read_back a below = (address_text_is (address_text a) a).1 (address_text
 group_text_length : (g : ℕ) → length (group_text g) ≤ 4
 group_text_length g =
     elim (cases_lt g 16) [
-      | inl small ↦ omega (arith, ap length (group_text-1 g small))
+      | inl small ↦ omega (arith, ap length (group_text_1 g small))
       | inr above16 ↦ elim (cases_lt g 256) [
-        | inl small ↦ omega (arith, ap length (group_text-2 g above16 small))
+        | inl small ↦ omega (arith, ap length (group_text_2 g above16 small))
         | inr above256 ↦ elim (cases_lt g 4096) [
-          | inl small ↦ omega (arith, ap length (group_text-3 g above256 small))
+          | inl small ↦ omega (arith, ap length (group_text_3 g above256 small))
           | inr above4096 ↦
-              omega (arith, ap length (group_text-4 g above4096))
+              omega (arith, ap length (group_text_4 g above4096))
         ]
       ]
     ]
@@ -256,8 +257,8 @@ length_by_test groups run false test eight within = omega (arith, groups_text_le
 pub address_text_length : (a : ℕ) → length (address_text a) ≤ 39
 unfolding address_text text_with_run
 address_text_length a =
-    length_by_test (groups_of a) (longest_run (groups_of a)) (leb 2 (longest_run (groups_of a)).count) refl (groups_of-length a)
-    (omega (arith, (longest_run_is (groups_of a)).zeros.0, groups_of-length a))
+    length_by_test (groups_of a) (longest_run (groups_of a)) (leb 2 (longest_run (groups_of a)).count) refl (groups_of_length a)
+    (omega (arith, (longest_run_is (groups_of a)).zeros.0, groups_of_length a))
 
 -- ---- a prefix
 
@@ -274,10 +275,10 @@ prefix_read_back p is_prefix =
 length_text_length : (n : ℕ) → length (length_text n) ≤ 3
 length_text_length n =
     elim (cases_lt n 10) [
-      | inl small ↦ omega (arith, ap length (length_text-1 n small))
+      | inl small ↦ omega (arith, ap length (length_text_1 n small))
       | inr above10 ↦ elim (cases_lt n 100) [
-        | inl small ↦ omega (arith, ap length (length_text-2 n above10 small))
-        | inr above100 ↦ omega (arith, ap length (length_text-3 n above100))
+        | inl small ↦ omega (arith, ap length (length_text_2 n above10 small))
+        | inr above100 ↦ omega (arith, ap length (length_text_3 n above100))
       ]
     ]
 

@@ -2,7 +2,7 @@
 use Rattle.std.proofs.Common.{◌≡◌, ℕ, zero, suc, ◌+◌, ◌<◌, ◌≤◌, Bool, true, false, eqb, leb, cond, List, [], ◌∷◌, get_or, subst, refl, arith}
 use Rattle.std.proofs.lemmas.Bool.{leb-true, leb-false, eqb-true, eq-eqb, cond-true}
 use Rattle.v6_addr.specs.Text.{Run, leading_zeros, longer_run, longest_run}
-use Rattle.v6_addr.specs.Grammar.{IsZeroRun, IsLongestRun}
+use Rattle.v6_addr.specs.AddressGrammar.{IsZeroRun, IsLongestRun}
 
 -- ---- one group before
 

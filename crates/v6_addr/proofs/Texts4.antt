@@ -4,13 +4,14 @@ use Rattle.std.proofs.lemmas.Bool.{cases_lt}
 use Rattle.std.proofs.lemmas.List.{take_all, append-nil}
 use Rattle.v6_addr.specs.declared.scan4.Place4.{Place4}
 use Rattle.v6_addr.specs.Address.{field_of}
-use Rattle.v6_addr.specs.Faults.{Begins, IsLongestBeginning}
+use Rattle.v6_addr.specs.AddressFaults.{Begins, IsLongestBeginning}
 use Rattle.v6_addr.specs.Scan.{walked}
 use Rattle.v6_addr.specs.Scan4.{start4, behind4, address_at}
 use Rattle.v6_addr.specs.Text.{length_text}
-use Rattle.v6_addr.specs.Text4.{dotted_text, IsAddress4Text, address4_text}
+use Rattle.v6_addr.specs.Text4.{dotted_text, address4_text}
+use Rattle.v6_addr.specs.Text4Terms.{IsAddress4Text}
 use Rattle.v6_addr.proofs.Places4.{ended4, no_address4}
-use Rattle.v6_addr.proofs.PrefixGrammar.{length_text-1, length_text-2, length_text-3}
+use Rattle.v6_addr.proofs.PrefixGrammar.{length_text_1, length_text_2, length_text_3}
 
 -- ---- reading
 
@@ -71,10 +72,10 @@ short_number : (n : ℕ) → length (length_text n) ≤ 3
 short_number n =
     let P : List ℕ → Type 0 = λ t. length t ≤ 3 in
     elim (cases_lt n 10) [
-      | inl one ↦ subst P (sym (length_text-1 n one)) (omega arith)
+      | inl one ↦ subst P (sym (length_text_1 n one)) (omega arith)
       | inr more ↦ elim (cases_lt n 100) [
-        | inl two ↦ subst P (sym (length_text-2 n more two)) (omega arith)
-        | inr three ↦ subst P (sym (length_text-3 n three)) (omega arith)
+        | inl two ↦ subst P (sym (length_text_2 n more two)) (omega arith)
+        | inr three ↦ subst P (sym (length_text_3 n three)) (omega arith)
       ]
     ]
 

@@ -1,14 +1,10 @@
 -- IPv6 addresses and prefixes as plain numbers (RFC 4291 section 2). An address is a number below 2 ^ 128. Bit 0 is the highest
-use Rattle.std.specs.Prelude.{◌≡◌, ℕ, ◌+◌, ◌-◌, ◌*◌, ◌/◌, ◌%◌, ◌^◌, ◌<◌, ◌≤◌, Bool, ◌==◌, ◌&&◌, nat_lt}
+use Rattle.std.specs.Prelude.{◌≡◌, ℕ, ◌+◌, ◌-◌, ◌*◌, ◌/◌, ◌%◌, ◌^◌, ◌<◌, Bool, ◌==◌, ◌&&◌, nat_lt}
 
 -- a prefix as a value: the address that it begins with, and its length in bits
 pub record PrefixValue : Type 0 where
   pub value : ℕ
   pub len : ℕ
-
--- a length of at most 128 bits, an address, and no bit past the length set
-abbrev pub IsPrefix : PrefixValue → Type 0
-IsPrefix p = (p.len ≤ 128) × (p.value < 2 ^ 128) × (p.value % 2 ^ (128 - p.len) ≡ 0)
 
 -- an address is in a prefix: both agree in the bits of the prefix's length
 unfoldable pub Holds : PrefixValue → ℕ → Type 0

@@ -1,4 +1,5 @@
--- The bits of numbers. `rest` is how many bits stand after the ones that are meant (own rule).
+-- Need not be believed: helps proofs and other laws.
+-- The bits of numbers. `rest` is how many bits stand after the ones that are meant.
 use Rattle.std.specs.Prelude.{ℕ, ◌+◌, ◌*◌, ◌/◌, ◌%◌, ◌^◌}
 
 -- the number in `width` bits

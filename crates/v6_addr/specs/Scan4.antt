@@ -1,17 +1,11 @@
--- The texts of IPv4 addresses byte by byte, and those of prefixes. 46 is the dot, 47 the slash (own rule).
-use Rattle.std.specs.Prelude.{ℕ, ◌+◌, ◌*◌, ◌^◌, ◌<◌, ◌≤◌, ◌==◌, nat_le, nat_lt, if◌then◌else◌, List, Option, Some, None, IfSome, option_map, option_and_then}
+-- The texts of IPv4 addresses byte by byte, and those of prefixes. 46 is the dot, 47 the slash.
+use Rattle.std.specs.Prelude.{ℕ, ◌+◌, ◌*◌, ◌^◌, ◌==◌, nat_le, nat_lt, if◌then◌else◌, List, Option, Some, None, option_map, option_and_then}
 use Rattle.v6_addr.specs.declared.scan4.Place4.{Place4}
 use Rattle.std.specs.List.{before_first, after_first}
 use Rattle.v6_addr.specs.Address.{PrefixValue}
 use Rattle.v6_addr.specs.Lengths.{next_number}
 use Rattle.v6_addr.specs.Scan.{walked}
 use Rattle.v6_addr.specs.Text.{length_of_text, prefix_of_parts}
-
--- at most three numbers with their dots, the value that they make, and the number that has begun
-pub record IsPlace4 (place : Place4) : Type 0 where
-  pub few : place.done ≤ 3
-  pub fits : place.value < 256 ^ place.done
-  pub small : IfSome place.number (λ n. n ≤ 255)
 
 -- nothing was read
 abbrev pub start4 : Place4

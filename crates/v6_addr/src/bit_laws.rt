@@ -4,7 +4,7 @@ ghost use Rattle.v6_addr.specs.Bits.{cut, put};
 
 /// Laws on two numbers: where they agree above a bit they agree above each higher one, where they
 /// agree below a bit they agree below each lower one, and where they agree above and below one bit
-/// they are equal (own rule).
+/// they are equal.
 pub fn numbers_agree_above_and_below()
     ensures above { (a b low high : ℕ) → low ≤ high → a / 2 ^ low ≡ b / 2 ^ low
         → a / 2 ^ high ≡ b / 2 ^ high }
@@ -14,8 +14,7 @@ pub fn numbers_agree_above_and_below()
 {}
 
 /// Laws on bits that are put into a number: they are read back, the bits above and below are as
-/// they were, the number stays below a bound, and its own bits put into it change nothing (own
-/// rule).
+/// they were, the number stays below a bound, and its own bits put into it change nothing.
 pub fn bits_are_cut_and_put()
     ensures same { (a rest width v : ℕ) → v < 2 ^ width → cut (put a rest width v) rest width ≡ v }
     ensures above { (a rest width v : ℕ) → v < 2 ^ width
@@ -29,7 +28,7 @@ pub fn bits_are_cut_and_put()
 
 /// Laws on fields and prefixes: a field that is written as it stands changes nothing, and a prefix
 /// holds an address where a shorter one holds both the address and the prefix's value, and they
-/// agree in the field from there to the prefix's end (own rule).
+/// agree in the field from there to the prefix's end.
 pub fn fields_and_prefixes()
     ensures own { (a at width : ℕ) → at + width ≤ 128
         → with_field_of a at width (field_of a at width) ≡ a }

@@ -29,7 +29,7 @@ pub(crate) fn raised(a: u128, k: u8) -> u128
 }
 
 /// The number in the `width` bits of an address from bit `at` on. Both count bits; bit 0 is the
-/// highest (own rule).
+/// highest.
 #[tactic(auto, unfolding(crate::specs::Address::field_of))]
 pub fn field(a: Addr, at: u8, width: u8) -> u128
     requires some { 1 ≤ width }
@@ -41,7 +41,7 @@ pub fn field(a: Addr, at: u8, width: u8) -> u128
 }
 
 /// The address with `v` in the `width` bits from bit `at` on, and its other bits as they were.
-/// Both count bits; bit 0 is the highest (own rule).
+/// Both count bits; bit 0 is the highest.
 pub fn with_field(a: Addr, at: u8, width: u8, v: u128) -> Addr
     requires some { 1 ≤ width }
     requires within { at + width ≤ 128 }

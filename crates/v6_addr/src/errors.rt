@@ -2,7 +2,7 @@
 /// RFC 6943 section 3.1.1, RFC 4632 section 3.1).
 #[derive(Debug, Clone, Copy, PartialEq, Eq)]
 pub struct BadAddr {
-    /// The place of the fault (own rule): the length in bytes of the text's longest beginning that
+    /// The place of the fault: the length in bytes of the text's longest beginning that
     /// some accepted text begins with. It is the whole text's length where the text is an address,
     /// a slash and a good length, and only a bit of the address after that length is wrong.
     pub at: usize,

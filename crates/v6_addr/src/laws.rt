@@ -1,9 +1,11 @@
 ghost use Rattle.std.specs.Prelude.{◌≡◌, ℕ, ◌+◌, ◌-◌, ◌*◌, ◌%◌, ◌^◌, ◌<◌, ◌≤◌, ◌↔◌, IsTrue, List, Some, length};
-ghost use Rattle.v6_addr.specs.Address.{PrefixValue, IsPrefix, Holds, holds_address, IsInside, is_inside, field_of, with_field_of};
+ghost use Rattle.v6_addr.specs.Address.{PrefixValue, Holds, holds_address, IsInside, is_inside, field_of, with_field_of};
+ghost use Rattle.v6_addr.specs.AddressTerms.{IsPrefix};
 ghost use Rattle.v6_addr.specs.Text.{address_of_text, prefix_of_text, address_text, prefix_text, longest_run};
-ghost use Rattle.v6_addr.specs.Text4.{IsAddress4Text, IsPrefix4Text, address4_text};
+ghost use Rattle.v6_addr.specs.Text4.{address4_text};
+ghost use Rattle.v6_addr.specs.Text4Terms.{IsAddress4Text, IsPrefix4Text};
 ghost use Rattle.v6_addr.specs.Scan4.{address4_of_text, prefix4_of_text};
-ghost use Rattle.v6_addr.specs.Grammar.{IsAddressText, IsPrefixText, IsLongestRun};
+ghost use Rattle.v6_addr.specs.AddressGrammar.{IsAddressText, IsPrefixText, IsLongestRun};
 
 /// A law: an address's text is read exactly where the grammar of RFC 4291 section 2.2 without a
 /// dotted IPv4 tail has it, and so as one address at most.
@@ -25,7 +27,7 @@ pub fn address_reads_back()
 {}
 
 /// A law: a prefix's text is read exactly where the grammar of RFC 4291 section 2.3 has it with no
-/// bit set after its length and no leading zeros (own rules), and so as one prefix at most.
+/// bit set after its length and no leading zeros, and so as one prefix at most.
 pub fn prefix_grammar()
     ensures { (text : List ℕ) (p : PrefixValue)
         → (prefix_of_text text ≡ Some p) ↔ IsPrefixText text p }
@@ -85,7 +87,7 @@ pub fn prefix_tests()
 {}
 
 /// Laws on a field that is written: it is read back, each other field is as it was, the result is
-/// an address, and a prefix that ends before the field still holds it (own rule).
+/// an address, and a prefix that ends before the field still holds it.
 pub fn fields_apart()
     ensures same { (a at width v : ℕ) → at + width ≤ 128 → v < 2 ^ width
         → field_of (with_field_of a at width v) at width ≡ v }

@@ -2,13 +2,14 @@
 //! address.
 
 ghost use Rattle.std.specs.Prelude.{◌≡◌, ℕ, ◌+◌, ◌-◌, ◌*◌, ◌/◌, ◌%◌, ◌^◌, ◌<◌, ◌≤◌, ◌⊎◌, Some, None, IfSome, length};
-ghost use Rattle.v6_addr.specs.Faults.{Begins, IsLongestBeginning};
-ghost use Rattle.v6_addr.specs.Lengths.{with_digit, next_number, furthest, length_goes_on, length_behind, IsLengthOf};
+ghost use Rattle.v6_addr.specs.AddressFaults.{Begins, IsLongestBeginning};
+ghost use Rattle.v6_addr.specs.Lengths.{with_digit, next_number};
+ghost use Rattle.v6_addr.specs.LengthsTerms.{furthest, length_goes_on, length_behind, IsLengthOf};
 
 use crate::bits::low_bits;
 
 /// A number so far, with one more digit; `None` after a zero, which stands alone.
-#[tactic(auto, using(crate::proofs::Cases::tests), unfolding(crate::specs::Lengths::with_digit))]
+#[tactic(auto, using(crate::proofs::AddressCases::tests), unfolding(crate::specs::Lengths::with_digit))]
 fn with_digit(number: Option<u32>, digit: u32) -> Option<u32>
     requires number { IfSome number (λ n. n ≤ 255) }
     requires digit { digit < 10 }
@@ -25,7 +26,7 @@ fn with_digit(number: Option<u32>, digit: u32) -> Option<u32>
 }
 
 /// A number so far, where one more byte is a decimal digit.
-#[tactic(auto, using(crate::proofs::Cases::tests), unfolding(crate::specs::Lengths::next_number))]
+#[tactic(auto, using(crate::proofs::AddressCases::tests), unfolding(crate::specs::Lengths::next_number))]
 pub(crate) fn next_number(number: Option<u32>, byte: u8) -> Option<u32>
     requires { IfSome number (λ n. n ≤ 255) }
     ensures value { result ≡ next_number number byte }
@@ -38,7 +39,7 @@ pub(crate) fn next_number(number: Option<u32>, byte: u8) -> Option<u32>
 }
 
 /// The greatest length up to a limit whose digits begin with those of a number.
-#[tactic(auto, using(crate::proofs::Cases::tests), unfolding(crate::specs::Lengths::furthest))]
+#[tactic(auto, using(crate::proofs::AddressCases::tests), unfolding(crate::specs::LengthsTerms::furthest))]
 fn furthest(limit: u32, n: u32) -> u32
     requires limit { limit ≤ 128 }
     requires number { n ≤ limit }
@@ -65,7 +66,7 @@ fn furthest(limit: u32, n: u32) -> u32
 
 /// The number, where no bit of the address is set after some length up to the limit whose digits
 /// begin with those of the number.
-#[tactic(auto, using(crate::proofs::Cases::tests), unfolding(crate::specs::Lengths::length_goes_on))]
+#[tactic(auto, using(crate::proofs::AddressCases::tests), unfolding(crate::specs::LengthsTerms::length_goes_on))]
 fn length_goes_on(limit: u32, value: u128, n: u32) -> Option<u32>
     requires { limit ≤ 128 }
     ensures value { result ≡ length_goes_on limit value n }
@@ -83,7 +84,7 @@ fn length_goes_on(limit: u32, value: u128, n: u32) -> Option<u32>
 
 /// The length's number so far with one more byte, or `None` where no length up to the limit that
 /// fits the address goes on so.
-#[tactic(auto, using(crate::proofs::Cases::tests), unfolding(crate::specs::Lengths::length_behind))]
+#[tactic(auto, using(crate::proofs::AddressCases::tests), unfolding(crate::specs::LengthsTerms::length_behind))]
 fn length_behind(limit: u32, value: u128, number: Option<u32>, byte: u8) -> Option<u32>
     requires limit { limit ≤ 128 }
     requires number { IfSome number (λ n. n ≤ limit) }

@@ -6,12 +6,12 @@
 #![tactic(auto)]
 
 mod address;
+mod address_kind;
 mod bit_laws;
 mod bits;
 mod display;
 mod errors;
 mod groups;
-mod kind;
 mod laws;
 mod length;
 mod parse;

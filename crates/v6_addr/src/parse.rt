@@ -18,7 +18,7 @@ pub(crate) fn parse_number(radix: u32, text: &[u8]) -> Option<u32>
 }
 
 /// The number of a group: one to four hexadecimal digits.
-#[tactic(auto, using(crate::proofs::Cases::tests), unfolding(crate::specs::Text::group_of_text))]
+#[tactic(auto, using(crate::proofs::AddressCases::tests), unfolding(crate::specs::Text::group_of_text))]
 pub(crate) fn parse_group(text: &[u8]) -> Option<u16>
     ensures { result ≡ group_of_text text.now }
 {
@@ -33,7 +33,7 @@ pub(crate) fn parse_group(text: &[u8]) -> Option<u16>
 }
 
 /// A prefix's length: a decimal number of at most 128 without leading zeros.
-#[tactic(auto, using(crate::proofs::Cases::tests), unfolding(crate::specs::Text::length_of_text))]
+#[tactic(auto, using(crate::proofs::AddressCases::tests), unfolding(crate::specs::Text::length_of_text))]
 pub(crate) fn parse_length(text: &[u8]) -> Option<u8>
     ensures value { result ≡ length_of_text text.now }
     ensures bound { IfSome result (λ len. len ≤ 128) }

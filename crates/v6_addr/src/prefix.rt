@@ -1,5 +1,6 @@
 ghost use Rattle.std.specs.Prelude.{◌≡◌, ℕ, ◌+◌, ◌-◌, ◌*◌, ◌/◌, ◌%◌, ◌^◌, ◌<◌, ◌≤◌, ◌↔◌, IsTrue, SomeIff, IsSome, IfSome};
-ghost use Rattle.v6_addr.specs.Address.{PrefixValue, IsPrefix, Holds, holds_address, IsInside, is_inside};
+ghost use Rattle.v6_addr.specs.Address.{PrefixValue, Holds, holds_address, IsInside, is_inside};
+ghost use Rattle.v6_addr.specs.AddressTerms.{IsPrefix};
 
 use crate::address::Addr;
 use crate::bits::{high_bits, low_bits};

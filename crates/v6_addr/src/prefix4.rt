@@ -2,9 +2,9 @@
 
 ghost use Rattle.std.specs.Prelude.{◌≡◌, ℕ, suc, ◌+◌, ◌-◌, ◌*◌, ◌%◌, ◌^◌, ◌<◌, ◌≤◌, MatchOption, MatchResult, length, take, slice_index};
 ghost use Rattle.v6_addr.specs.Address.{PrefixValue};
-ghost use Rattle.v6_addr.specs.Faults.{Begins, IsLongestBeginning, IsPrefixFault};
+ghost use Rattle.v6_addr.specs.AddressFaults.{Begins, IsLongestBeginning, IsPrefixFault};
 ghost use Rattle.v6_addr.specs.Text.{length_text};
-ghost use Rattle.v6_addr.specs.Text4.{IsAddress4Text, IsPrefix4Text};
+ghost use Rattle.v6_addr.specs.Text4Terms.{IsAddress4Text, IsPrefix4Text};
 
 use crate::address::Addr;
 use crate::errors::BadAddr;
@@ -55,7 +55,7 @@ fn after_slash4(text: &[u8], at: usize, value: u128) -> Result<Prefix, BadAddr>
 
 /// The IPv4 prefix that a text writes (RFC 4632 section 3.1): an IPv4 address, a slash and a
 /// length, a decimal number of at most 32. The length has no leading zeros, and no bit past it is
-/// set (own rules). The prefix holds addresses whose top 32 bits are the IPv4 address. `BadAddr`
+/// set. The prefix holds addresses whose top 32 bits are the IPv4 address. `BadAddr`
 /// comes exactly where the text is another. Its `at` is the length of the text's longest beginning
 /// that some IPv4 prefix's text begins with, or of the whole text where only a bit past the length
 /// is wrong.

@@ -1,9 +1,9 @@
 //! The texts of addresses byte by byte: how far a text is the beginning of an address.
 
 ghost use Rattle.std.specs.Prelude.{◌≡◌, ℕ, ◌+◌, ◌-◌, ◌<◌, ◌≤◌, Some, None, length};
-ghost use Rattle.v6_addr.specs.Scan.{behind_digit, behind_colon, behind};
-ghost use Rattle.v6_addr.specs.Grammar.{IsAddressText};
-ghost use Rattle.v6_addr.specs.Faults.{Begins, IsLongestBeginning};
+ghost use Rattle.v6_addr.specs.ScanTerms.{behind_digit, behind_colon, behind};
+ghost use Rattle.v6_addr.specs.AddressGrammar.{IsAddressText};
+ghost use Rattle.v6_addr.specs.AddressFaults.{Begins, IsLongestBeginning};
 
 /// What stands before the next byte in the text of an address. Each `left` is a number of groups
 /// that may still follow, and `short` says whether `::` was read.
@@ -22,7 +22,7 @@ enum Scanned {
 }
 
 /// What stands before the next byte, once a hexadecimal digit was read.
-#[tactic(auto, using(crate::proofs::Cases::tests), unfolding(crate::specs::Scan::behind_digit))]
+#[tactic(auto, using(crate::proofs::AddressCases::tests), unfolding(crate::specs::ScanTerms::behind_digit))]
 fn behind_digit(place: Scanned) -> Option<Scanned>
     ensures { result ≡ behind_digit place }
 {
@@ -66,7 +66,7 @@ fn behind_digit(place: Scanned) -> Option<Scanned>
 }
 
 /// What stands before the next byte, once a colon was read.
-#[tactic(auto, using(crate::proofs::Cases::tests), unfolding(crate::specs::Scan::behind_colon))]
+#[tactic(auto, using(crate::proofs::AddressCases::tests), unfolding(crate::specs::ScanTerms::behind_colon))]
 fn behind_colon(place: Scanned) -> Option<Scanned>
     ensures { result ≡ behind_colon place }
 {
@@ -93,7 +93,7 @@ fn behind_colon(place: Scanned) -> Option<Scanned>
 }
 
 /// What stands before the next byte, or `None` where no address goes on with this one.
-#[tactic(auto, using(crate::proofs::Cases::tests), unfolding(crate::specs::Scan::behind))]
+#[tactic(auto, using(crate::proofs::AddressCases::tests), unfolding(crate::specs::ScanTerms::behind))]
 fn behind(place: Scanned, byte: u8) -> Option<Scanned>
     ensures { result ≡ behind place byte }
 {

@@ -2,10 +2,11 @@
 //! and which address it is.
 
 ghost use Rattle.std.specs.Prelude.{◌≡◌, ℕ, ◌+◌, ◌-◌, ◌*◌, ◌/◌, ◌%◌, ◌^◌, ◌<◌, ◌≤◌, Some, None, IfSome, length, take, slice_index};
-ghost use Rattle.v6_addr.specs.Faults.{Begins, IsLongestBeginning};
+ghost use Rattle.v6_addr.specs.AddressFaults.{Begins, IsLongestBeginning};
 ghost use Rattle.v6_addr.specs.Scan.{walked};
-ghost use Rattle.v6_addr.specs.Scan4.{IsPlace4, start4, up_to_255, number_behind, behind_dot, behind4, address_at};
-ghost use Rattle.v6_addr.specs.Text4.{IsAddress4Text};
+ghost use Rattle.v6_addr.specs.Scan4.{start4, up_to_255, number_behind, behind_dot, behind4, address_at};
+ghost use Rattle.v6_addr.specs.Scan4Terms.{IsPlace4};
+ghost use Rattle.v6_addr.specs.Text4Terms.{IsAddress4Text};
 
 use crate::bits::raised;
 use crate::length::next_number;
@@ -22,7 +23,7 @@ pub(crate) struct Place4 {
 }
 
 /// The number so far with one more byte, up to 255.
-#[tactic(auto, using(crate::proofs::Cases::tests), unfolding(crate::specs::Scan4::number_behind, crate::specs::Scan4::up_to_255))]
+#[tactic(auto, using(crate::proofs::AddressCases::tests), unfolding(crate::specs::Scan4::number_behind, crate::specs::Scan4::up_to_255))]
 fn number_behind(number: Option<u32>, byte: u8) -> Option<u32>
     requires { IfSome number (λ n. n ≤ 255) }
     ensures value { result ≡ number_behind number byte }
@@ -40,7 +41,7 @@ fn number_behind(number: Option<u32>, byte: u8) -> Option<u32>
 }
 
 /// What stands before the next byte, once a dot was read.
-#[tactic(auto, using(crate::proofs::Cases::tests), unfolding(crate::specs::Scan4::behind_dot))]
+#[tactic(auto, using(crate::proofs::AddressCases::tests), unfolding(crate::specs::Scan4::behind_dot))]
 fn behind_dot(place: Place4) -> Option<Place4>
     requires { IsPlace4 place }
     ensures { result ≡ behind_dot place place.number }
@@ -61,7 +62,7 @@ fn behind_dot(place: Place4) -> Option<Place4>
 }
 
 /// What stands before the next byte, or `None` where no IPv4 address goes on with this one.
-#[tactic(auto, using(crate::proofs::Cases::tests), unfolding(crate::specs::Scan4::behind4))]
+#[tactic(auto, using(crate::proofs::AddressCases::tests), unfolding(crate::specs::Scan4::behind4))]
 fn behind4(place: Place4, byte: u8) -> Option<Place4>
     requires { IsPlace4 place }
     ensures { result ≡ behind4 place byte }
@@ -112,7 +113,7 @@ pub(crate) fn walk4(text: &[u8]) -> Reach4
 }
 
 /// The address, where an IPv4 address may end.
-#[tactic(auto, using(crate::proofs::Cases::tests), unfolding(crate::specs::Scan4::address_at))]
+#[tactic(auto, using(crate::proofs::AddressCases::tests), unfolding(crate::specs::Scan4::address_at))]
 pub(crate) fn address_at(place: Place4) -> Option<u128>
     requires { IsPlace4 place }
     ensures { result ≡ address_at place place.number }

@@ -1,7 +1,7 @@
 ghost use Rattle.std.specs.Prelude.{◌≡◌, ℕ, ◌<◌, ◌==◌, Some, None, MatchResult, IfSome, length, position};
 ghost use Rattle.v6_addr.specs.Text.{address_of_text, prefix_of_text};
-ghost use Rattle.v6_addr.specs.Grammar.{IsAddressText, IsPrefixText};
-ghost use Rattle.v6_addr.specs.Faults.{Begins, IsLongestBeginning, IsPrefixFault};
+ghost use Rattle.v6_addr.specs.AddressGrammar.{IsAddressText, IsPrefixText};
+ghost use Rattle.v6_addr.specs.AddressFaults.{Begins, IsLongestBeginning, IsPrefixFault};
 
 use crate::address::Addr;
 use crate::errors::BadAddr;
@@ -24,7 +24,7 @@ fn parse_value(text: &[u8]) -> Option<u128>
 
 /// The address that a text writes (RFC 4291 section 2.2): eight groups of one to four hexadecimal
 /// digits in either case, parted by colons, where `::` may stand once for one or more groups that
-/// are 0. No IPv4 address and no zone may stand at the end (own rule). `BadAddr` comes exactly
+/// are 0. No IPv4 address and no zone may stand at the end. `BadAddr` comes exactly
 /// where the text is another; its `at` is the length of the text's longest beginning that some
 /// address's text begins with.
 pub fn parse_addr(text: &[u8]) -> Result<Addr, BadAddr>
@@ -82,8 +82,7 @@ fn prefix_fault(text: &[u8]) -> usize
 }
 
 /// The prefix that a text writes (RFC 4291 section 2.3): an address, a slash and a length, a
-/// decimal number of at most 128. The length has no leading zeros, and no bit past it is set (own
-/// rules). `BadAddr` comes exactly where the text is another. Its `at` is the length of the text's
+/// decimal number of at most 128. The length has no leading zeros, and no bit past it is set. `BadAddr` comes exactly where the text is another. Its `at` is the length of the text's
 /// longest beginning that some prefix's text begins with, or of the whole text where only a bit
 /// past the length is wrong.
 pub fn parse_prefix(text: &[u8]) -> Result<Prefix, BadAddr>

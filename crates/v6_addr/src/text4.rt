@@ -2,9 +2,10 @@
 
 ghost use Rattle.std.specs.Prelude.{◌≡◌, ℕ, ◌+◌, ◌-◌, ◌*◌, ◌%◌, ◌^◌, ◌<◌, ◌≤◌, [], ◌++◌, MatchResult, length};
 ghost use Rattle.arrayvec.specs.ArrayString.{array_string_len};
-ghost use Rattle.v6_addr.specs.Faults.{Begins, IsLongestBeginning};
+ghost use Rattle.v6_addr.specs.AddressFaults.{Begins, IsLongestBeginning};
 ghost use Rattle.v6_addr.specs.Text.{length_text};
-ghost use Rattle.v6_addr.specs.Text4.{IsAddress4Text, address4_text};
+ghost use Rattle.v6_addr.specs.Text4.{address4_text};
+ghost use Rattle.v6_addr.specs.Text4Terms.{IsAddress4Text};
 
 use crate::address::Addr;
 use crate::bits::field;
@@ -14,7 +15,7 @@ use arrayvec::ArrayString;
 
 /// The IPv4 address that a text writes (RFC 6943 section 3.1.1, the strict form): four decimal
 /// numbers up to 255 without leading zeros, parted by dots. The address is kept in the top 32 bits
-/// (own rule). `BadAddr` comes exactly where the text is another; its `at` is the length of the
+///. `BadAddr` comes exactly where the text is another; its `at` is the length of the
 /// text's longest beginning that some IPv4 address's text begins with.
 pub fn parse_addr4(text: &[u8]) -> Result<Addr, BadAddr>
     ensures { MatchResult result
@@ -33,7 +34,7 @@ pub fn parse_addr4(text: &[u8]) -> Result<Addr, BadAddr>
 }
 
 /// Appends a number in decimal digits without leading zeros.
-#[tactic(auto, using(crate::proofs::Cases::tests), unfolding(crate::specs::Text::length_text))]
+#[tactic(auto, using(crate::proofs::AddressCases::tests), unfolding(crate::specs::Text::length_text))]
 fn push_number(out: &mut ArrayString<15>, n: u8)
     requires { array_string_len out.old + 3 ≤ 15 }
     ensures bytes { out.new.bytes ≡ out.old.bytes ++ length_text n }

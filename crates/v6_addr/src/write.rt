@@ -23,7 +23,7 @@ fn push_digit(out: &mut ArrayString<39>, digit: u16)
 }
 
 /// Appends a group in hexadecimal digits without leading zeros.
-#[tactic(auto, using(crate::proofs::Cases::tests), unfolding(crate::specs::Text::group_text))]
+#[tactic(auto, using(crate::proofs::AddressCases::tests), unfolding(crate::specs::Text::group_text))]
 fn push_group(out: &mut ArrayString<39>, group: u16)
     requires { array_string_len out.old + 4 ≤ 39 }
     ensures bytes { out.new.bytes ≡ out.old.bytes ++ group_text group }
@@ -143,7 +143,7 @@ pub fn write_addr(out: &mut ArrayString<39>, a: Addr)
 }
 
 /// Appends a prefix's length in decimal digits without leading zeros.
-#[tactic(auto, using(crate::proofs::Cases::tests), unfolding(crate::specs::Text::length_text))]
+#[tactic(auto, using(crate::proofs::AddressCases::tests), unfolding(crate::specs::Text::length_text))]
 fn push_length(out: &mut ArrayString<43>, len: u8)
     requires { array_string_len out.old + 3 ≤ 43 }
     ensures { out.new.bytes ≡ out.old.bytes ++ length_text len }

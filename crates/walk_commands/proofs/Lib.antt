@@ -9,4 +9,4 @@ pub mod PublicLaws
 pub mod WalkEnds
 pub mod WalkKeeping
 pub mod WalkStarts
-pub mod OneOutput
+pub mod WalkOneOutput

@@ -6,12 +6,13 @@ use Rattle.intent_reader.specs.declared.intent.Intent.{Intent}
 use Rattle.path_compiler.specs.declared.compiled.Compiled.{Compiled}
 use Rattle.path_compiler.specs.declared.compiled.CompileFault.{CompileFault}
 use Rattle.path_compiler.specs.declared.compiled.CompileFault.TheVariants as faults
-use Rattle.compile_commands.specs.Lists.{IntentAnswers, IsCompiledFor}
-use Rattle.compile_commands.proofs.PublicLaws.{one-answer-for}
+use Rattle.compile_commands.specs.CompiledLists.{IntentAnswers, IsCompiledFor}
+use Rattle.compile_commands.proofs.PublicLaws.{one_answer_for}
 use Rattle.command_output.specs.declared.refusal.Refusal.{Refusal}
-use Rattle.command_output.specs.Pieces.{Output}
+use Rattle.command_output.specs.OutputPieces.{Output}
 use Rattle.command_inputs.specs.Judgements.{network_in, intent_in}
-use Rattle.walk_commands.specs.Walk.{HasList, HasListIn, NoListWants, WantsNoList}
+use Rattle.walk_commands.specs.WalkCommand.{HasList, HasListIn, NoListWants}
+use Rattle.walk_commands.specs.WalkCommandTerms.{WantsNoList}
 
 -- a text that is there is judged so
 abbrev GivesText : {A : Type 0} → (List ℕ → Result A Refusal) → Result A Refusal → Option (List ℕ) → Type 0
@@ -40,21 +41,21 @@ module _ (net : Network) (intent : Intent) where
   abbrev IsWant : Result Compiled CompileFault → Type 0
   IsWant answer = answer ≡ Err faults.NoMemory
 
-  found-or-not : (c : Compiled) (fault : CompileFault) (answer : Result Compiled CompileFault) → answer ≡ Ok c → answer ≡ Err fault → ⊥
-  found-or-not c fault answer found not = cc
+  found_or_not : (c : Compiled) (fault : CompileFault) (answer : Result Compiled CompileFault) → answer ≡ Ok c → answer ≡ Err fault → ⊥
+  found_or_not c fault answer found not = cc
 
-  other-answer : (c : Compiled) (fault : CompileFault) → IsCompiledFor net intent c → IntentAnswers net intent (Err fault)
+  other_answer : (c : Compiled) (fault : CompileFault) → IsCompiledFor net intent c → IntentAnswers net intent (Err fault)
       → (IsWant (Err fault) → ⊥) → ⊥
-  other-answer c fault is answers some =
-      found-or-not c fault (Ok c) refl (one-answer-for net intent (Ok c) (Err fault) is answers (λ e. cc) some)
+  other_answer c fault is answers some =
+      found_or_not c fault (Ok c) refl (one_answer_for net intent (Ok c) (Err fault) is answers (λ e. cc) some)
 
-  by-fault : (c : Compiled) (fault : CompileFault) (output : Output) → IsCompiledFor net intent c → IntentAnswers net intent (Err fault)
+  by_fault : (c : Compiled) (fault : CompileFault) (output : Output) → IsCompiledFor net intent c → IntentAnswers net intent (Err fault)
       → NoListWants net fault output → ⊥
-  by-fault c (faults.NotFlat why) output is answers wants = other-answer c (faults.NotFlat why) is answers (λ e. cc)
-  by-fault c (faults.NoList s) output is answers wants = other-answer c (faults.NoList s) is answers (λ e. cc)
-  by-fault c (faults.TooLong d) output is answers wants = other-answer c (faults.TooLong d) is answers (λ e. cc)
-  by-fault c (faults.HopLimit d) output is answers wants = other-answer c (faults.HopLimit d) is answers (λ e. cc)
-  by-fault c faults.NoMemory output is answers wants = absurd wants
+  by_fault c (faults.NotFlat why) output is answers wants = other_answer c (faults.NotFlat why) is answers (λ e. cc)
+  by_fault c (faults.NoList s) output is answers wants = other_answer c (faults.NoList s) is answers (λ e. cc)
+  by_fault c (faults.TooLong d) output is answers wants = other_answer c (faults.TooLong d) is answers (λ e. cc)
+  by_fault c (faults.HopLimit d) output is answers wants = other_answer c (faults.HopLimit d) is answers (λ e. cc)
+  by_fault c faults.NoMemory output is answers wants = absurd wants
 
   pub none_has_list : (output : Output) → WantsNoList net intent output → ¬ HasList net (Ok intent)
-  none_has_list output w = λ has. by-fault has.0 w.0 output has.1 w.1 w.3
+  none_has_list output w = λ has. by_fault has.0 w.0 output has.1 w.1 w.3

@@ -9,72 +9,71 @@ use Rattle.srv6_rules.specs.Encapsulation.{inner_lowered, header_bytes}
 use Rattle.srv6_rules.specs.Packet.{Packet, Content, V6, V4, Unreadable, IsSpellable, bytes_of, spelling}
 use Rattle.srv6_rules.specs.Packet4.{Packet4, IsSpellable4, ttl, spelling4, lowered4}
 use Rattle.srv6_rules.specs.Policies.{Outer, pushed_round, outer_by, headend_by}
-use Rattle.srv6_rules.proofs.PublicLaws.{length-spelling, by-fits, by-payload, headend-high, ttl_lowered-length}
+use Rattle.srv6_rules.proofs.PublicLaws.{length_spelling, by_fits, by_payload, headend_high, ttl_lowered_length}
 use Rattle.net_model.specs.Network.{Network}
-use Rattle.net_model.specs.Rules.{IsNetwork}
+use Rattle.net_model.specs.NetworkRulesTerms.{IsNetwork}
 use Rattle.net_model.proofs.PublicLaws.{keeps_from_network}
 use Rattle.walk_rules.specs.Walk.{choice_at, free_walk_of}
 use Rattle.intent_reader.specs.declared.intent.Intent.{Intent}
-use Rattle.intent_reader.specs.Rules.{has_reach}
+use Rattle.intent_reader.specs.IntentRules.{has_reach}
 use Rattle.list_pack.specs.SidLists.{list_values}
 use Rattle.leg_table.specs.Realizes.{IsInner, content_lowered, encapsulation_of, encapsulated_for, headend_place, ListRealizes}
-use Rattle.leg_table.specs.Trace.{Handed, handed_over}
-use Rattle.own_hands.specs.Small.{IsSmall}
-use Rattle.own_hands.proofs.PublicLaws.{small-keeps}
+use Rattle.leg_table.specs.WalkTrace.{Handed, handed_over}
+use Rattle.binding_spec.specs.BindingSmall.{IsSmall}
+use Rattle.tunnel_stages_theory.proofs.OwnHandLaws.{small_keeps_law}
 use Rattle.path_compiler.specs.declared.compiled.Compiled.{Compiled}
-use Rattle.compile_commands.specs.Lists.{IsCompiledFor}
-use Rattle.compile_commands.specs.Lists.{BindsNothing, IsSmallFor, IsSmallIf, KeepsIf, KeepsToSteps, LooseIsSmall, trace_steps}
-use Rattle.compile_commands.proofs.PublicLaws.{loose-keeps, met-keeps, realizes-loose, realizes-own, realizes-strict}
+use Rattle.compile_commands.specs.CompiledLists.{IsCompiledFor, BindsNothing, IsSmallFor, IsSmallIf, KeepsIf, KeepsToSteps, LooseIsSmall, trace_steps}
+use Rattle.compile_commands.proofs.PublicLaws.{loose_keeps_law, met_keeps, realizes_loose, realizes_own, realizes_strict}
 use Rattle.walk_rules.specs.declared.limits.TheConstants.{MAX_STAGES}
-use Rattle.walk_commands.specs.Walk.{Enters, IsEncapsulated, KeepsTo, KeepsToAtFirst, WalksKeep, of_content, of_encapsulating, policy_of, segment_of, walk_at_headend}
-use Rattle.walk_commands.proofs.FirstHands.{own-first}
-use Rattle.walk_commands.proofs.HandingOver.{Unbound, hands-within}
-use Rattle.walk_commands.proofs.Fitting.{Passes, carried, walk-joins}
-use Rattle.walk_commands.proofs.PlainSmalls.{loose-few, loose-fits, plain-few, plain-fits}
-use Rattle.walk_commands.proofs.WalkStarts.{values-count}
+use Rattle.walk_commands.specs.WalkCommand.{Enters, IsEncapsulated, KeepsTo, KeepsToAtFirst, WalksKeep, of_content, of_encapsulating, policy_of, segment_of, walk_at_headend}
+use Rattle.walk_commands.proofs.FirstHands.{own_first}
+use Rattle.walk_commands.proofs.HandingOver.{Unbound, hands_within}
+use Rattle.walk_commands.proofs.Fitting.{Passes, carried, walk_joins}
+use Rattle.walk_commands.proofs.PlainSmalls.{loose_few, loose_fits, plain_few, plain_fits}
+use Rattle.walk_commands.proofs.WalkStarts.{values_count}
 
 -- a lowered packet is as long
-lowered4-length : (p : Packet4) → IsSpellable4 p → length (spelling4 (lowered4 p)) ≡ length (spelling4 p)
-lowered4-length p is =
+lowered4_length : (p : Packet4) → IsSpellable4 p → length (spelling4 (lowered4 p)) ≡ length (spelling4 p)
+lowered4_length p is =
     length-append (lowered4 p).header p.payload
-    ∙ ap (λ (n : ℕ). n + length p.payload) (ttl_lowered-length p.header is.least)
+    ∙ ap (λ (n : ℕ). n + length p.payload) (ttl_lowered_length p.header is.least)
     ∙ sym (length-append p.header p.payload)
 
 -- the segments are the values of the list
-same-values : (values : List ℕ) → map (λ (a : Addr). a.value) (map segment_of values) ≡ values
-same-values [] = refl
-same-values (v ∷ vs) = ap (λ (more : List ℕ). v ∷ more) (same-values vs)
+same_values : (values : List ℕ) → map (λ (a : Addr). a.value) (map segment_of values) ≡ values
+same_values [] = refl
+same_values (v ∷ vs) = ap (λ (more : List ℕ). v ∷ more) (same_values vs)
 
 module _ (net : Network) (intent : Intent) (c : Compiled) (compiled : IsCompiledFor net intent c) where
   -- so the outer packet is the encapsulation of the intent's fields with them
-  same-outer : (bytes : List ℕ) → outer_by (policy_of net intent c) intent.reduced intent.inner bytes
+  same_outer : (bytes : List ℕ) → outer_by (policy_of net intent c) intent.reduced intent.inner bytes
       ≡ pushed_round (encapsulation_of intent (list_values net c.list)) intent.inner bytes intent.hop_limit
-  same-outer bytes =
+  same_outer bytes =
       ap (λ (list : List ℕ). pushed_round (encapsulation_of intent list) intent.inner bytes intent.hop_limit)
-      (same-values (list_values net c.list))
+      (same_values (list_values net c.list))
 
   -- its header has the bytes that the compiler tells
-  same-size : header_bytes intent.reduced (length (policy_of net intent c).segments) ≡ c.header
-  same-size =
+  same_size : header_bytes intent.reduced (length (policy_of net intent c).segments) ≡ c.header
+  same_size =
       let count : length (map segment_of (list_values net c.list)) ≡ c.containers =
-      length-map (list_values net c.list) segment_of ∙ (values-count net c.list ∙ sym compiled.found.containers) in
+      length-map (list_values net c.list) segment_of ∙ (values_count net c.list ∙ sym compiled.found.containers) in
       ap (header_bytes intent.reduced) count ∙ sym compiled.found.header
 
   made : (bytes : List ℕ) (hop : ℕ) → 1 < hop → c.header + length bytes ≤ 65575
       → headend_by (policy_of net intent c) intent.inner hop bytes
       ≡ Outer (pushed_round (encapsulation_of intent (list_values net c.list)) intent.inner bytes intent.hop_limit)
   made bytes hop high small =
-      let size = same-size in
-      headend-high (policy_of net intent c) intent.inner hop bytes high
-      ∙ (by-fits (policy_of net intent c) intent.reduced intent.inner bytes (omega (arith, size, small))
-      ∙ ap Outer (same-outer bytes))
+      let size = same_size in
+      headend_high (policy_of net intent c) intent.inner hop bytes high
+      ∙ (by_fits (policy_of net intent c) intent.reduced intent.inner bytes (omega (arith, size, small))
+      ∙ ap Outer (same_outer bytes))
 
   -- an inner packet of the intent's family enters
   enters : (family : Family) (inner : Content) → intent.inner ≡ family → IsInner family inner → c.header + length (bytes_of inner) ≤ 65575
       → of_content (policy_of net intent c) inner ≡ Enters (V6 (encapsulated_for intent (list_values net c.list) inner intent.hop_limit))
   enters families.V6 (V6 p) e is small =
-      let one = length-spelling p in
-      let two = length-spelling (inner_lowered p) in
+      let one = length_spelling p in
+      let two = length_spelling (inner_lowered p) in
       let high = is.1 in
       ap (λ (f : Family). of_encapsulating (headend_by (policy_of net intent c) f p.hop_limit (spelling (inner_lowered p)))) (sym e)
       ∙ ap of_encapsulating (made (spelling (inner_lowered p)) p.hop_limit (omega (arith, high)) (omega (arith, small, one, two)))
@@ -82,31 +81,31 @@ module _ (net : Network) (intent : Intent) (c : Compiled) (compiled : IsCompiled
   enters families.V6 (Unreadable bytes reason) e is small = absurd is
   enters families.V4 (V4 p) e is small =
       let high = is.1 in
-      let same = lowered4-length p is.0 in
+      let same = lowered4_length p is.0 in
       ap (λ (f : Family). of_encapsulating (headend_by (policy_of net intent c) f (ttl p) (spelling4 (lowered4 p)))) (sym e)
       ∙ ap of_encapsulating (made (spelling4 (lowered4 p)) (ttl p) (omega (arith, high)) (omega (arith, small, same)))
   enters families.V4 (V6 p) e is small = absurd is
   enters families.V4 (Unreadable bytes reason) e is small = absurd is
 
   -- the outer packet has the header's bytes in front of those of the inner one, lowered
-  outer-length : (family : Family) (inner : Content) → intent.inner ≡ family → IsInner family inner
+  outer_length : (family : Family) (inner : Content) → intent.inner ≡ family → IsInner family inner
       → 40 + length (encapsulated_for intent (list_values net c.list) inner intent.hop_limit).payload ≡ c.header + length (bytes_of inner)
-  outer-length family inner e is =
+  outer_length family inner e is =
       let bytes : List ℕ = bytes_of (content_lowered inner) in
-      let same = ap (λ (p : Packet). 40 + length p.payload) (same-outer bytes) in
-      let whole = by-payload (policy_of net intent c) intent.reduced intent.inner bytes in
-      let size = same-size in
-      let inside : length bytes ≡ length (bytes_of inner) = lowered-length family inner is in
+      let same = ap (λ (p : Packet). 40 + length p.payload) (same_outer bytes) in
+      let whole = by_payload (policy_of net intent c) intent.reduced intent.inner bytes in
+      let size = same_size in
+      let inside : length bytes ≡ length (bytes_of inner) = lowered_length family inner is in
       omega (arith, same, whole, size, inside)
     where
-      lowered-length : (family : Family) (inner : Content) → IsInner family inner
+      lowered_length : (family : Family) (inner : Content) → IsInner family inner
           → length (bytes_of (content_lowered inner)) ≡ length (bytes_of inner)
-      lowered-length families.V6 (V6 p) is = length-spelling (inner_lowered p) ∙ sym (length-spelling p)
-      lowered-length families.V6 (V4 p) is = absurd is
-      lowered-length families.V6 (Unreadable bytes reason) is = absurd is
-      lowered-length families.V4 (V4 p) is = lowered4-length p is.0
-      lowered-length families.V4 (V6 p) is = absurd is
-      lowered-length families.V4 (Unreadable bytes reason) is = absurd is
+      lowered_length families.V6 (V6 p) is = length_spelling (inner_lowered p) ∙ sym (length_spelling p)
+      lowered_length families.V6 (V4 p) is = absurd is
+      lowered_length families.V6 (Unreadable bytes reason) is = absurd is
+      lowered_length families.V4 (V4 p) is = lowered4_length p is.0
+      lowered_length families.V4 (V6 p) is = absurd is
+      lowered_length families.V4 (Unreadable bytes reason) is = absurd is
 
 -- ---- packets that keep to the intent
 
@@ -116,36 +115,36 @@ module _ (net : Network) (intent : Intent) (c : Compiled) (choices : List ℕ) (
   small_packet = encapsulated_for intent (list_values net c.list) inner intent.hop_limit
 
   -- the outer packet of a small inner packet is spelled, so it is not too big
-  spelled-enters : IsSpellable small_packet → of_content (policy_of net intent c) inner ≡ Enters (V6 small_packet)
-  spelled-enters spelled =
-      let size = outer-length net intent c compiled intent.inner inner refl is in
+  spelled_enters : IsSpellable small_packet → of_content (policy_of net intent c) inner ≡ Enters (V6 small_packet)
+  spelled_enters spelled =
+      let size = outer_length net intent c compiled intent.inner inner refl is in
       let fits : length small_packet.payload < 65536 = spelled.payload_len in
       enters net intent c compiled intent.inner inner refl is (omega (arith, size, fits))
 
-  -- by whether a step is to reach a node
+  -- by whether a step is loose
   small_if : (b : Bool) → has_reach intent.steps ≡ b → IsSmallIf b net intent (list_values net c.list) inner intent.hop_limit
       → KeepsTo net intent c choices inner
   small_if false none small =
-      let realizes = (realizes-own net intent none c.list c.need).0 compiled.found.chosen.whole.realizes in
-      let got = small-keeps net intent (list_values net c.list) inner c.need intent.hop_limit choices (keeps_from_network net network)
+      let realizes = (realizes_own net intent none c.list c.need).0 compiled.found.chosen.whole.realizes in
+      let got = small_keeps_law net intent (list_values net c.list) inner c.need intent.hop_limit choices (keeps_from_network net network)
       realizes is compiled.within small some in
       record {
         outer = V6 small_packet;
-        enters = spelled-enters small.spelled;
+        enters = spelled_enters small.spelled;
         handed = got.handed;
         own = got.own;
-        steps = met-keeps net intent got.handed.trace got.steps;
+        steps = met_keeps net intent got.handed.trace got.steps;
         lowered = got.content;
       }
   small_if true reach small =
-      let realizes = (realizes-loose net intent reach c.list c.need).0 compiled.found.chosen.whole.realizes in
-      let got = loose-keeps net intent (trace_steps intent) c.list inner c.need intent.hop_limit choices realizes is compiled.within small
+      let realizes = (realizes_loose net intent reach c.list c.need).0 compiled.found.chosen.whole.realizes in
+      let got = loose_keeps_law net intent (trace_steps intent) c.list inner c.need intent.hop_limit choices realizes is compiled.within small
       some in
       record {
         outer = V6 small_packet;
-        enters = spelled-enters small.spelled;
+        enters = spelled_enters small.spelled;
         handed = got.handed;
-        own = own-first net (walk_at_headend net intent choices (V6 small_packet)) got.handed got.first got.unbound;
+        own = own_first net (walk_at_headend net intent choices (V6 small_packet)) got.handed got.first got.unbound;
         steps = subst (λ (b : Bool). KeepsIf b net intent got.handed.trace) (sym reach) got.keeps;
         lowered = got.content;
       }
@@ -156,7 +155,7 @@ pub small_keeps : (net : Network) (intent : Intent) (c : Compiled) (choices : Li
 small_keeps net intent c choices inner network compiled some is small =
     small_if net intent c choices inner network compiled some is (has_reach intent.steps) refl small
 
--- ---- packets that are handed over first, where no SID that binds a policy is executed
+-- ---- packets that are handed over first, where no binding SID is executed
 
 record HandsFirst (net : Network) (intent : Intent) (c : Compiled) (choices : List ℕ) (inner : Content) : Type 0 where
   fuel : ℕ
@@ -177,15 +176,15 @@ module _ (net : Network) (intent : Intent) (c : Compiled) (compiled : IsCompiled
         fuel = got.fuel;
         handed = got.handed;
         first = got.first;
-        keeps = met-keeps net intent got.handed.trace got.steps;
+        keeps = met_keeps net intent got.handed.trace got.steps;
         content = got.content;
         unbound = got.unbound;
       }
 
-  -- where a step is to reach a node
+  -- where a step is loose
   loose_first : has_reach intent.steps ≡ true → HandsFirst net intent c choices inner
   loose_first reach =
-      let realizes = (realizes-loose net intent reach c.list c.need).0 compiled.found.chosen.whole.realizes in
+      let realizes = (realizes_loose net intent reach c.list c.need).0 compiled.found.chosen.whole.realizes in
       let got = realizes.reaches.always inner is intent.hop_limit compiled.within choices some in
       record {
         fuel = got.fuel;
@@ -199,23 +198,23 @@ module _ (net : Network) (intent : Intent) (c : Compiled) (compiled : IsCompiled
   -- in a network without binding SIDs
   plain_if : BindsNothing net → (b : Bool) → has_reach intent.steps ≡ b → HandsFirst net intent c choices inner
   plain_if nothing false none =
-      strict_first ((realizes-strict net intent nothing none c.list c.need).0 compiled.found.chosen.whole.realizes)
+      strict_first ((realizes_strict net intent nothing none c.list c.need).0 compiled.found.chosen.whole.realizes)
   plain_if nothing true reach = loose_first reach
 
   plain_first : BindsNothing net → HandsFirst net intent c choices inner
   plain_first nothing = plain_if nothing (has_reach intent.steps) refl
 
--- no packet on the way is longer than at the headend, and the first hand-over is the own one
+-- no packet on the way is longer than at the headend, and the first hand_over is the own one
 first_keeps : (net : Network) (intent : Intent) (c : Compiled) (choices : List ℕ) (inner : Content) → intent.hop_limit < 2 ^ 8
     → IsCompiledFor net intent c → IsEncapsulated net intent c inner → HandsFirst net intent c choices inner
     → KeepsToAtFirst net intent c choices inner
 first_keeps net intent c choices inner byte compiled is got =
     let len : ℕ = c.header + length (bytes_of inner) in
     let packet : Packet = encapsulated_for intent (list_values net c.list) inner intent.hop_limit in
-    let size = outer-length net intent c compiled intent.inner inner refl is.is_inner in
+    let size = outer_length net intent c compiled intent.inner inner refl is.is_inner in
     let first : handed_over net (walk_at_headend net intent choices (V6 packet)) ≡ Some got.handed
-    = walk-joins net len (choice_at choices) MAX_STAGES _ (V6 packet) 0 got.handed
-    (hands-within net (choice_at choices) got.fuel MAX_STAGES _ (V6 packet) 0 got.handed got.first got.unbound (omega (arith, byte)))
+    = walk_joins net len (choice_at choices) MAX_STAGES _ (V6 packet) 0 got.handed
+    (hands_within net (choice_at choices) got.fuel MAX_STAGES _ (V6 packet) 0 got.handed got.first got.unbound (omega (arith, byte)))
     (got.unbound, carried net len intent got.handed.trace got.keeps is.goes_over)
     (omega (arith, size)) in
     record {
@@ -223,7 +222,7 @@ first_keeps net intent c choices inner byte compiled is got =
         outer = V6 packet;
         enters = enters net intent c compiled intent.inner inner refl is.is_inner is.small;
         handed = got.handed;
-        own = own-first net (walk_at_headend net intent choices (V6 packet)) got.handed first got.unbound;
+        own = own_first net (walk_at_headend net intent choices (V6 packet)) got.handed first got.unbound;
         steps = got.keeps;
         lowered = got.content;
       };
@@ -261,7 +260,7 @@ module _ (net : Network) (intent : Intent) (c : Compiled) (inner : Content) (byt
   packet = encapsulated_for intent (list_values net c.list) inner intent.hop_limit
 
   size : 40 + length packet.payload ≤ len
-  size = let same = outer-length net intent c compiled intent.inner inner refl is.is_inner in omega (arith, same)
+  size = let same = outer_length net intent c compiled intent.inner inner refl is.is_inner in omega (arith, same)
 
   passes : (choices : List ℕ) (some : 0 < length choices) → Passes net len (choice_at choices) (firsts choices some).handed
   passes choices some =
@@ -272,16 +271,16 @@ module _ (net : Network) (intent : Intent) (c : Compiled) (inner : Content) (byt
       ≡ Some (firsts choices some).handed
   early choices some =
       let g = firsts choices some in
-      hands-within net (choice_at choices) g.fuel 9999 (headend_place intent) (V6 packet) 0 g.handed g.first g.unbound (omega (arith, byte))
+      hands_within net (choice_at choices) g.fuel 9999 (headend_place intent) (V6 packet) 0 g.handed g.first g.unbound (omega (arith, byte))
 
   own_small : BindsNothing net → IsSmall net intent (list_values net c.list) inner intent.hop_limit
   own_small none = record {
     spelled = spelled;
     fits = λ choices fuel some.
-        plain-fits net len (choice_at choices) (Some (headend_place intent)) (V6 packet) 0 9999 (firsts choices some).handed
+        plain_fits net len (choice_at choices) (Some (headend_place intent)) (V6 packet) 0 9999 (firsts choices some).handed
         (early choices some) none (passes choices some) size fuel;
     few = λ choices fuel some.
-        let few = plain-few net len (choice_at choices) (Some (headend_place intent)) (V6 packet) 0 9999 (firsts choices some).handed
+        let few = plain_few net len (choice_at choices) (Some (headend_place intent)) (V6 packet) 0 9999 (firsts choices some).handed
         (early choices some) none fuel in
         omega (arith, few);
   }
@@ -290,24 +289,24 @@ module _ (net : Network) (intent : Intent) (c : Compiled) (inner : Content) (byt
   first_small = record {
     spelled = spelled;
     fits = λ choices fuel some.
-        loose-fits net len (choice_at choices) (Some (headend_place intent)) (V6 packet) 0 9999 (firsts choices some).handed
+        loose_fits net len (choice_at choices) (Some (headend_place intent)) (V6 packet) 0 9999 (firsts choices some).handed
         (early choices some) (passes choices some) size fuel;
     few = λ choices fuel some.
-        let few = loose-few net len (choice_at choices) (Some (headend_place intent)) (V6 packet) 0 9999 (firsts choices some).handed
+        let few = loose_few net len (choice_at choices) (Some (headend_place intent)) (V6 packet) 0 9999 (firsts choices some).handed
         (early choices some) fuel in
         omega (arith, few);
   }
 
-  small-if : BindsNothing net → (b : Bool) → IsSmallIf b net intent (list_values net c.list) inner intent.hop_limit
-  small-if none false = own_small none
-  small-if none true = first_small
+  small_if_law : BindsNothing net → (b : Bool) → IsSmallIf b net intent (list_values net c.list) inner intent.hop_limit
+  small_if_law none false = own_small none
+  small_if_law none true = first_small
 
 pub plain_small : (net : Network) (intent : Intent) (c : Compiled) (inner : Content) → BindsNothing net → intent.hop_limit < 2 ^ 8
     → IsCompiledFor net intent c → IsEncapsulated net intent c inner
     → IsSpellable (encapsulated_for intent (list_values net c.list) inner intent.hop_limit)
     → IsSmallFor net intent (list_values net c.list) inner intent.hop_limit
 plain_small net intent c inner none byte compiled is spelled =
-    small-if net intent c inner byte compiled is spelled
+    small_if_law net intent c inner byte compiled is spelled
     (λ choices some. plain_first net intent c compiled inner is.is_inner choices some none) none (has_reach intent.steps)
 
 pub loose_small : (net : Network) (intent : Intent) (c : Compiled) (inner : Content) → IsTrue (has_reach intent.steps)

@@ -4,37 +4,37 @@ use Rattle.std.specs.Prelude.{nat_le, nat_lt}
 use Rattle.std.proofs.lemmas.Bool.{and_parts, leb-true, ltb-true}
 use Rattle.std.proofs.lemmas.List.{length-map}
 use Rattle.v6_addr.specs.declared.address.Addr.{Addr}
-use Rattle.srv6_rules.specs.Policies.{IsPolicy}
+use Rattle.srv6_rules.specs.PoliciesTerms.{IsPolicy}
 use Rattle.net_model.specs.Network.{Network}
 use Rattle.intent_reader.specs.declared.intent.Intent.{Intent}
-use Rattle.intent_reader.specs.Rules.{IsIntent, is_intent}
-use Rattle.list_places.specs.Lists.{IsLegal}
+use Rattle.intent_reader.specs.IntentRulesTerms.{IsIntent, is_intent}
+use Rattle.sid_list_spec.specs.SegmentLists.{IsLegal}
 use Rattle.list_pack.specs.declared.types.Container.{Container}
 use Rattle.list_pack.specs.SidLists.{list_in, list_values}
 use Rattle.path_compiler.specs.declared.compiled.Compiled.{Compiled}
-use Rattle.compile_commands.specs.Lists.{IsCompiledFor}
-use Rattle.run_commands.specs.Entry.{AllEnterIn, EntersIn}
+use Rattle.compile_commands.specs.CompiledLists.{IsCompiledFor}
+use Rattle.run_commands.specs.AdmissionTerms.{AllEnterIn, EntersIn}
 use Rattle.walk_commands.specs.declared.headend.Headend.{Headend}
-use Rattle.walk_commands.specs.Walk.{AtHeadend, NotRead, Dropped, Enters, at_headend, entry_at_headend, entry_of, headend_of, policy_of, segment_of}
+use Rattle.walk_commands.specs.WalkCommand.{AtHeadend, NotRead, Dropped, Enters, at_headend, admission_at_headend, admission_of, headend_of, policy_of, segment_of}
 
 -- ---- the segments
 
-pub addresses-of : (values : List ℕ) (segments : List Addr) → map (λ (a : Addr). a.value) segments ≡ values
+pub addresses_of : (values : List ℕ) (segments : List Addr) → map (λ (a : Addr). a.value) segments ≡ values
     → segments ≡ map segment_of values
-addresses-of [] [] e = refl
-addresses-of (v ∷ vs) [] e = absurd (cc)
-addresses-of [] (a ∷ more) e = absurd (cc)
-addresses-of (v ∷ vs) (a ∷ more) e =
-    let first : a.value ≡ v = head-same a.value v (map (λ (x : Addr). x.value) more) vs e in
-    let rest : map (λ (x : Addr). x.value) more ≡ vs = tail-same a.value v (map (λ (x : Addr). x.value) more) vs e in
+addresses_of [] [] e = refl
+addresses_of (v ∷ vs) [] e = absurd (cc)
+addresses_of [] (a ∷ more) e = absurd (cc)
+addresses_of (v ∷ vs) (a ∷ more) e =
+    let first : a.value ≡ v = head_same a.value v (map (λ (x : Addr). x.value) more) vs e in
+    let rest : map (λ (x : Addr). x.value) more ≡ vs = tail_same a.value v (map (λ (x : Addr). x.value) more) vs e in
     ap (λ (x : ℕ). segment_of x ∷ more) first
-    ∙ ap (λ (xs : List Addr). segment_of v ∷ xs) (addresses-of vs more rest)
+    ∙ ap (λ (xs : List Addr). segment_of v ∷ xs) (addresses_of vs more rest)
   where
-    head-same : (x y : ℕ) (xs ys : List ℕ) → Path (List ℕ) (x ∷ xs) (y ∷ ys) → x ≡ y
-    head-same x y xs ys h = cc
+    head_same : (x y : ℕ) (xs ys : List ℕ) → Path (List ℕ) (x ∷ xs) (y ∷ ys) → x ≡ y
+    head_same x y xs ys h = cc
 
-    tail-same : (x y : ℕ) (xs ys : List ℕ) → Path (List ℕ) (x ∷ xs) (y ∷ ys) → xs ≡ ys
-    tail-same x y xs ys h = cc
+    tail_same : (x y : ℕ) (xs ys : List ℕ) → Path (List ℕ) (x ∷ xs) (y ∷ ys) → xs ≡ ys
+    tail_same x y xs ys h = cc
 
 -- the rules of an intent that the headend asks for
 intent_bounds : (net : Network) (intent : Intent) → IsIntent net intent
@@ -52,21 +52,21 @@ intent_bounds net intent h =
     )
 
 -- a legal list has a container
-some-containers : (net : Network) (list : List Container) → IsLegal (list_in net list) → 0 < length list
-some-containers net [] legal = absurd legal
-some-containers net (c ∷ cs) legal = omega arith
+some_containers : (net : Network) (list : List Container) → IsLegal (list_in net list) → 0 < length list
+some_containers net [] legal = absurd legal
+some_containers net (c ∷ cs) legal = omega arith
 
-pub values-count : (net : Network) (list : List Container) → length (list_values net list) ≡ length list
-values-count net list = length-map (list_in net list) _ ∙ length-map list _
+pub values_count : (net : Network) (list : List Container) → length (list_values net list) ≡ length list
+values_count net list = length-map (list_in net list) _ ∙ length-map list _
 
 -- a compiled list makes a policy
 list_fits : (net : Network) (intent : Intent) (c : Compiled) → IsIntent net intent → IsCompiledFor net intent c
     → IsPolicy (policy_of net intent c)
 list_fits net intent c is compiled =
     let bounds = intent_bounds net intent is in
-    let some = some-containers net c.list compiled.found.chosen.whole.legal.rules in
+    let some = some_containers net c.list compiled.found.chosen.whole.legal.rules in
     let count : length (map segment_of (list_values net c.list)) ≡ length c.list
-    = length-map (list_values net c.list) segment_of ∙ values-count net c.list in
+    = length-map (list_values net c.list) segment_of ∙ values_count net c.list in
     let containers = compiled.found.containers in
     let short = compiled.short in
     let most = bounds.1 in
@@ -83,15 +83,15 @@ pub headend_ready : (net : Network) (intent : Intent) (c : Compiled) (h : Headen
 headend_ready net intent c h is compiled same =
     subst (λ (h : Headend). IsPolicy h.policy) (sym same) (list_fits net intent c is compiled)
 
-enters-within : (net : Network) (node : ℕ) (at : AtHeadend) → node < length net.nodes → EntersIn net (entry_of node at)
-enters-within net node (NotRead cause) there = tt
-enters-within net node (Dropped reason) there = there
-enters-within net node (Enters content) there = (there, tt)
+enters_within : (net : Network) (node : ℕ) (at : AtHeadend) → node < length net.nodes → EntersIn net (admission_of node at)
+enters_within net node (NotRead cause) there = tt
+enters_within net node (Dropped reason) there = there
+enters_within net node (Enters content) there = (there, tt)
 
 pub headend_within : (net : Network) (intent : Intent) (c : Compiled) (h : Headend) → IsIntent net intent → h ≡ headend_of net intent c
-    → AllEnterIn net (entry_at_headend h)
+    → AllEnterIn net (admission_at_headend h)
 headend_within net intent c h is same body =
     let there : h.node < length net.nodes = subst (λ (h : Headend). h.node < length net.nodes) (sym same) (intent_bounds net intent is).0 in
-    enters-within net h.node (at_headend h.policy h.inner body) there
+    enters_within net h.node (at_headend h.policy h.inner body) there
 
-pub ruleset segments = (addresses-of)
+pub ruleset segments = (addresses_of)

@@ -1,3 +1,4 @@
 pub mod Headend
-pub mod Walk
-pub mod Lists
+pub mod WalkCommand
+pub mod WalkCommandTerms
+pub mod WalkLists

@@ -1,14 +1,14 @@
 //! The command `walk`, and what becomes of packets at the headend of an intent.
 //!
-//! `specs/Walk.antt` has its words, its shape and its output, and what a walk keeps to.
+//! `specs/WalkCommand.antt` has its words, its spec and its output, and what a walk keeps to.
 #![tactic(auto)]
 
 pub mod headend;
-mod inner;
+mod inner_packets;
 pub mod laws;
-pub mod lists;
-pub mod start;
-pub mod walk;
+pub mod opening;
+pub mod walk_command;
+pub mod walk_lists;
 
 pub use headend::Headend;
-pub use start::{Start, headend_of, start_of_intent};
+pub use opening::{Opening, headend_of, start_of_intent};

@@ -7,23 +7,23 @@ use Rattle.srv6_rules.specs.declared.sid.Behaviour.{Behaviour}
 use Rattle.srv6_rules.specs.declared.family.Family.TheVariants as families
 use Rattle.srv6_rules.specs.Behaviours.{behaviour_reduces}
 use Rattle.srv6_rules.specs.Packet.{Packet, IsSpellable, spelling}
-use Rattle.srv6_rules.specs.Encapsulation.{IsSpellableEncapsulation}
+use Rattle.srv6_rules.specs.EncapsulationTerms.{IsSpellableEncapsulation}
 use Rattle.srv6_rules.specs.Policies.{encapsulation_by}
-use Rattle.srv6_rules.proofs.PublicLaws.{all-spelling, round-payload, round-spellable}
+use Rattle.srv6_rules.proofs.PublicLaws.{all_spelling, round_payload, round_spellable}
 use Rattle.net_model.specs.declared.parts.NamedPolicy.{NamedPolicy}
-use Rattle.net_model.specs.Keeps.{KeepsPolicy}
+use Rattle.net_model.specs.NetworkKeeps.{KeepsPolicy}
 use Rattle.walk_rules.proofs.Binding.{outer_of}
 
-all-values : (addresses : List Addr) → ((i : ℕ) (a : Addr) → slice_get addresses i ≡ Some a → a.value < 2 ^ 128)
+all_values : (addresses : List Addr) → ((i : ℕ) (a : Addr) → slice_get addresses i ≡ Some a → a.value < 2 ^ 128)
     → All (λ (n : ℕ). n < 2 ^ 128) (map (λ (a : Addr). a.value) addresses)
-all-values [] each = All-nil (λ (n : ℕ). n < 2 ^ 128)
-all-values (a ∷ rest) each =
+all_values [] each = All-nil (λ (n : ℕ). n < 2 ^ 128)
+all_values (a ∷ rest) each =
     All-cons (λ (n : ℕ). n < 2 ^ 128) a.value (map (λ (x : Addr). x.value) rest) (each 0 a refl)
-    (all-values rest (λ i x there. each (suc i) x there))
+    (all_values rest (λ i x there. each (suc i) x there))
 
-encapsulation-spellable : (named : NamedPolicy) (reduced : Bool) → KeepsPolicy named
+encapsulation_spellable : (named : NamedPolicy) (reduced : Bool) → KeepsPolicy named
     → IsSpellableEncapsulation (encapsulation_by named.policy reduced)
-encapsulation-spellable named reduced keeps =
+encapsulation_spellable named reduced keeps =
     let some = keeps.some in
     let most = keeps.at_most in
     let class = keeps.traffic_class in
@@ -35,14 +35,14 @@ encapsulation-spellable named reduced keeps =
       source = keeps.source;
       some = omega arith;
       most = omega arith;
-      segments = all-values named.policy.segments keeps.segment;
+      segments = all_values named.policy.segments keeps.segment;
     }
 
-pub outer-spellable : (named : NamedPolicy) (b : Behaviour) (q : Packet) → KeepsPolicy named → IsSpellable q
+pub outer_spellable : (named : NamedPolicy) (b : Behaviour) (q : Packet) → KeepsPolicy named → IsSpellable q
     → length (outer_of named b q).payload ≤ 65535 → IsSpellable (outer_of named b q)
-outer-spellable named b q keeps ok fits =
+outer_spellable named b q keeps ok fits =
     let e = encapsulation_by named.policy (behaviour_reduces b) in
     let hop = keeps.hop_limit in
-    let payload = round-payload e families.V6 (spelling q) named.policy.hop_limit in
-    round-spellable e families.V6 (spelling q) named.policy.hop_limit (encapsulation-spellable named (behaviour_reduces b) keeps)
-    (omega arith) (all-spelling q ok) (omega arith)
+    let payload = round_payload e families.V6 (spelling q) named.policy.hop_limit in
+    round_spellable e families.V6 (spelling q) named.policy.hop_limit (encapsulation_spellable named (behaviour_reduces b) keeps)
+    (omega arith) (all_spelling q ok) (omega arith)

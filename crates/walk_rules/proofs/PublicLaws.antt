@@ -1,16 +1,16 @@
 -- The lemmas that crates above may cite: each proves a law that a public function has for its contract.
-pub use Rattle.walk_rules.proofs.Lookups.{lookup-there}
-pub use Rattle.walk_rules.proofs.Routing.{way-from, way-into}
-pub use Rattle.walk_rules.proofs.Sending.{sent-low, sent-high, sent4-low, sent4-high}
-pub use Rattle.walk_rules.proofs.Stages.{free-choice}
-pub use Rattle.walk_rules.proofs.Choices.{free-unique, free-named, decisions-one, decisions-zero}
-pub use Rattle.walk_rules.proofs.Outcomes.{free-member, free-each, free-names, free-drop, free-local, free-tells, address-quiet, sid-quiet}
-pub use Rattle.walk_rules.proofs.Executions.{free-again, free-hand, free-less, free-pushes}
-pub use Rattle.walk_rules.proofs.Judged.{over_link-fits, over_link-long, judged-each, judged-fits, judged-long, judged-other, step-each, step-fits, step-long, step-other, step-named, step-member, step-drop, step-local, step-tells, step-again, step-hand, step-less, step-pushes, step-content, step-back, stage-choice, stage-member, stage-each, stage-unique}
-pub use Rattle.walk_rules.proofs.Binding.{outer_of, onward-each}
-pub use Rattle.walk_rules.proofs.Outers.{outer-spellable}
-pub use Rattle.walk_rules.proofs.Places.{hops-start, stage-step, step-place, sid-how, exposed-how}
-pub use Rattle.walk_rules.proofs.Contents.{next_place-family}
-pub use Rattle.walk_rules.proofs.Walks.{walk_by-suc, walk_by-zero, walk_by-none, walk_of-zero, walk_of-none, walk_of-suc, walk_of-add_one, length-walk_of, take-walk_of, walk_of-add, walk_of-ended, walk_of-is, walk_of-one}
-pub use Rattle.walk_rules.proofs.Ends.{walk_of-stages, end_of-goes_on, walk_of-short_end}
-pub use Rattle.walk_rules.proofs.Picks.{decisions-few, walk_of-picks, walk_of-list}
+pub use Rattle.walk_rules.proofs.Lookups.{lookup_there}
+pub use Rattle.walk_rules.proofs.Routing.{way_from, way_into}
+pub use Rattle.walk_rules.proofs.Sending.{sent_low, sent_high, sent4_low, sent4_high}
+pub use Rattle.walk_rules.proofs.WalkStages.{free_choice}
+pub use Rattle.walk_rules.proofs.WalkChoices.{free_unique, free_named, decisions_one, decisions_zero}
+pub use Rattle.walk_rules.proofs.Outcomes.{free_member, free_each, free_names, free_drop, free_local, free_tells, address_quiet, sid_quiet}
+pub use Rattle.walk_rules.proofs.WalkExecutions.{free_again, free_hand, free_less, free_pushes}
+pub use Rattle.walk_rules.proofs.Judged.{over_link_fits, over_link_long, judged_each, judged_fits, judged_long, judged_other, step_each, step_fits, step_long, step_other, step_named, step_member, step_drop, step_local, step_tells, step_again, step_hand, step_less, step_pushes, step_content, step_back, stage_choice, stage_member, stage_each, stage_unique}
+pub use Rattle.walk_rules.proofs.Binding.{outer_of, onward_each}
+pub use Rattle.walk_rules.proofs.Outers.{outer_spellable}
+pub use Rattle.walk_rules.proofs.WalkPlaces.{hops_start, stage_step, step_place, sid_how, exposed_how}
+pub use Rattle.walk_rules.proofs.WalkContents.{next_place_family}
+pub use Rattle.walk_rules.proofs.WalkWalks.{walk_by_suc, walk_by_zero, walk_by_none, walk_of_zero, walk_of_none, walk_of_suc, walk_of_add_one, length_walk_of, take_walk_of, walk_of_add, walk_of_ended, walk_of_is, walk_of_one}
+pub use Rattle.walk_rules.proofs.WalkEnds.{walk_of_stages, end_of_goes_on, walk_of_short_end}
+pub use Rattle.walk_rules.proofs.Picks.{decisions_few, walk_of_picks, walk_of_list}

@@ -1,3 +1,4 @@
+-- Need not be believed: helps proofs and other laws.
 -- One node's treatment of one packet, as a relation by cases: which outcomes there are, and the packet and the error
 -- after each (RFC 8200, RFC 8754 and RFC 8986 by their sections as in `Treatment`).
 use Rattle.std.specs.Prelude.{◌≡◌, ◌⊎◌, ℕ, ◌<◌, ◌≤◌, Bool, true, false, is_some, List, length, slice_get, Option, Some, None, Contains}
@@ -13,7 +14,7 @@ use Rattle.walk_rules.specs.declared.place.How.TheVariants.{Arrived, Submitted, 
 use Rattle.walk_rules.specs.declared.place.Place.{Place}
 use Rattle.walk_rules.specs.declared.place.Outcome.{Outcome}
 use Rattle.walk_rules.specs.declared.place.Outcome.TheVariants as outcomes
-use Rattle.walk_rules.specs.Way.{Way, Away, Over, Own, Into, way_of}
+use Rattle.walk_rules.specs.Way.{Way, NoWay, Over, Own, Into, way_of}
 use Rattle.walk_rules.specs.Treatment.{Gave, error_of, lowered, ttl_lowered, mtu_at, own_len, treated_at_address, treated_in}
 
 -- an outcome, the packet after it and the error are those that were given
@@ -51,14 +52,14 @@ Sends4 net node set lower p outcomes.Local after error = ⊥
 
 -- at an address and at a SID there is one outcome
 abbrev pub Treats : Network → ℕ → Way → Packet → Outcome → Content → Option Packet → Type 0
-Treats net node (Away reason) p outcome after error = Drops net node reason 0 (V6 p) outcome after error
+Treats net node (NoWay reason) p outcome after error = Drops net node reason 0 (V6 p) outcome after error
 Treats net node (Over set lower) p outcome after error = Sends net node set lower p outcome after error
 Treats net node Own p outcome after error = GivesOutcome (treated_at_address net node p (at_address p)) outcome after error
 Treats net node (Into n) p outcome after error = GivesOutcome (treated_in net node n (slice_get net.sids n) p) outcome after error
 
 -- an IPv4 packet is sent on, or dropped
 abbrev pub Treats4 : Network → ℕ → Way → Packet4 → Outcome → Content → Option Packet → Type 0
-Treats4 net node (Away reason) p outcome after error = Drops net node reason 0 (V4 p) outcome after error
+Treats4 net node (NoWay reason) p outcome after error = Drops net node reason 0 (V4 p) outcome after error
 Treats4 net node (Over set lower) p outcome after error = Sends4 net node set lower p outcome after error
 Treats4 net node Own p outcome after error = Drops net node reasons.NoRoute 0 (V4 p) outcome after error
 Treats4 net node (Into n) p outcome after error = Drops net node reasons.NoRoute 0 (V4 p) outcome after error

@@ -21,7 +21,7 @@ use Rattle.walk_rules.specs.declared.place.How.TheVariants.{Arrived, Submitted, 
 use Rattle.walk_rules.specs.declared.place.Place.{Place}
 use Rattle.walk_rules.specs.declared.place.Outcome.{Outcome}
 use Rattle.walk_rules.specs.declared.place.Outcome.TheVariants as outcomes
-use Rattle.walk_rules.specs.Way.{Way, Away, Over, Own, Into, way_of}
+use Rattle.walk_rules.specs.Way.{Way, NoWay, Over, Own, Into, way_of}
 
 abbrev pub allow_of : Option Node → List ℕ
 allow_of None = []
@@ -120,7 +120,7 @@ abbrev pub exposed_from : ℕ → Behaviour → How
 exposed_from n b = way_on n (behaviour_takes_links b) false (behaviour_table b)
 
 -- what comes of a packet at SID n that goes on after a policy's header: it stays at the node after that header; where it would be
--- too long it is dropped as it came (own rule). Pushing lowers no hop limit, so the last case doesn't come
+-- too long it is dropped as it came. Pushing lowers no hop limit, so the last case doesn't come
 abbrev pub pushed_at_sid : Network → ℕ → ℕ → Behaviour → Packet → Encapsulating → Gave
 pushed_at_sid net node n b p (Outer outer) = goes (outcomes.Again n (onward_from n b)) (V6 outer)
 pushed_at_sid net node n b p (TooBig length) = dropped net node reasons.TooBig 0 (V6 p)
@@ -151,7 +151,7 @@ treated_in net node n None p = dropped net node reasons.NoRoute 0 (V6 p)
 treated_in net node n (Some s) p = treated_at_sid net node n s.behaviour p (at_sid s (allow_of (slice_get net.nodes node)) p)
 
 abbrev pub treated : Network → ℕ → Way → Packet → ℕ → Gave
-treated net node (Away reason) p choice = dropped net node reason 0 (V6 p)
+treated net node (NoWay reason) p choice = dropped net node reason 0 (V6 p)
 treated net node (Over set lower) p choice = sent net node set lower p choice
 treated net node Own p choice = treated_at_address net node p (at_address p)
 treated net node (Into n) p choice = treated_in net node n (slice_get net.sids n) p
@@ -159,7 +159,7 @@ treated net node (Into n) p choice = treated_in net node n (slice_get net.sids n
 -- an IPv4 packet on a way: nodes have no address and no SID among their IPv4 entries, so the two cases of the data that cannot
 -- come are as where a packet has no way
 abbrev pub treated4 : Network → ℕ → Way → Packet4 → ℕ → Gave
-treated4 net node (Away reason) p choice = dropped net node reason 0 (V4 p)
+treated4 net node (NoWay reason) p choice = dropped net node reason 0 (V4 p)
 treated4 net node (Over set lower) p choice = sent4 net node set lower p choice
 treated4 net node Own p choice = dropped net node reasons.NoRoute 0 (V4 p)
 treated4 net node (Into n) p choice = dropped net node reasons.NoRoute 0 (V4 p)

@@ -4,7 +4,7 @@
 ghost use Rattle.std.specs.Prelude.{◌≡◌};
 ghost use Rattle.walk_rules.specs.declared.limits.TheConstants.{MAX_STAGES};
 
-/// A walk has at most 10,000 stages. (own rule)
+/// A walk has at most 10,000 stages.
 pub fn limits_have_their_figures()
     ensures { MAX_STAGES ≡ 10000 }
 {}

@@ -2,21 +2,25 @@
 
 ghost use Rattle.std.specs.Prelude.{◌≡◌, ◌≢◌, ℕ, ◌+◌, ◌<◌, ◌≤◌, ◌⊎◌, ◌↔◌, Bool, true, false, is_some, List, [], Option, ◌∷◌, ◌++◌, length, slice_get, take, Contains, IsSome};
 ghost use Rattle.net_model.specs.Best.{lookup_of};
-ghost use Rattle.net_model.specs.Keeps.{Keeps, StartsAt};
+ghost use Rattle.net_model.specs.NetworkKeeps.{Keeps, StartsAt};
 ghost use Rattle.net_model.specs.Network.{Network};
 ghost use Rattle.net_model.specs.declared.parts.Link.{Link};
-ghost use Rattle.srv6_rules.specs.Packet.{Content, IsContent, Packet, V4, V6, bytes_of, read_as};
+ghost use Rattle.srv6_rules.specs.Packet.{Content, Packet, V4, V6, bytes_of, read_as};
+ghost use Rattle.srv6_rules.specs.PacketTerms.{IsContent};
 ghost use Rattle.srv6_rules.specs.Packet4.{IsSpellable4, Packet4, total_len, ttl};
 ghost use Rattle.srv6_rules.specs.Behaviours.{behaviour_policy};
 ghost use Rattle.srv6_rules.specs.declared.sid.Behaviour.TheVariants.{B6, B6Red, Dt4, Dt46, Dt6, Dx4, Dx6, End, EndT, EndX};
 ghost use Rattle.srv6_rules.specs.declared.family.Family.{Family};
 ghost use Rattle.srv6_rules.specs.declared.reason.Reason.{Reason};
 ghost use Rattle.srv6_rules.specs.declared.sid.SidEntry.{SidEntry};
-ghost use Rattle.walk_rules.specs.Laws.{AreStages, Executes, IsDeliveredBehindUsp, IsLoweredByOne, PushesOne, TakenApart, TellsOfError, family_after, hops_at};
+ghost use Rattle.walk_rules.specs.WalkLaws.{hops_at};
+ghost use Rattle.walk_rules.specs.WalkLawsTerms.{AreStages, Executes, IsDeliveredBehindUsp, IsLoweredByOne, PushesOne, TakenApart, TellsOfError, family_after};
 ghost use Rattle.walk_rules.specs.Relation.{IsFreeStage, IsHow, IsPlace, IsStage};
 ghost use Rattle.walk_rules.specs.Treatment.{dropped, exposed_from, free_step_of, goes, lowered, member_of, mtu_at, onward_from, over_link, own_len, sent, sent4, step_of, ttl_lowered};
-ghost use Rattle.walk_rules.specs.Walk.{IsWalk, Stage, choice_at, content_after, decisions, end_of, next_place, place_after, stage_of, taken_after, walk_of, walk_on};
-ghost use Rattle.walk_rules.specs.Way.{Into, IsThere, IsWayFrom, StandsAt, way_of};
+ghost use Rattle.walk_rules.specs.Walk.{Stage, choice_at, decisions, end_of, next_place, place_after, stage_of, walk_of};
+ghost use Rattle.walk_rules.specs.WalkTerms.{IsWalk, content_after, taken_after, walk_on};
+ghost use Rattle.walk_rules.specs.Way.{Into, way_of};
+ghost use Rattle.walk_rules.specs.WayTerms.{IsThere, IsWayFrom, StandsAt};
 ghost use Rattle.walk_rules.specs.declared.place.Ended.{Ended};
 ghost use Rattle.walk_rules.specs.declared.place.How.{How};
 ghost use Rattle.walk_rules.specs.declared.place.How.TheVariants.{Arrived, Submitted, Through};
@@ -26,7 +30,7 @@ ghost use Rattle.walk_rules.specs.declared.place.Place.{Place};
 use crate::limits::MAX_STAGES;
 
 /// What a look-up finds is there, and the node's; the SID that a way leads into stands at the node,
-/// and from a place of a network the links that it goes over are a set of the node's (own rule).
+/// and from a place of a network the links that it goes over are a set of the node's.
 pub fn a_way_leads_from_its_place()
     ensures hit { (net : Network) (node table : ℕ) (family : Family) (destination : ℕ) →
         IsThere net node (lookup_of net node table family destination) }
@@ -80,7 +84,7 @@ pub fn a_long_packet_is_not_sent()
 {}
 
 /// A walk from a place is the stage there, and then the walk from the next place; a walk from no
-/// place, and one that may have no stages, has none (own rule).
+/// place, and one that may have no stages, has none.
 pub fn a_walk_unfolds()
     ensures stage { (more : ℕ) (net : Network) (place : Place) (content : Content) →
         (pick : ℕ → ℕ) (taken : ℕ) →
@@ -93,7 +97,7 @@ pub fn a_walk_unfolds()
         walk_of 0 net place content pick taken ≡ [] }
 {}
 
-/// Each outcome that there is at a place is the one of some choice (own rule).
+/// Each outcome that there is at a place is the one of some choice.
 pub fn an_outcome_has_a_choice()
     ensures { (net : Network) (place : Place) (content : Content) →
         (outcome : Outcome) (after : Content) (error : Option Packet) →
@@ -103,7 +107,7 @@ pub fn an_outcome_has_a_choice()
         ≡ record { outcome = outcome; after = after; error = error }) }
 {}
 
-/// Each choice has an outcome that there is at the place (own rule).
+/// Each choice has an outcome that there is at the place.
 pub fn a_choice_has_an_outcome()
     ensures { (net : Network) (place : Place) (content : Content) (choice : ℕ) →
         Keeps net → IsPlace net place →
@@ -113,7 +117,7 @@ pub fn a_choice_has_an_outcome()
 
 /// A stage sends on members of its set of equal next hops alone. Where it would send on one if no
 /// link had an MTU, each member has its outcome: Send where the packet goes over that link, and
-/// else the drop with its MTU. Each member is there and starts at the node (own rule).
+/// else the drop with its MTU. Each member is there and starts at the node.
 pub fn each_next_hop_is_an_outcome()
     ensures member { (net : Network) (place : Place) (content : Content) (link : ℕ) →
         (after : Content) (error : Option Packet) →
@@ -131,7 +135,7 @@ pub fn each_next_hop_is_an_outcome()
 {}
 
 /// A stage has several outcomes only where a set of equal next hops has several members, and each
-/// is that of its member (own rule).
+/// is that of its member.
 pub fn outcomes_differ_in_the_member()
     ensures { (net : Network) (place : Place) (content : Content) →
         (one : Outcome) (after : Content) (error : Option Packet) →
@@ -142,7 +146,7 @@ pub fn outcomes_differ_in_the_member()
 {}
 
 /// The choice tells at most the member that a stage takes, which is the one that it names: choices
-/// that name one member give one stage (own rule).
+/// that name one member give one stage.
 pub fn only_the_member_depends_on_the_choice()
     ensures named { (net : Network) (place : Place) (content : Content) (choice link : ℕ) →
         (step_of net place content choice).outcome ≡ Outcome.Send link →
@@ -154,7 +158,7 @@ pub fn only_the_member_depends_on_the_choice()
 {}
 
 /// A member that is taken is one decision: a Send, and a drop for the link's MTU. Nothing else is
-/// one (own rule).
+/// one.
 pub fn a_member_taken_is_one_decision()
     ensures one { (outcome : Outcome) →
         (decisions outcome ≡ 1)
@@ -206,7 +210,7 @@ pub fn a_drop_tells_of_its_error()
 {}
 
 /// Where a SID was executed, the outcome names it: the way leads into it, it stands at the node and
-/// the packet, or what was exposed, goes on in its way (own rule).
+/// the packet, or what was exposed, goes on in its way.
 pub fn an_execution_names_its_sid()
     ensures again { (net : Network) (place : Place) (content : Content) (choice : ℕ) →
         (n : ℕ) (how : How) →
@@ -220,7 +224,7 @@ pub fn an_execution_names_its_sid()
 {}
 
 /// From a place a packet goes on to a place, and from a SID it goes on in a way that there is at
-/// the SID's node (own rule).
+/// the SID's node.
 pub fn a_place_leads_to_a_place()
     ensures next { (net : Network) (place : Place) (content : Content) (choice : ℕ) (next : Place) →
         Keeps net → IsPlace net place →
@@ -255,7 +259,7 @@ pub fn ways_on_are_by_behaviour()
 
 /// In a network that keeps the rules, where SIDs suit their compression, what bytes can spell stays
 /// so in a stage, and what reads as itself from its bytes, as a packet of the place's family, does
-/// so after it. The next place has the family of what stands there then (own rule).
+/// so after it. The next place has the family of what stands there then.
 pub fn a_stage_keeps_a_content()
     ensures content { (net : Network) (place : Place) (content : Content) (choice : ℕ) →
         Keeps net → IsContent content → IsContent (step_of net place content choice).after }
@@ -268,7 +272,7 @@ pub fn a_stage_keeps_a_content()
 {}
 
 /// The stages of a walk begin at its place and follow one another, and are fewer than they may be
-/// only where they ended; no other stages do so (own rule).
+/// only where they ended; no other stages do so.
 pub fn a_walk_follows_its_stages()
     ensures is { (fuel : ℕ) (net : Network) (place : Option Place) (content : Content) →
         (pick : ℕ → ℕ) (taken : ℕ) →
@@ -279,8 +283,7 @@ pub fn a_walk_follows_its_stages()
         steps ≡ walk_of fuel net place content pick taken }
 {}
 
-/// A walk of fewer stages is the beginning of one of more, which goes on from where it stopped (own
-/// rule).
+/// A walk of fewer stages is the beginning of one of more, which goes on from where it stopped.
 pub fn a_walk_is_a_beginning()
     ensures front { (m n : ℕ) (net : Network) (place : Option Place) (content : Content) →
         (pick : ℕ → ℕ) (taken : ℕ) →
@@ -294,7 +297,7 @@ pub fn a_walk_is_a_beginning()
         ≡ w ++ walk_of n net next (content_after content w) pick (taken_after taken w) }
 {}
 
-/// A walk that ended stays as it is, however many stages it may have more (own rule).
+/// A walk that ended stays as it is, however many stages it may have more.
 pub fn an_ended_walk_stays()
     ensures { (m n : ℕ) (net : Network) (place : Option Place) (content : Content) →
         (pick : ℕ → ℕ) (taken : ℕ) →
@@ -303,7 +306,7 @@ pub fn an_ended_walk_stays()
 {}
 
 /// A walk depends on the choices of the decisions that it may take alone, so each walk is that of
-/// some list of choices (own rule).
+/// some list of choices.
 pub fn a_walk_is_of_some_list()
     ensures same { (fuel : ℕ) (net : Network) (place : Option Place) (content : Content) →
         (pick other : ℕ → ℕ) (taken : ℕ) →
@@ -316,7 +319,7 @@ pub fn a_walk_is_of_some_list()
         ≡ walk_of fuel net place content (choice_at choices) 0) }
 {}
 
-/// A walk has no more stages than it may have, so a run has at most 10,000 (own rule).
+/// A walk has no more stages than it may have, so a run has at most 10,000.
 pub fn a_run_has_few_stages()
     ensures each { (fuel : ℕ) (net : Network) (place : Option Place) (content : Content) →
         (pick : ℕ → ℕ) (taken : ℕ) →
@@ -327,7 +330,7 @@ pub fn a_run_has_few_stages()
 {}
 
 /// Each stage of a walk from a place of a network is at a place, and gives an outcome that there
-/// is (own rule).
+/// is.
 pub fn a_walk_stays_at_places()
     ensures { (fuel : ℕ) (net : Network) (place : Place) (content : Content) →
         (pick : ℕ → ℕ) (taken : ℕ) → Keeps net → IsPlace net place →
@@ -335,7 +338,7 @@ pub fn a_walk_stays_at_places()
 {}
 
 /// Where the packet could go on after the last stage the stages were used, and only there; a walk
-/// of fewer stages than it may have has another end (own rule).
+/// of fewer stages than it may have has another end.
 pub fn a_walk_that_could_go_on_used_its_stages()
     ensures goes_on { (net : Network) (place : Option Place) (s : Stage) (more : List Stage) →
         (end_of net (s ∷ more) ≡ Ended.Stages) ↔ IsSome (place_after net place (s ∷ more)) }

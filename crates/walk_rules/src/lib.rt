@@ -10,7 +10,7 @@
 pub mod figures;
 mod laws;
 mod limits;
-mod next;
+mod next_places;
 mod place;
 mod way;
 
@@ -25,6 +25,6 @@ pub use laws::{
     only_the_member_depends_on_the_choice, outcomes_differ_in_the_member, ways_on_are_by_behaviour,
 };
 pub use limits::MAX_STAGES;
-pub use next::{arrival, ended_by, exposed_from, far_end, mtu_at, next_place, onward_from};
+pub use next_places::{arrival, ended_by, exposed_from, far_end, mtu_at, next_place, onward_from};
 pub use place::{Ended, How, Outcome, Place};
 pub use way::{Way, way_in_table, way_of};

@@ -2,7 +2,7 @@
 
 use srv6_rules::{Family, Reason};
 
-/// How a packet came to be treated at a node (own rule).
+/// How a packet came to be treated at a node.
 #[derive(Clone, Copy, Debug, PartialEq, Eq)]
 pub enum How {
     /// It was received or exposed, and is looked up in a table; a route lowers its hop limit or
@@ -26,7 +26,7 @@ pub enum How {
     },
 }
 
-/// Where a packet stands before a stage (own rule).
+/// Where a packet stands before a stage.
 #[derive(Clone, Copy, Debug, PartialEq, Eq)]
 pub struct Place {
     /// The node's number.
@@ -37,7 +37,7 @@ pub struct Place {
     pub family: Family,
 }
 
-/// What comes of a packet in one stage (own rule).
+/// What comes of a packet in one stage.
 #[derive(Clone, Copy, Debug, PartialEq, Eq)]
 pub enum Outcome {
     /// A SID was executed, and the packet stays at the node.
@@ -72,7 +72,7 @@ pub enum Outcome {
     },
 }
 
-/// How a walk ended (own rule).
+/// How a walk ended.
 #[derive(Clone, Copy, Debug, PartialEq, Eq)]
 pub enum Ended {
     /// The packet left the network.

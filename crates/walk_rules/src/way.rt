@@ -2,18 +2,19 @@
 
 ghost use Rattle.std.specs.Prelude.{◌≡◌, true, false, ◌<◌, length};
 ghost use Rattle.walk_rules.specs.Relation.{IsHow, IsPlace};
-ghost use Rattle.walk_rules.specs.Way.{IsNumbered, IsWayFrom, is_multicast_of, way_by, way_by_hit, way_by_table, way_in, way_of};
+ghost use Rattle.walk_rules.specs.Way.{is_multicast_of, way_by, way_by_hit, way_by_table, way_of};
+ghost use Rattle.walk_rules.specs.WayTerms.{IsNumbered, IsWayFrom, way_in};
 
 use crate::place::{How, Place};
 use net_model::{Hit, Net, NodeTable};
 use srv6_rules::{Family, Reason};
 use v6_addr::Addr;
 
-/// Where a packet goes from a place (own rule).
+/// Where a packet goes from a place.
 #[derive(Clone, Copy, Debug)]
 pub enum Way<'a> {
-    /// Away, for a reason.
-    Away {
+    /// NoWay, for a reason.
+    NoWay {
         /// Why.
         reason: Reason,
     },
@@ -45,7 +46,7 @@ fn way_by_hit(net: &Net, lower: bool, hit: Hit) -> Way<'_>
             links: net.route(n).via.as_slice(),
             lower,
         },
-        Hit::Nothing => Way::Away {
+        Hit::Nothing => Way::NoWay {
             reason: Reason::NoRoute,
         },
     }
@@ -74,7 +75,7 @@ fn way_by_table(
     ensures { way_in result ≡ way_by_table net.now node table family lower destination.value }
 {
     if is_multicast_of(family, destination) {
-        return Way::Away {
+        return Way::NoWay {
             reason: Reason::Multicast,
         };
     }
@@ -82,13 +83,13 @@ fn way_by_table(
 }
 
 /// The way of a packet to a destination by a look-up in a node's table; over a route's links its
-/// hop limit is lowered or not as it says (own rule).
+/// hop limit is lowered or not as it says.
 pub fn way_in_table<'a>(table: &NodeTable<'a>, lower: bool, destination: Addr) -> Way<'a>
     ensures { way_in result ≡ way_by_table table.now.net table.now.node table.now.table
         table.now.family lower destination.value }
 {
     if is_multicast_of(table.family(), destination) {
-        return Way::Away {
+        return Way::NoWay {
             reason: Reason::Multicast,
         };
     }

@@ -1,7 +1,7 @@
 //! What is said of a trace's lines, by their grammar and by the walk that they tell of; whole
 //! traces are rows of the program.
 
-ghost use Rattle.trace_replay.specs.Reading.{IsTrace};
+ghost use Rattle.trace_replay.specs.TraceReadingTerms.{IsTrace};
 
 use net_model::{MAX_TEXT_BYTES, Net};
 use net_reader::read_net;

@@ -1,5 +1,5 @@
 use Rattle.std.proofs.Common.{◌≡◌, drop, map}
-use Rattle.command_inputs.specs.Choices.{numbers_in}
+use Rattle.command_inputs.specs.ChoiceWords.{numbers_in}
 use Rattle.command_inputs.proofs.ChoiceLemmas.{numbers_after}
 use Rattle.command_inputs.proofs.choices.numbers_of.Given as goal
 

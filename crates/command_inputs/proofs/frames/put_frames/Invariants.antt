@@ -1,5 +1,5 @@
 use Rattle.std.proofs.Common.{◌≡◌, length}
-use Rattle.command_output.specs.Gathered.{pooled}
+use Rattle.command_output.specs.GatheredTerms.{pooled}
 use Rattle.command_inputs.proofs.FrameLoops.{FramesPut}
 use Rattle.command_inputs.proofs.frames.put_frames.Given as goal
 

@@ -1,4 +1,4 @@
-use Rattle.compile_commands.proofs.Printing.{check_confirms}
+use Rattle.compile_commands.proofs.CommandPrinting.{check_confirms}
 use Rattle.compile_commands.proofs.laws.check_confirms_what_compile_prints.Goals as goal
 
 pub returns : goal.returns

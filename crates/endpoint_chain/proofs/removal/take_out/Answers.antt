@@ -1,13 +1,13 @@
 use Rattle.std.proofs.Common.{ℕ, ◌+◌, ◌-◌, ◌≡◌, List, length, take, drop, slice_index, slice_set, ap, ◌∙◌, arith, length-append, length-drop}
 use Rattle.std.proofs.lemmas.List.{length-set, length-take-le}
 use Rattle.pkt_buf.specs.BufferView.{Buffer}
-use Rattle.ip6_headers.specs.Stepping.{place_view}
-use Rattle.endpoint_chain.proofs.RemovalLemmas.{alone-most, taken-out}
+use Rattle.ip6_headers.specs.ChainStepping.{place_view}
+use Rattle.endpoint_chain.proofs.ChainRemovalLemmas.{alone_most, taken_out}
 use Rattle.endpoint_chain.proofs.removal.take_out.Goals as goal
 
 pub overflow_cast-payload_len : goal.overflow_cast-payload_len
 overflow_cast-payload_len c =
-    let most = alone-most c.args.buf.now.bytes c.requires.packet in
+    let most = alone_most c.args.buf.now.bytes c.requires.packet in
     let within = c.requires.within in
     let some = c.requires.some in
     let xs : List ℕ = c.set.new.self.bytes in
@@ -28,7 +28,7 @@ returns-clause-packet c =
     let named : List ℕ = c.set.new.self.bytes in
     let read : slice_index c.view.result.now c.args.place.at ≡ slice_index bytes c.args.place.at =
     ap (λ xs. slice_index xs c.args.place.at) c.view.ensures in
-    taken-out bytes place c.args.len c.requires.packet c.requires.behind c.requires.earlier c.requires.some c.requires.within
+    taken_out bytes place c.args.len c.requires.packet c.requires.behind c.requires.earlier c.requires.some c.requires.within
     c.requires.field named c.cut.new.self.bytes c.state_payload_len.new.buf.bytes (c.len-payload_len.result - 40)
     (ap (λ (b : Buffer). b.bytes) c.set.ensures ∙ ap (λ n. slice_set bytes c.args.place.named_at n) read)
     (ap (λ (b : Buffer). b.bytes) c.cut.ensures)

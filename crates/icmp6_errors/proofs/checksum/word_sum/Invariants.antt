@@ -1,5 +1,5 @@
 use Rattle.std.proofs.Common.{◌≡◌, ◌+◌, ◌*◌, ◌≤◌, length}
-use Rattle.srv6_rules.specs.Checksum.{word_sum}
+use Rattle.srv6_rules.specs.ChecksumTerms.{word_sum}
 use Rattle.icmp6_errors.proofs.checksum.word_sum.Given as goal
 
 abbrev pub invariant-words : goal.invariant-words

@@ -1,9 +1,10 @@
 use Rattle.std.proofs.Common.{◌≡◌, ◌+◌, ◌++◌, length, take, refl, ap, ◌∙◌, arith}
 use Rattle.std.proofs.lemmas.List.{take_min}
 use Rattle.srv6_rules.specs.Packet.{header_spelling}
-use Rattle.srv6_rules.specs.Checksum.{word_sum, pseudo_header}
+use Rattle.srv6_rules.specs.Checksum.{pseudo_header}
+use Rattle.srv6_rules.specs.ChecksumTerms.{word_sum}
 use Rattle.srv6_rules.specs.Errors.{message_head, quote_of, icmp_packet}
-use Rattle.icmp6_errors.proofs.MessageLemmas.{checksum-written, error-written}
+use Rattle.icmp6_errors.proofs.MessageLemmas.{checksum_written, error_written}
 use Rattle.icmp6_errors.proofs.error.write_error.Goals as goal
 
 pub returns : goal.returns
@@ -23,9 +24,9 @@ returns c =
     let summed : c.pseudo_sum.result + c.word_sum.result + c.word_sum-2.result
     ≡ word_sum (pseudo_header from p.source (8 + length quote) 58) + word_sum (message_head kind 0) + word_sum quote =
     omega (arith, c.word_sum-2.ensures.sum) in
-    let checksum = checksum-written p kind from c.requires.spellable c.message_head.ensures.kind quote quoted c.complement.result
+    let checksum = checksum_written p kind from c.requires.spellable c.message_head.ensures.kind quote quoted c.complement.result
     (8 + length quote) (c.pseudo_sum.result + c.word_sum.result + c.word_sum-2.result) refl summed c.complement.ensures in
-    error-written p kind from c.requires.spellable c.message_head.ensures.kind quote quoted c.args.out.now.items headed
+    error_written p kind from c.requires.spellable c.message_head.ensures.kind quote quoted c.args.out.now.items headed
     c.append.new.out.items c.append-2.new.out.items c.complement.result (8 + length quote) checksum refl c.requires.empty
     (λ message long. c.append_header.ensures.bytes message long
     ∙ ap (λ s. c.args.out.now.items ++ header_spelling (icmp_packet from s message)) source)

@@ -1,5 +1,5 @@
 use Rattle.std.proofs.Common.{◌-◌, length}
-use Rattle.ip6_headers.specs.Stepping.{place_view}
+use Rattle.ip6_headers.specs.ChainStepping.{place_view}
 use Rattle.icmp6_errors.proofs.ErrorChains.{IsAsked}
 use Rattle.icmp6_errors.proofs.unanswered.is_error_message.Given as goal
 

@@ -1,4 +1,4 @@
-use Rattle.intent_reader.proofs.KeepsLemmas.{keeps_from_intent}
+use Rattle.intent_reader.proofs.IntentKeepsLemmas.{keeps_from_intent}
 use Rattle.intent_reader.proofs.laws.intents_have_walks.Goals as goal
 
 pub returns : goal.returns

@@ -1,5 +1,5 @@
 use Rattle.std.proofs.Common.{◌≡◌, length}
-use Rattle.net_model.specs.Rules.{are_distinct, same_number}
+use Rattle.net_model.specs.NetworkRules.{are_distinct, same_number}
 use Rattle.intent_reader.proofs.names.are_distinct.Given as goal
 
 -- what the rest answers is what the whole list answers

@@ -1,5 +1,5 @@
 use Rattle.std.proofs.Common.{sym, subst}
-use Rattle.intent_reader.specs.Functions.{IsFunctionNumbered}
+use Rattle.intent_reader.specs.FunctionsTerms.{IsFunctionNumbered}
 use Rattle.intent_reader.proofs.FunctionLemmas.{function_numbered_means}
 use Rattle.intent_reader.proofs.names.function_named.Goals as goal
 

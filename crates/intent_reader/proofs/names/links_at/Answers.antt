@@ -1,8 +1,8 @@
 use Rattle.std.proofs.Common.{◌≡◌, ◌∙◌, sym, ap, arith}
 use Rattle.std.specs.Prelude.{Ok, Err}
 use Rattle.std.proofs.lemmas.Result.{err_from_is_err_and}
-use Rattle.intent_reader.specs.Judging.{link_at}
-use Rattle.intent_reader.proofs.ListReading.{reads_more, reads_stop, reads_end}
+use Rattle.intent_reader.specs.IntentJudging.{link_at}
+use Rattle.intent_reader.proofs.IntentListReading.{reads_more, reads_stop, reads_end}
 use Rattle.intent_reader.proofs.names.links_at.Goals as goal
 
 pub loop-name-preserved : goal.loop-name-preserved

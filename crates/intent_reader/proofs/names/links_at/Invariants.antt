@@ -1,5 +1,5 @@
-use Rattle.intent_reader.specs.Judging.{link_at}
-use Rattle.intent_reader.proofs.ListReading.{HasRead}
+use Rattle.intent_reader.specs.IntentJudging.{link_at}
+use Rattle.intent_reader.proofs.IntentListReading.{HasRead}
 use Rattle.intent_reader.proofs.names.links_at.Given as goal
 
 abbrev pub invariant-loop-name : goal.invariant-loop-name

@@ -1,7 +1,7 @@
 use Rattle.std.proofs.Common.{◌≡◌, ◌∙◌, sym, ap, arith}
 use Rattle.std.specs.Prelude.{Ok, Err}
 use Rattle.std.proofs.lemmas.Result.{err_from_is_err_and}
-use Rattle.intent_reader.proofs.ListReading.{takes_more, takes_no_name, takes_no_end, takes_end}
+use Rattle.intent_reader.proofs.IntentListReading.{takes_more, takes_no_name, takes_no_end, takes_end}
 use Rattle.intent_reader.proofs.steps.steps_from.Goals as goal
 
 pub loop-i-preserved : goal.loop-i-preserved

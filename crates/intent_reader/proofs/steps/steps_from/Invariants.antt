@@ -1,4 +1,4 @@
-use Rattle.intent_reader.proofs.ListReading.{HasTaken}
+use Rattle.intent_reader.proofs.IntentListReading.{HasTaken}
 use Rattle.intent_reader.proofs.steps.steps_from.Given as goal
 
 abbrev pub invariant-loop-i : goal.invariant-loop-i

@@ -1,7 +1,7 @@
 use Rattle.std.proofs.Common.{◌≡◌, List, ℕ, ◌+◌, ◌<◌, length, sym, refl, ap, ◌∙◌, arith, None}
 use Rattle.srv6_rules.specs.Areas.{area_fault, option_fault}
 use Rattle.ip6_headers.specs.Items.{IsItem}
-use Rattle.ip6_headers.proofs.AreaLemmas.{area-behind}
+use Rattle.ip6_headers.proofs.AreaLemmas.{area_behind}
 use Rattle.ip6_headers.proofs.areas.area_options_fault.Goals as goal
 
 pub options-preserved : goal.options-preserved
@@ -13,7 +13,7 @@ options-preserved c =
     let some : 0 < length rest = omega arith in
     let none : option_fault c.options.at rest ≡ None = sym (c.in_default-option_fault.ensures rest refl item.fits) in
     record {
-      same = c.options.invariant.same ∙ area-behind option_fault c.options.at rest c.in-Some.len some none item.stated
+      same = c.options.invariant.same ∙ area_behind option_fault c.options.at rest c.in-Some.len some none item.stated
           ∙ ap (area_fault option_fault 0 (c.options.at + c.in-Some.len)) (sym c.split_at.ensures.back);
       fits = omega arith;
     }

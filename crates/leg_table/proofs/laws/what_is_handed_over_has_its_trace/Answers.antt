@@ -1,5 +1,5 @@
-use Rattle.leg_table.proofs.Traces.{handed-trace}
+use Rattle.leg_table.proofs.Traces.{handed_trace}
 use Rattle.leg_table.proofs.laws.what_is_handed_over_has_its_trace.Goals as goal
 
 pub returns : goal.returns
-returns c = handed-trace
+returns c = handed_trace

@@ -1,6 +1,6 @@
 use Rattle.std.proofs.Common.{sym, ◌∙◌}
 use Rattle.v6_addr.specs.Address.{is_inside}
-use Rattle.leg_table.proofs.Searches.{one_found}
+use Rattle.leg_table.proofs.StrictSearches.{one_found}
 use Rattle.leg_table.proofs.sid_shapes.block_at.Goals as goal
 
 pub returns-then-inside : goal.returns-then-inside

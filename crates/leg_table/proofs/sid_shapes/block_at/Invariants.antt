@@ -1,5 +1,5 @@
 use Rattle.v6_addr.specs.Address.{is_inside}
-use Rattle.leg_table.proofs.Searches.{NoneBefore}
+use Rattle.leg_table.proofs.StrictSearches.{NoneBefore}
 use Rattle.leg_table.proofs.sid_shapes.block_at.Given as goal
 
 abbrev pub invariant-loop-n : goal.invariant-loop-n

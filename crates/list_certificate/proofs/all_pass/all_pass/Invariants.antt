@@ -1,4 +1,4 @@
-use Rattle.list_certificate.proofs.Celling.{PositionsGood}
+use Rattle.list_certificate.proofs.CertificateCelling.{PositionsGood}
 use Rattle.list_certificate.proofs.all_pass.all_pass.Given as goal
 
 abbrev pub invariant-loop-position : goal.invariant-loop-position

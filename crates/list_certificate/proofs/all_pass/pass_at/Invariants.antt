@@ -1,4 +1,4 @@
-use Rattle.list_certificate.proofs.Celling.{SidsGood}
+use Rattle.list_certificate.proofs.CertificateCelling.{SidsGood}
 use Rattle.list_certificate.proofs.all_pass.pass_at.Given as goal
 
 abbrev pub invariant-loop-n : goal.invariant-loop-n

@@ -1,4 +1,4 @@
-use Rattle.list_certificate.proofs.Celling.{AllEnds}
+use Rattle.list_certificate.proofs.CertificateCelling.{AllEnds}
 use Rattle.list_certificate.proofs.all_pass.pass_ends.Given as goal
 
 abbrev pub invariant-loop-n : goal.invariant-loop-n

@@ -1,4 +1,4 @@
-use Rattle.list_certificate.proofs.Celling.{RoomsLast}
+use Rattle.list_certificate.proofs.CertificateCelling.{RoomsLast}
 use Rattle.list_certificate.proofs.all_pass.pass_finish.Given as goal
 
 abbrev pub invariant-loop-room : goal.invariant-loop-room

@@ -1,4 +1,4 @@
-use Rattle.list_certificate.proofs.Celling.{RoomsMove}
+use Rattle.list_certificate.proofs.CertificateCelling.{RoomsMove}
 use Rattle.list_certificate.proofs.all_pass.pass_leg.Given as goal
 
 abbrev pub invariant-loop-room : goal.invariant-loop-room

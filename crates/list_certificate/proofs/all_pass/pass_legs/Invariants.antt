@@ -1,4 +1,4 @@
-use Rattle.list_certificate.proofs.Celling.{AllBelow}
+use Rattle.list_certificate.proofs.CertificateCelling.{AllBelow}
 use Rattle.list_certificate.proofs.all_pass.pass_legs.Given as goal
 
 abbrev pub invariant-loop-to : goal.invariant-loop-to

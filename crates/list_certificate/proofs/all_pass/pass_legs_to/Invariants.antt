@@ -1,4 +1,4 @@
-use Rattle.list_certificate.proofs.Celling.{AllLegsTo}
+use Rattle.list_certificate.proofs.CertificateCelling.{AllLegsTo}
 use Rattle.list_certificate.proofs.all_pass.pass_legs_to.Given as goal
 
 abbrev pub invariant-loop-n : goal.invariant-loop-n

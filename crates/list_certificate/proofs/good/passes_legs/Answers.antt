@@ -1,8 +1,8 @@
 use Rattle.std.proofs.Common.{arith}
-use Rattle.list_certificate.proofs.Passing.{below-all}
+use Rattle.list_certificate.proofs.Passing.{below_all}
 use Rattle.list_certificate.proofs.good.passes_legs.Goals as goal
 
 pub returns : goal.returns
 returns g c =
-    below-all (g.L.Legs.seen c.args.legs.now) c.args.lines.now c.args.spot.now.state c.steps-steps.ensures.laws c.loop-to.to
+    below_all (g.L.Legs.seen c.args.legs.now) c.args.lines.now c.args.costed_state.now.state c.steps-steps.ensures.laws c.loop-to.to
     (omega (arith, c.steps-steps.ensures.value, c.loop-to-test.false)) c.loop-to.invariant

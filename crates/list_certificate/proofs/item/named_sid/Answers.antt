@@ -1,5 +1,5 @@
 use Rattle.std.proofs.Common.{get_or}
-use Rattle.list_certificate.proofs.Networks.{known, sid-at}
+use Rattle.list_certificate.proofs.Networks.{known, sid_at}
 use Rattle.list_certificate.proofs.item.named_sid.Goals as goal
 
 pub has_name-requires : goal.has_name-requires
@@ -8,4 +8,4 @@ has_name-requires g c =
     let sids = c.sids_at-n-items.result.now in
     let n = get_or sids c.loop-n.n-index 0 in
     known c.args.net.now v n
-    (c.requires.net n (sid-at v c.args.position sids c.loop-n.n-index c.requires.within c.sids_at-n-items.ensures c.loop-n-test.true))
+    (c.requires.net n (sid_at v c.args.position sids c.loop-n.n-index c.requires.within c.sids_at-n-items.ensures c.loop-n-test.true))

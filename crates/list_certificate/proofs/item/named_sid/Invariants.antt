@@ -1,5 +1,5 @@
 use Rattle.std.proofs.Common.{◌≡◌, drop, find}
-use Rattle.list_certificate.specs.Reading.{is_named}
+use Rattle.list_certificate.specs.CertificateReading.{is_named}
 use Rattle.list_certificate.proofs.item.named_sid.Given as goal
 
 abbrev pub invariant-loop-n : goal.invariant-loop-n

@@ -1,5 +1,5 @@
 use Rattle.std.proofs.Common.{◌≡◌, ℕ, ◌+◌, ◌<◌, Some, slice_get}
-use Rattle.list_certificate.specs.declared.types.PotentialLine.{PotentialLine}
+use Rattle.list_certificate.specs.declared.certificate_types.PotentialLine.{PotentialLine}
 use Rattle.list_certificate.proofs.search.potential_from.Given as goal
 
 abbrev pub invariant-loop-line : goal.invariant-loop-line

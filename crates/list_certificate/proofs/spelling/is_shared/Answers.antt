@@ -2,7 +2,7 @@ use Rattle.std.proofs.Common.{◌+◌, ℕ, sym, ◌∙◌, ap, arith}
 use Rattle.std.proofs.lemmas.Option.{slice_get_within, get_or_from_slice_get}
 use Rattle.std.proofs.lemmas.List.Sums.{count_by_more_yes, count_by_more_no}
 use Rattle.srv6_rules.specs.declared.sid.SidEntry.{SidEntry}
-use Rattle.net_model.specs.Rules.{same_prefix}
+use Rattle.net_model.specs.NetworkRules.{same_prefix}
 use Rattle.list_certificate.proofs.spelling.is_shared.Goals as goal
 use Rattle.list_certificate.proofs.spelling.is_shared.Goals.{then-is_same_prefix, else-is_same_prefix}
 

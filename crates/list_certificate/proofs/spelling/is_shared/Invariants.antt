@@ -1,6 +1,6 @@
 use Rattle.std.proofs.Common.{◌≡◌, ◌≤◌, take, count_by}
 use Rattle.srv6_rules.specs.declared.sid.SidEntry.{SidEntry}
-use Rattle.net_model.specs.Rules.{same_prefix}
+use Rattle.net_model.specs.NetworkRules.{same_prefix}
 use Rattle.list_certificate.proofs.spelling.is_shared.Given as goal
 
 abbrev pub invariant-loop-n : goal.invariant-loop-n

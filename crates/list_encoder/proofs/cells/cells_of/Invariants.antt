@@ -1,4 +1,4 @@
-use Rattle.list_encoder.proofs.Celling.{AreCellsBefore}
+use Rattle.list_encoder.proofs.SearchCelling.{AreCellsBefore}
 use Rattle.list_encoder.proofs.cells.cells_of.Given as goal
 
 abbrev pub invariant-loop-position : goal.invariant-loop-position

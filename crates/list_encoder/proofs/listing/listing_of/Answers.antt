@@ -1,5 +1,5 @@
 use Rattle.std.proofs.Common.{◌*◌, arith}
-use Rattle.list_encoder.proofs.Listings.{listing, lists-few}
+use Rattle.list_encoder.proofs.Listings.{listing, lists_few}
 use Rattle.list_encoder.proofs.listing.listing_of.Goals as goal
 
 pub returns-clause-listing : goal.returns-clause-listing
@@ -10,5 +10,5 @@ returns-clause-listing g c =
 
 pub returns-clause-few : goal.returns-clause-few
 returns-clause-few g c =
-    lists-few (g.L.Legs.seen c.args.legs.now) c.args.cells.now c.args.table.now (8 * c.loop-k.k) c.loop-k.potentials.items c.requires.few
+    lists_few (g.L.Legs.seen c.args.legs.now) c.args.cells.now c.args.table.now (8 * c.loop-k.k) c.loop-k.potentials.items c.requires.few
     c.loop-k.invariant

@@ -1,7 +1,7 @@
 use Rattle.std.proofs.Common.{◌+◌, ◌||◌, ◌≡◌, ◌++◌, ◌∷◌, [], Bool, List, Vec, Global, Some, None, Option, sym, ap, ◌∙◌, subst}
-use Rattle.list_encoder.specs.declared.table.CellEdge.{CellEdge}
-use Rattle.list_encoder.specs.Table.{Costs, IsCellEdge, IsEdgeInto}
-use Rattle.list_encoder.proofs.Relaxing.{LegsSoFar, legs-skip, legs-list, legs-more}
+use Rattle.list_encoder.specs.declared.cell_table.CellEdge.{CellEdge}
+use Rattle.list_encoder.specs.CellTable.{Costs, IsCellEdge, IsEdgeInto}
+use Rattle.list_encoder.proofs.Relaxing.{LegsSoFar, legs_skip, legs_list, legs_more}
 use Rattle.list_encoder.proofs.lowering.relax_legs.Goals as goal
 use Rattle.list_encoder.proofs.lowering.relax_legs.Goals.{in-Some+then-to-span+in_ok-push, in-Some+else-to-span, in_default}
 
@@ -26,14 +26,14 @@ loop-to-preserved g c =
       | in-Some+then-to-span+in_ok-push w ↦
           joined c.loop-to.table (c.loop-to.edges.items ++ w.in-Some.edge ∷ []) c.loop-to.changed w.table-is
           (ap (λ (l : Vec CellEdge Global). l.items) w.edges-is ∙ w.in_ok-push.ensures.items) w.changed-is
-          (legs-list v c.args.cells.now c.args.k c.args.span.first c.args.span.later c.loop-to.to c.args.table.now c.loop-to.table
+          (legs_list v c.args.cells.now c.args.k c.args.span.first c.args.span.later c.loop-to.to c.args.table.now c.loop-to.table
           c.args.edges.now.items c.loop-to.edges.items
           c.loop-to.changed c.requires.within c.loop-to.invariant w.in-Some.edge w.in-Some.ensures.0 w.in-Some.ensures.1 w.in-Some.ensures.2
           w.if-to-span.true)
       | in-Some+else-to-span w ↦
           joined w.relax-lowered.new.table c.loop-to.edges.items (c.loop-to.changed || w.relax-lowered.result) w.table-is
           (ap (λ (l : Vec CellEdge Global). l.items) w.edges-is) (w.changed-is ∙ w.either-changed.ensures)
-          (legs-more v c.args.cells.now c.args.k c.args.span.first c.args.span.later c.loop-to.to c.args.table.now c.loop-to.table
+          (legs_more v c.args.cells.now c.args.k c.args.span.first c.args.span.later c.loop-to.to c.args.table.now c.loop-to.table
           c.args.edges.now.items c.loop-to.edges.items
           c.loop-to.changed c.requires.within c.loop-to.invariant w.in-Some.edge w.relax-lowered.new.table w.relax-lowered.result
           w.in-Some.ensures.0
@@ -41,7 +41,7 @@ loop-to-preserved g c =
       | in_default w ↦
           joined c.loop-to.table c.loop-to.edges.items c.loop-to.changed w.table-is (ap (λ (l : Vec CellEdge Global). l.items) w.edges-is)
           w.changed-is
-          (legs-skip v c.args.cells.now c.args.k c.args.span.first c.args.span.later c.loop-to.to c.args.table.now c.loop-to.table
+          (legs_skip v c.args.cells.now c.args.k c.args.span.first c.args.span.later c.loop-to.to c.args.table.now c.loop-to.table
           c.args.edges.now.items c.loop-to.edges.items
           c.loop-to.changed c.requires.within c.loop-to.invariant (none w.in_default.is))
     ]

@@ -1,5 +1,5 @@
 use Rattle.std.proofs.Common.{true}
-use Rattle.list_encoder.specs.Table.{RoomsRelaxed}
+use Rattle.list_encoder.specs.CellTable.{RoomsRelaxed}
 use Rattle.list_encoder.proofs.lowering.relax_stays.Given as goal
 
 abbrev pub invariant-loop-room : goal.invariant-loop-room

@@ -2,7 +2,7 @@ use Rattle.std.proofs.Common.{Option, Some, sym, subst}
 use Rattle.std.specs.Prelude.{MatchBool}
 use Rattle.list_pack.specs.declared.types.Cost.{Cost}
 use Rattle.list_pack.specs.Costs.{Under}
-use Rattle.list_encoder.specs.Table.{Improves}
+use Rattle.list_encoder.specs.CellTable.{Improves}
 use Rattle.list_encoder.proofs.waiting.is_lower.Goals as goal
 
 pub returns-in-None : goal.returns-in-None

@@ -1,11 +1,11 @@
-use Rattle.list_encoder.proofs.Fronts.{none-left}
+use Rattle.list_encoder.proofs.SearchFronts.{none_left}
 use Rattle.list_encoder.proofs.waiting.settle_first.Goals as goal
 
 pub mark-requires : goal.mark-requires
 mark-requires c = c.requires c.in-Some.next c.in-Some.ensures.member
 
 pub returns-in-None : goal.returns-in-None
-returns-in-None c = none-left c.args.queue.now.waiting c.in-None.ensures.variant.1
+returns-in-None c = none_left c.args.queue.now.waiting c.in-None.ensures.variant.1
 
 pub returns-in-Some : goal.returns-in-Some
 returns-in-Some c = record {

@@ -1,5 +1,5 @@
-use Rattle.list_pack.proofs.Solutions.{solutions-same}
+use Rattle.list_pack.proofs.Solutions.{solutions_same}
 use Rattle.list_pack.proofs.laws.a_search_has_one_solution.Goals as goal
 
 pub returns : goal.returns
-returns c = solutions-same
+returns c = solutions_same

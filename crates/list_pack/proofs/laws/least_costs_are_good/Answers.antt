@@ -1,5 +1,5 @@
-use Rattle.list_pack.proofs.Leasts.{least-good}
+use Rattle.list_pack.proofs.Leasts.{least_good}
 use Rattle.list_pack.proofs.laws.least_costs_are_good.Goals as goal
 
 pub returns : goal.returns
-returns c = least-good
+returns c = least_good

@@ -1,5 +1,5 @@
-use Rattle.list_pack.proofs.Leasts.{unlisted-none}
+use Rattle.list_pack.proofs.Leasts.{unlisted_none}
 use Rattle.list_pack.proofs.laws.unlisted_states_have_no_path.Goals as goal
 
 pub returns : goal.returns
-returns c = unlisted-none
+returns c = unlisted_none

@@ -1,7 +1,7 @@
 use Rattle.std.proofs.Common.{length, Some, None, sym, ◌∙◌, ap, subst, arith}
 use Rattle.walk_rules.specs.declared.place.Place.{Place}
 use Rattle.walk_rules.specs.Relation.{IsPlace}
-use Rattle.loose_legs.proofs.OnwardRows.{first-start, row-from}
+use Rattle.loose_legs.proofs.OnwardRows.{first_start, row_from}
 use Rattle.loose_legs.proofs.onwards.first_onwards.Goals as goal
 
 pub onwards_from-requires-clause-is_place : goal.onwards_from-requires-clause-is_place
@@ -10,6 +10,6 @@ onwards_from-requires-clause-is_place c =
 
 pub returns : goal.returns
 returns c =
-    row-from c.args.net.now c.args.intent.now c.args.steps.now 0 (length c.args.steps.now) None _ c.in_ok-row.row (omega arith)
-    (first-start c.args.net.now c.args.intent.now c.args.steps.now ∙ ap (λ (p : Place). Some p) (sym c.headend_place-place.ensures))
+    row_from c.args.net.now c.args.intent.now c.args.steps.now 0 (length c.args.steps.now) None _ c.in_ok-row.row (omega arith)
+    (first_start c.args.net.now c.args.intent.now c.args.steps.now ∙ ap (λ (p : Place). Some p) (sym c.headend_place-place.ensures))
     c.in_ok-row.ensures

@@ -1,4 +1,4 @@
-use Rattle.loose_legs.specs.Table.{AreFurther}
+use Rattle.loose_legs.specs.LooseTable.{AreFurther}
 use Rattle.loose_legs.proofs.onwards.further_onwards.Given as goal
 
 abbrev pub invariant-loop-position : goal.invariant-loop-position

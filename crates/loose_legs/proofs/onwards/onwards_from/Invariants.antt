@@ -1,4 +1,4 @@
-use Rattle.loose_legs.specs.Table.{AreOnward}
+use Rattle.loose_legs.specs.LooseTable.{AreOnward}
 use Rattle.loose_legs.proofs.onwards.onwards_from.Given as goal
 
 abbrev pub invariant-loop-next : goal.invariant-loop-next

@@ -1,4 +1,4 @@
-use Rattle.loose_legs.specs.Table.{AreTables}
+use Rattle.loose_legs.specs.LooseTable.{AreTables}
 use Rattle.loose_legs.proofs.onwards.tables_of.Given as goal
 
 abbrev pub invariant-loop-n : goal.invariant-loop-n

@@ -2,7 +2,8 @@ use Rattle.std.proofs.Common.{Option, Some, None, sym, ap, ◌∙◌}
 use Rattle.std.specs.Prelude.{if◌then◌else◌}
 use Rattle.std.specs.Option.{option_or}
 use Rattle.net_model.specs.declared.net.Hit.{Hit}
-use Rattle.net_model.specs.Network.{hidden_hits, is_shown}
+use Rattle.net_model.specs.Network.{is_shown}
+use Rattle.net_model.specs.NetworkTerms.{hidden_hits}
 use Rattle.net_model.proofs.FirstLemmas.{first_by_table}
 use Rattle.net_model.proofs.hidden.first_after.Goals as goal
 

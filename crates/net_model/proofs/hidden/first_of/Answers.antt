@@ -1,7 +1,7 @@
 use Rattle.std.proofs.Common.{◌≡◌, ◌<◌, ◌≤◌, Some, length, true, false, sym, ap, ◌∙◌, arith}
-use Rattle.net_model.specs.declared.tables.TableEntry.{TableEntry}
-use Rattle.net_model.specs.Network.{hidden_hits}
-use Rattle.net_model.specs.Tables.{stands_on}
+use Rattle.net_model.specs.declared.lookup_tables.TableEntry.{TableEntry}
+use Rattle.net_model.specs.NetworkTerms.{hidden_hits}
+use Rattle.net_model.specs.LookupTables.{stands_on}
 use Rattle.net_model.proofs.SettleLemmas.{item_stands, item_passes, items_end}
 use Rattle.net_model.proofs.hidden.first_of.Goals as goal
 

@@ -1,6 +1,6 @@
 use Rattle.std.proofs.Common.{◌≡◌, drop}
-use Rattle.net_model.specs.Network.{hidden_hits}
-use Rattle.net_model.specs.Tables.{entries_from, first_at}
+use Rattle.net_model.specs.NetworkTerms.{hidden_hits}
+use Rattle.net_model.specs.LookupTables.{entries_from, first_at}
 use Rattle.net_model.proofs.hidden.first_of.Given as goal
 
 -- the first of the items is the first of those that are left

@@ -2,8 +2,8 @@ use Rattle.std.proofs.Common.{◌≡◌, ◌++◌, List, Some, None, sym, ap, �
 use Rattle.srv6_rules.specs.declared.sid.SidEntry.{SidEntry}
 use Rattle.net_model.specs.declared.parts.Node.{Node}
 use Rattle.net_model.specs.declared.parts.Route.{Route}
-use Rattle.net_model.specs.Network.{hidden_hits}
-use Rattle.net_model.specs.Tables.{entries_from, sid_entry, address_entry, route_entry, first_at}
+use Rattle.net_model.specs.NetworkTerms.{hidden_hits}
+use Rattle.net_model.specs.LookupTables.{entries_from, sid_entry, address_entry, route_entry, first_at}
 use Rattle.net_model.proofs.SettleLemmas.{first_at_left, first_at_right, first_of_all}
 use Rattle.net_model.proofs.hidden.first_shown.Goals as goal
 

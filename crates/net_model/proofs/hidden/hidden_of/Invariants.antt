@@ -1,5 +1,5 @@
 use Rattle.std.proofs.Common.{take}
-use Rattle.net_model.specs.Network.{hidden_hits, HasFlags, HidesThese}
+use Rattle.net_model.specs.NetworkTerms.{hidden_hits, HasFlags, HidesThese}
 use Rattle.net_model.proofs.hidden.hidden_of.Given as goal
 
 -- the entries so far are hidden, and no others

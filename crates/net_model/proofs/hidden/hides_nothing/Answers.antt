@@ -2,7 +2,7 @@ use Rattle.std.proofs.Common.{◌≡◌, [], true, false, Bool, ◌&&◌, refl, 
 use Rattle.std.specs.Prelude.{◌↔◌, not}
 use Rattle.std.specs.List.{list_any}
 use Rattle.std.specs.contracts.prelude as prelude
-use Rattle.net_model.specs.Network.{hidden_hits}
+use Rattle.net_model.specs.NetworkTerms.{hidden_hits}
 use Rattle.net_model.proofs.HiddenLemmas.{whole_is}
 use Rattle.net_model.proofs.hidden.hides_nothing.Goals as goal
 

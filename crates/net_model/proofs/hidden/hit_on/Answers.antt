@@ -1,6 +1,6 @@
 use Rattle.std.proofs.Common.{sym, ap, ◌∙◌}
-use Rattle.prefix_table.specs.Table.{value_at}
-use Rattle.net_model.specs.Tables.{HitTable}
+use Rattle.prefix_table.specs.PrefixTable.{value_at}
+use Rattle.net_model.specs.LookupTables.{HitTable}
 use Rattle.net_model.proofs.SettleLemmas.{table_there, no_table}
 use Rattle.net_model.proofs.hidden.hit_on.Goals as goal
 

@@ -1,5 +1,6 @@
 use Rattle.std.proofs.Common.{false, get_or, List, Bool, sym, ap, ◌∙◌}
-use Rattle.net_model.specs.Network.{hidden_hits, is_shown}
+use Rattle.net_model.specs.Network.{is_shown}
+use Rattle.net_model.specs.NetworkTerms.{hidden_hits}
 use Rattle.net_model.proofs.HiddenLemmas.{sid_shown, route_shown, address_shown, nothing_shown}
 use Rattle.net_model.proofs.hidden.is_shown.Goals as goal
 

@@ -4,8 +4,8 @@ use Rattle.std.specs.BTreeMap as map
 use Rattle.std.specs.Ordering.{is_eq}
 use Rattle.std.proofs.lemmas.Result.{on_ok_weaker, on_err_weaker}
 use Rattle.std.proofs.lemmas.Map.Steps.{set_value_same}
-use Rattle.net_model.specs.declared.tables.TableKey.{TableKey}
-use Rattle.net_model.specs.Tables.{table_key_cmp, table_at}
+use Rattle.net_model.specs.declared.lookup_tables.TableKey.{TableKey}
+use Rattle.net_model.specs.LookupTables.{table_key_cmp, table_at}
 use Rattle.net_model.proofs.SettleLemmas.{settles_by, table_there, no_table}
 use Rattle.net_model.proofs.hidden.place.Goals as goal
 

@@ -1,7 +1,7 @@
 use Rattle.std.proofs.Common.{◌++◌, ◌∷◌, [], Some, sym, ap, ◌∙◌, subst}
-use Rattle.prefix_table.specs.Table.{HasPrefix}
-use Rattle.prefix_table.proofs.EditLemmas.{with_none}
-use Rattle.net_model.specs.Tables.{HitTable, SettlesIn}
+use Rattle.prefix_table.specs.PrefixTable.{HasPrefix}
+use Rattle.prefix_table.proofs.TableEditLemmas.{with_none}
+use Rattle.net_model.specs.LookupTables.{HitTable, SettlesIn}
 use Rattle.net_model.proofs.SettleLemmas.{settles_with, settles_pushed, not_there, there_from, on_err_always}
 use Rattle.net_model.proofs.hidden.place_in.Goals as goal
 

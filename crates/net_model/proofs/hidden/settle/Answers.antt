@@ -1,9 +1,9 @@
 use Rattle.std.proofs.Common.{Some, sym, ap, subst}
 use Rattle.std.specs.Prelude.{is_some}
 use Rattle.std.specs.BTreeMap as map
-use Rattle.prefix_table.specs.Table.{HasPrefix}
-use Rattle.net_model.specs.declared.tables.TableKey.{TableKey}
-use Rattle.net_model.specs.Tables.{HitTable, table_key_cmp}
+use Rattle.prefix_table.specs.PrefixTable.{HasPrefix}
+use Rattle.net_model.specs.declared.lookup_tables.TableKey.{TableKey}
+use Rattle.net_model.specs.LookupTables.{HitTable, table_key_cmp}
 use Rattle.net_model.proofs.SettleLemmas.{settles_by, table_there, no_table, has_none}
 use Rattle.net_model.proofs.hidden.settle.Goals as goal
 

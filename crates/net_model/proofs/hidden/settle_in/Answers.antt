@@ -1,6 +1,6 @@
 use Rattle.std.proofs.Common.{sym, subst}
-use Rattle.prefix_table.specs.Table.{with_value}
-use Rattle.net_model.specs.Tables.{HitTable, SettlesIn}
+use Rattle.prefix_table.specs.PrefixTable.{with_value}
+use Rattle.net_model.specs.LookupTables.{HitTable, SettlesIn}
 use Rattle.net_model.proofs.SettleLemmas.{settles_with}
 use Rattle.net_model.proofs.hidden.settle_in.Goals as goal
 

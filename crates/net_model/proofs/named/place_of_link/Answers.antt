@@ -1,5 +1,5 @@
 use Rattle.std.proofs.Common.{sym, subst}
-use Rattle.net_model.specs.Named.{IsLinkNumbered}
+use Rattle.net_model.specs.NamedTerms.{IsLinkNumbered}
 use Rattle.net_model.proofs.NamedLemmas.{link_numbered_means}
 use Rattle.net_model.proofs.named.place_of_link.Goals as goal
 

@@ -1,5 +1,5 @@
 use Rattle.std.proofs.Common.{sym, subst}
-use Rattle.net_model.specs.Named.{IsNodeNumbered}
+use Rattle.net_model.specs.NamedTerms.{IsNodeNumbered}
 use Rattle.net_model.proofs.NamedLemmas.{node_numbered_means}
 use Rattle.net_model.proofs.named.place_of_node.Goals as goal
 

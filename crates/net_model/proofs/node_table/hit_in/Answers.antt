@@ -1,6 +1,6 @@
 use Rattle.std.proofs.Common.{[], ap, subst}
 use Rattle.std.specs.Option.{option_copied, unwrap_or}
-use Rattle.net_model.specs.Tables.{IsExact}
+use Rattle.net_model.specs.LookupTables.{IsExact}
 use Rattle.net_model.proofs.EntryLemmas.{contains_none}
 use Rattle.net_model.proofs.AnswerLemmas.{longest_hit, longest_none}
 use Rattle.net_model.proofs.node_table.hit_in.Goals as goal

@@ -1,4 +1,4 @@
-use Rattle.net_model.proofs.NumberLemmas.{HasNumbered}
+use Rattle.net_model.proofs.NetworkNumberLemmas.{HasNumbered}
 use Rattle.net_model.proofs.range.are_numbered.Given as goal
 
 abbrev pub invariant-loop-s : goal.invariant-loop-s

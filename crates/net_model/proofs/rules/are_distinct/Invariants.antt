@@ -1,5 +1,5 @@
 use Rattle.std.proofs.Common.{◌≡◌, length}
-use Rattle.net_model.specs.Rules.{are_distinct}
+use Rattle.net_model.specs.NetworkRules.{are_distinct}
 use Rattle.net_model.proofs.rules.are_distinct.Given as goal
 
 -- what the rest answers is what the whole list answers

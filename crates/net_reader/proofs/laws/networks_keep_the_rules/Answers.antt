@@ -1,5 +1,5 @@
-use Rattle.net_reader.proofs.ReadLemmas.{exact-networks}
+use Rattle.net_reader.proofs.ReadLemmas.{exact_networks}
 use Rattle.net_reader.proofs.laws.networks_keep_the_rules.Goals as goal
 
 pub returns : goal.returns
-returns c = exact-networks
+returns c = exact_networks

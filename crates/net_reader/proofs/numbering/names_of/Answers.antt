@@ -1,6 +1,6 @@
 use Rattle.std.proofs.Common.{◌∙◌, map, ap, arith}
 use Rattle.std.proofs.lemmas.List.{take_all}
-use Rattle.net_reader.proofs.NumberLemmas.{kept_names}
+use Rattle.net_reader.proofs.ReaderNumberLemmas.{kept_names}
 use Rattle.net_reader.proofs.numbering.names_of.Goals as goal
 
 pub loop-item-preserved : goal.loop-item-preserved

@@ -1,6 +1,6 @@
 use Rattle.std.proofs.Common.{◌+◌, map, take, sym, subst, ◌∙◌}
-use Rattle.net_reader.specs.Numbering.{HasNumbers}
-use Rattle.net_reader.proofs.NumberLemmas.{known_turn, new_turn}
+use Rattle.net_reader.specs.NumberingTerms.{HasNumbers}
+use Rattle.net_reader.proofs.ReaderNumberLemmas.{known_turn, new_turn}
 use Rattle.net_reader.proofs.numbering.numbers_of.Goals.{then-not-contains_key+in_ok-insert, else-not-contains_key}
 use Rattle.net_reader.proofs.numbering.numbers_of.Goals as goal
 

@@ -1,5 +1,5 @@
 use Rattle.std.proofs.Common.{map, take}
-use Rattle.net_reader.specs.Numbering.{HasNumbers}
+use Rattle.net_reader.specs.NumberingTerms.{HasNumbers}
 use Rattle.net_reader.proofs.numbering.numbers_of.Given as goal
 
 abbrev pub invariant-loop-i : goal.invariant-loop-i

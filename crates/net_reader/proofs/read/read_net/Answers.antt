@@ -1,6 +1,6 @@
 use Rattle.std.proofs.Common.{refl}
-use Rattle.net_model.specs.Network.{network_of}
-use Rattle.net_reader.proofs.ReadLemmas.{said_few, said_in_range, built-whole}
+use Rattle.net_model.specs.NetworkTerms.{network_of}
+use Rattle.net_reader.proofs.ReadLemmas.{said_few, said_in_range, built_whole}
 use Rattle.net_reader.proofs.read.read_net.Goals as goal
 
 pub join-requires-clause-few_nodes : goal.join-requires-clause-few_nodes
@@ -19,4 +19,4 @@ pub build-requires : goal.build-requires
 build-requires c = rw c.in_ok-parts.ensures (said_in_range c.args.text.now c.in_ok-said.said c.in_ok-said.ensures)
 
 pub returns-clause-whole : goal.returns-clause-whole
-returns-clause-whole c = built-whole (network_of c.in_ok-parts.parts) c.build.result refl c.build.ensures.value
+returns-clause-whole c = built_whole (network_of c.in_ok-parts.parts) c.build.result refl c.build.ensures.value

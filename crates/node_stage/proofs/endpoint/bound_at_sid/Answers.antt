@@ -3,7 +3,7 @@ use Rattle.srv6_rules.specs.Behaviours.{behaviour_reduces}
 use Rattle.srv6_rules.specs.Endpoint.{at_sid}
 use Rattle.srv6_rules.specs.Packet.{Packet}
 use Rattle.std.specs.Prelude.{Some}
-use Rattle.node_stage.specs.Staging.{IsBigAfter}
+use Rattle.node_stage.specs.StageAnswers.{IsBigAfter}
 use Rattle.node_stage.proofs.endpoint.bound_at_sid.Goals as goal
 
 pub bound_by-requires-clause-big : goal.bound_by-requires-clause-big

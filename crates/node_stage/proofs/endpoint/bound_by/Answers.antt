@@ -1,16 +1,16 @@
 use Rattle.std.proofs.Common.{◌≡◌, ◌∙◌, ℕ, Bool, Some, false, refl, ap, max, sym, subst}
 use Rattle.pkt_buf.specs.BufferView.{Buffer}
-use Rattle.policy_encap.specs.declared.headers.TheConstants.{MAX_FRONT}
+use Rattle.policy_encap.specs.declared.policy_headers.TheConstants.{MAX_FRONT}
 use Rattle.srv6_rules.specs.Behaviours.{behaviour_reduces}
 use Rattle.srv6_rules.specs.Endpoint.{at_sid}
 use Rattle.srv6_rules.specs.Packet.{Packet, V6, packet_at}
 use Rattle.walk_rules.specs.Treatment.{treated_at_sid}
 use Rattle.endpoint_chain.specs.Outcomes.{HoldsAlone}
-use Rattle.node_stage.specs.declared.staged.Staged.{Staged}
+use Rattle.node_stage.specs.declared.stage_result.Staged.{Staged}
 use Rattle.node_stage.specs.Fronted.{FrontedContent, fronted}
-use Rattle.node_stage.specs.Staging.{IsBigAfter, StagesAll}
-use Rattle.node_stage.proofs.BindingLemmas.{dropped-big, goes-on-bound}
-use Rattle.node_stage.proofs.FrontLemmas.{kept-back}
+use Rattle.node_stage.specs.StageAnswers.{IsBigAfter, StagesAll}
+use Rattle.node_stage.proofs.BindingLemmas.{dropped_big, goes_on_bound}
+use Rattle.node_stage.proofs.StageFrontLemmas.{kept_back}
 use Rattle.node_stage.proofs.endpoint.bound_by.Goals as goal
 
 pub returns-then-big : goal.returns-then-big
@@ -22,7 +22,7 @@ returns-then-big c = λ net node number named there binds names is.
     let before : FrontedContent = fronted (V6 c.args.packet.packet) c.args.packet.front in
     let Q : Staged → Type 0 = λ x. StagesAll net node before x (treated_at_sid net node c.args.sid s.behaviour c.args.packet.packet e) in
     subst Q (sym c.too_big.ensures) (
-      dropped-big net node c.args.sid s c.args.allow.now c.args.packet.packet number named policy binds names is
+      dropped_big net node c.args.sid s c.args.allow.now c.args.packet.packet number named policy binds names is
           (subst P c.if-big.true c.requires.big),
       refl,
     )
@@ -65,10 +65,10 @@ returns-in-Err c = λ net node number named there binds names is.
     let policy = c.args.policy.now in
     let P : Bool → Type 0 =
     λ b. IsBigAfter (at_sid s c.args.allow.now c.args.packet.packet) policy (behaviour_reduces s.behaviour) (Some b) in
-    let back = kept-back c.args.packet c.into_bytes-bytes.result c.reserve_front.new.self c.alone.result c.of.result c.in-Err.ensures.err
+    let back = kept_back c.args.packet c.into_bytes-bytes.result c.reserve_front.new.self c.alone.result c.of.result c.in-Err.ensures.err
     c.into_bytes-bytes.ensures.packet c.into_bytes-bytes.ensures.front c.alone.ensures c.of.ensures c.in-Err.ensures.want in (
       back.0,
       back.1,
-      goes-on-bound net node c.args.sid s c.args.allow.now c.args.packet.packet number named policy there binds names is
+      goes_on_bound net node c.args.sid s c.args.allow.now c.args.packet.packet number named policy there binds names is
           (subst P c.if-big.false c.requires.big),
     )

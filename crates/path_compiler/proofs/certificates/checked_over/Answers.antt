@@ -1,5 +1,5 @@
-use Rattle.path_compiler.proofs.Checking.{says_lists}
-use Rattle.path_compiler.proofs.Handing.{says-over}
+use Rattle.path_compiler.proofs.CompilerChecking.{says_lists}
+use Rattle.path_compiler.proofs.CompilerHanding.{says_over}
 use Rattle.path_compiler.proofs.certificates.checked_over.Goals as goal
 
 pub returns-clause-says : goal.returns-clause-says
@@ -10,7 +10,7 @@ returns-clause-says g c =
 
 pub returns-clause-handing : goal.returns-clause-handing
 returns-clause-handing g c =
-    says-over (g.L.Legs.seen c.args.legs.now) (g.L.ListLegs.network c.args.legs.now) (g.L.ListLegs.realizes c.args.legs.now)
+    says_over (g.L.Legs.seen c.args.legs.now) (g.L.ListLegs.network c.args.legs.now) (g.L.ListLegs.realizes c.args.legs.now)
     (g.L.ListLegs.executes c.args.legs.now) (g.L.ListLegs.hands c.args.legs.now) c.keeps_meaning.ensures c.check.result
     (says_lists (g.L.Legs.seen c.args.legs.now) (g.L.ListLegs.network c.args.legs.now) (g.L.ListLegs.realizes c.args.legs.now)
     (g.L.ListLegs.executes c.args.legs.now) (g.L.ListLegs.hands c.args.legs.now) c.keeps_meaning.ensures c.args.cert.now c.check.result

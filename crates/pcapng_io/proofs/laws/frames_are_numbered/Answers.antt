@@ -1,5 +1,5 @@
-use Rattle.pcapng_io.proofs.Numbered.{numbered-file}
+use Rattle.pcapng_io.proofs.Numbered.{numbered_file}
 use Rattle.pcapng_io.proofs.laws.frames_are_numbered.Goals as goal
 
 pub returns : goal.returns
-returns c = numbered-file
+returns c = numbered_file

@@ -1,7 +1,7 @@
 use Rattle.std.proofs.Common.{ap, sym, ◌∙◌}
 use Rattle.std.specs.Prelude.{nat_lt}
 use Rattle.srv6_rules.specs.Policies.{most_payload, outer_by}
-use Rattle.policy_encap.specs.Answers.{judged_by}
+use Rattle.policy_encap.specs.EncapAnswers.{judged_by}
 use Rattle.policy_encap.proofs.encapsulation.is_too_big.Goals as goal
 
 pub returns : goal.returns

@@ -2,7 +2,7 @@ use Rattle.std.proofs.Common.{◌≡◌, ◌^◌, ◌<◌, ◌≤◌, ◌∙◌,
 use Rattle.srv6_rules.specs.Packet.{spelling}
 use Rattle.srv6_rules.specs.Policies.{outer_by}
 use Rattle.pkt_buf.specs.BufferView.{Buffer}
-use Rattle.policy_encap.proofs.EncapLemmas.{push-makes}
+use Rattle.policy_encap.proofs.EncapLemmas.{push_makes}
 use Rattle.policy_encap.proofs.encapsulation.push.Goals as goal
 
 pub returns-clause-answer : goal.returns-clause-answer
@@ -16,5 +16,5 @@ returns-clause-answer c =
     let spelled : c.put_headers.new.buf.bytes ≡ spelling (outer_by policy c.args.reduced c.args.inner bytes) =
     ap (λ (b : Buffer). b.bytes) c.put_headers.ensures
     ∙ ap (λ xs. spelling (outer_by policy c.args.reduced c.args.inner xs)) c.reserve_front.ensures.bytes in
-    push-makes policy c.args.reduced c.args.inner bytes c.put_headers.new.buf.bytes c.requires.policy c.outer_fits.ensures short
+    push_makes policy c.args.reduced c.args.inner bytes c.put_headers.new.buf.bytes c.requires.policy c.outer_fits.ensures short
     (subst P c.view.ensures c.bytes_fit.ensures) spelled

@@ -1,7 +1,7 @@
 use Rattle.std.proofs.Common.{◌≡◌, ℕ, ◌<◌, ◌≤◌, length, get_or, slice_index, sym, subst}
 use Rattle.std.proofs.lemmas.Bool.{both_ways}
 use Rattle.prefix_table.specs.Index.{AreFalling, Keeps}
-use Rattle.prefix_table.proofs.LengthLemmas.{falling_with, kept_with, below_from}
+use Rattle.prefix_table.proofs.TableLengthLemmas.{falling_with, kept_with, below_from}
 use Rattle.prefix_table.proofs.index.note_length.Goals as goal
 
 pub returns-clause-falling : goal.returns-clause-falling

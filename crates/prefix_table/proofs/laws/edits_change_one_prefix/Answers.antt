@@ -1,4 +1,4 @@
-use Rattle.prefix_table.proofs.EditLemmas.{value_pushed, value_with, is_table_with}
+use Rattle.prefix_table.proofs.TableEditLemmas.{value_pushed, value_with, is_table_with}
 use Rattle.prefix_table.proofs.SwapLemmas.{value_swapped, is_table_swapped}
 use Rattle.prefix_table.proofs.laws.edits_change_one_prefix.Goals as goal
 

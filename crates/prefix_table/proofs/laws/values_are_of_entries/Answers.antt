@@ -1,4 +1,4 @@
-use Rattle.prefix_table.proofs.EditLemmas.{one_from, one_to, there_tells, value_tells}
+use Rattle.prefix_table.proofs.TableEditLemmas.{one_from, one_to, there_tells, value_tells}
 use Rattle.prefix_table.proofs.laws.values_are_of_entries.Goals as goal
 
 pub returns-clause-one : goal.returns-clause-one

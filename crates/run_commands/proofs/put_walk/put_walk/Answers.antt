@@ -5,8 +5,8 @@ use Rattle.walk_rules.specs.Relation.{IsPlace}
 use Rattle.walk_rules.specs.Treatment.{Gave, step_of}
 use Rattle.walk_rules.specs.Walk.{walk_of, choice_at}
 use Rattle.walk_rules.specs.declared.limits.TheConstants.{MAX_STAGES}
-use Rattle.command_output.specs.Gathered.{pooled}
-use Rattle.run_commands.proofs.Walking.{Progress, progress_starts, progress_stops, progress_wants, walk_is_over, staged_on, staged_end, staged_cut}
+use Rattle.command_output.specs.GatheredTerms.{pooled}
+use Rattle.run_commands.proofs.DriverWalking.{Progress, progress_starts, progress_stops, progress_wants, walk_is_over, staged_on, staged_end, staged_cut}
 use Rattle.run_commands.proofs.put_walk.put_walk.Goals as goal
 
 pub loop-used-init : goal.loop-used-init

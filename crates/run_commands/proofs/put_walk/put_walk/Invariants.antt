@@ -2,8 +2,8 @@ use Rattle.std.proofs.Common.{◌-◌, ◌≤◌, Some}
 use Rattle.walk_rules.specs.Relation.{IsPlace}
 use Rattle.walk_rules.specs.Walk.{walk_of, choice_at}
 use Rattle.walk_rules.specs.declared.limits.TheConstants.{MAX_STAGES}
-use Rattle.command_output.specs.Gathered.{pooled}
-use Rattle.run_commands.proofs.Walking.{Progress}
+use Rattle.command_output.specs.GatheredTerms.{pooled}
+use Rattle.run_commands.proofs.DriverWalking.{Progress}
 use Rattle.run_commands.proofs.put_walk.put_walk.Given as goal
 
 abbrev pub invariant-loop-used : goal.invariant-loop-used

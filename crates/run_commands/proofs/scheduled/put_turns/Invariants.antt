@@ -1,7 +1,8 @@
 use Rattle.std.proofs.Common.{length}
-use Rattle.packet_walk.specs.Schedule.{comings_of, due, scheduled}
-use Rattle.command_output.specs.Gathered.{pooled}
-use Rattle.run_commands.proofs.Turning.{InTurns}
+use Rattle.packet_walk.specs.Schedule.{scheduled}
+use Rattle.packet_walk.specs.ScheduleTerms.{comings_of, due}
+use Rattle.command_output.specs.GatheredTerms.{pooled}
+use Rattle.run_commands.proofs.DriverTurning.{InTurns}
 use Rattle.run_commands.proofs.scheduled.put_turns.Given as goal
 
 abbrev pub invariant-turns : goal.invariant-turns

@@ -1,8 +1,8 @@
 use Rattle.std.proofs.Common.{◌≡◌, List, ℕ, ◌+◌, ◌<◌, length, sym, ap, ◌∙◌, arith, None}
 use Rattle.srv6_rules.specs.Areas.{area_fault, tlv_fault}
 use Rattle.ip6_headers.specs.Items.{IsItem}
-use Rattle.ip6_headers.proofs.PublicLaws.{area-behind}
-use Rattle.srh_codec.proofs.ItemLemmas.{tlv-none}
+use Rattle.ip6_headers.proofs.PublicLaws.{area_behind}
+use Rattle.srh_codec.proofs.ItemLemmas.{tlv_none}
 use Rattle.srh_codec.proofs.area.items.Goals as goal
 
 pub items-preserved : goal.items-preserved
@@ -12,9 +12,9 @@ items-preserved c =
     let least = item.least in
     let within = item.within in
     let some : 0 < length rest = omega arith in
-    let none : tlv_fault c.items.at rest ≡ None = tlv-none c.items.at rest c.if-rest-eq-HMAC.false item.fits in
+    let none : tlv_fault c.items.at rest ≡ None = tlv_none c.items.at rest c.if-rest-eq-HMAC.false item.fits in
     record {
-      same = c.items.invariant.same ∙ area-behind tlv_fault c.items.at rest c.in-Some.len some none item.stated
+      same = c.items.invariant.same ∙ area_behind tlv_fault c.items.at rest c.in-Some.len some none item.stated
           ∙ ap (area_fault tlv_fault 0 (c.items.at + c.in-Some.len)) (sym c.split_at.ensures.back);
       fits = omega arith;
     }

@@ -1,5 +1,5 @@
-use Rattle.srv6_rules.proofs.Reached.{over-goes_on}
+use Rattle.srv6_rules.proofs.PacketReached.{over_goes_on}
 use Rattle.srv6_rules.proofs.header_laws.outcome_goes_on.Goals as goal
 
 pub returns : goal.returns
-returns c = over-goes_on
+returns c = over_goes_on

@@ -1,5 +1,5 @@
-use Rattle.srv6_rules.proofs.ErrorLaws.{error_checksum-parts}
+use Rattle.srv6_rules.proofs.ErrorLaws.{error_checksum_parts}
 use Rattle.srv6_rules.proofs.icmp.error_checksum_is_of_its_parts.Goals as goal
 
 pub returns : goal.returns
-returns c = error_checksum-parts
+returns c = error_checksum_parts

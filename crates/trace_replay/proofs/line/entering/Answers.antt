@@ -1,6 +1,6 @@
 use Rattle.std.proofs.Common.{◌≡◌, ◌≤◌, length, arith, ap, ◌∙◌, sym}
 use Rattle.srv6_rules.specs.Packet.{Content, bytes_of, entered, most_len}
-use Rattle.trace_replay.proofs.Entering.{enters-not-whole, enters-whole}
+use Rattle.trace_replay.proofs.ReplayEntering.{enters_not_whole, enters_whole}
 use Rattle.trace_replay.proofs.line.entering.Goals as goal
 
 pub returns-then-len-clause-line : goal.returns-then-len-clause-line
@@ -10,7 +10,7 @@ returns-then-len-clause-line c =
     c.in_ok-to_vec.ensures.items_if_clones_equal (λ x y e. e) ∙ c.deref.ensures.value in
     let whole = c.len-2.ensures ∙ ap (λ (x : Content). length (bytes_of x)) (c.enter-content.ensures ∙ ap (entered c.args.family) same) in
     let len : c.len-len.result ≡ length c.args.packet.items = omega (arith, c.len-len.ensures) in
-    enters-not-whole c.args.family c.args.node c.args.packet.items short c.len-2.result whole
+    enters_not_whole c.args.family c.args.node c.args.packet.items short c.len-2.result whole
     (λ e. c.if-len.true (e ∙ sym len))
 
 pub returns-clause-line : goal.returns-clause-line
@@ -21,4 +21,4 @@ returns-clause-line c =
     let whole = c.len-2.ensures ∙ ap (λ (x : Content). length (bytes_of x)) (c.enter-content.ensures ∙ ap (entered c.args.family) same) in
     let len : c.len-len.result ≡ length c.args.packet.items = omega (arith, c.len-len.ensures) in
     rw c.new.ensures
-    (enters-whole c.args.family c.args.node c.args.packet.items short c.len-2.result whole (c.if-len.false ∙ len))
+    (enters_whole c.args.family c.args.node c.args.packet.items short c.len-2.result whole (c.if-len.false ∙ len))

@@ -1,6 +1,6 @@
 use Rattle.std.proofs.Common.{◌≡◌, true, rules}
-use Rattle.trace_replay.specs.Grammar.{is_numeral}
-use Rattle.trace_replay.proofs.NumberLemmas.{number_refused}
+use Rattle.trace_replay.specs.TraceGrammar.{is_numeral}
+use Rattle.trace_replay.proofs.ReplayNumberLemmas.{number_refused}
 use Rattle.trace_replay.proofs.numbers.number_of_word.Goals as goal
 
 pub returns-in-Err : goal.returns-in-Err

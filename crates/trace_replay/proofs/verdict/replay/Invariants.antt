@@ -1,5 +1,5 @@
 use Rattle.std.proofs.Common.{◌≡◌, ◌+◌, drop}
-use Rattle.trace_replay.specs.Judging.{IsState}
+use Rattle.trace_replay.specs.ReplayJudging.{IsState}
 use Rattle.trace_replay.specs.Replays.{first_wrong, wrong_from}
 use Rattle.trace_replay.proofs.verdict.replay.Given as goal
 

@@ -2,7 +2,7 @@ use Rattle.std.proofs.Common.{length, Some, eqb, sym, ap, ◌∙◌, rules, test
 use Rattle.std.specs.Slice.Iter.{split_rest, split_done, split_callee}
 use Rattle.std.proofs.lemmas.Iterator.Splits.{YieldsList-from_slice_split}
 use Rattle.std.proofs.lemmas.Iterator.Consumers.{YieldsList-turn, YieldsList-end}
-use Rattle.v6_addr.proofs.Reading.{groups_read, groups_refused, groups_too_many, counted, groups_more, groups_of_no_text}
+use Rattle.v6_addr.proofs.AddressReading.{groups_read, groups_refused, groups_too_many, counted, groups_more, groups_of_no_text}
 use Rattle.std.proofs.lemmas.Bool.{eqb-true}
 use Rattle.v6_addr.specs.Text.{groups_of_texts}
 use Rattle.v6_addr.proofs.groups.parse_groups.Goals as goal

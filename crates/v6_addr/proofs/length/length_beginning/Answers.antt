@@ -1,10 +1,10 @@
 use Rattle.std.proofs.Common.{None, Some, refl, sym, ap, arith}
 use Rattle.std.specs.Prelude.{option_map}
-use Rattle.v6_addr.specs.Faults.{Begins}
-use Rattle.v6_addr.specs.Lengths.{length_step, IsLengthOf}
+use Rattle.v6_addr.specs.AddressFaults.{Begins}
+use Rattle.v6_addr.specs.LengthsTerms.{length_step, IsLengthOf}
 use Rattle.v6_addr.specs.Scan.{walked}
 use Rattle.v6_addr.proofs.LengthWalks.{lengths_reach}
-use Rattle.v6_addr.proofs.Walks.{stopped_at, walked_all, walked_more}
+use Rattle.v6_addr.proofs.AddressWalks.{stopped_at, walked_all, walked_more}
 use Rattle.v6_addr.proofs.length.length_beginning.Goals as goal
 
 pub loop-i-init : goal.loop-i-init

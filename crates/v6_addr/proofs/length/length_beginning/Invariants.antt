@@ -1,6 +1,6 @@
 use Rattle.std.proofs.Common.{◌≡◌, ◌≤◌, take, Some, None}
 use Rattle.std.specs.Prelude.{IfSome}
-use Rattle.v6_addr.specs.Lengths.{length_step}
+use Rattle.v6_addr.specs.LengthsTerms.{length_step}
 use Rattle.v6_addr.specs.Scan.{walked}
 use Rattle.v6_addr.proofs.length.length_beginning.Given as goal
 

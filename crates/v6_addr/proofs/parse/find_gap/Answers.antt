@@ -1,6 +1,6 @@
 use Rattle.std.proofs.Common.{arith}
 use Rattle.std.proofs.lemmas.Bool.{and_left, and_right, ne_eqb}
-use Rattle.v6_addr.proofs.Reading.{gap_found, gap_not_yet, no_gap}
+use Rattle.v6_addr.proofs.AddressReading.{gap_found, gap_not_yet, no_gap}
 use Rattle.v6_addr.proofs.parse.find_gap.Goals as goal
 use Rattle.v6_addr.proofs.parse.find_gap.Goals.{else-text-i-eq58-via-then-text-i-eq58+else-text-i-eq58-2, else-text-i-eq58-via-else-text-i-eq58}
 

@@ -1,5 +1,5 @@
 use Rattle.std.proofs.Common.{◌-◌}
-use Rattle.v6_addr.proofs.Reading.{NoGapBefore}
+use Rattle.v6_addr.proofs.AddressReading.{NoGapBefore}
 use Rattle.v6_addr.proofs.parse.find_gap.Given as goal
 
 abbrev pub invariant-loop-i : goal.invariant-loop-i

@@ -1,6 +1,6 @@
 use Rattle.std.proofs.Common.{◌≤◌, lit<, arith}
 use Rattle.std.proofs.Math.Nat.{pow-le-pow_right}
-use Rattle.v6_addr.proofs.Reading.{more_fits, more_digits, number_stops, number_ends}
+use Rattle.v6_addr.proofs.AddressReading.{more_fits, more_digits, number_stops, number_ends}
 use Rattle.v6_addr.proofs.parse.parse_number.Goals as goal
 
 pub returns-in_err-digit-clause-value : goal.returns-in_err-digit-clause-value

@@ -1,4 +1,4 @@
-use Rattle.v6_addr.proofs.Reading.{ReadDigits}
+use Rattle.v6_addr.proofs.AddressReading.{ReadDigits}
 use Rattle.v6_addr.proofs.parse.parse_number.Given as goal
 
 abbrev pub invariant-loop-b : goal.invariant-loop-b

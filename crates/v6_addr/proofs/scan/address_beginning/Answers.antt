@@ -1,10 +1,11 @@
 use Rattle.std.proofs.Common.{refl, sym, arith}
-use Rattle.v6_addr.specs.Scan.{behind, walked}
-use Rattle.v6_addr.specs.Grammar.{IsAddressText}
-use Rattle.v6_addr.specs.Faults.{Begins}
+use Rattle.v6_addr.specs.Scan.{walked}
+use Rattle.v6_addr.specs.ScanTerms.{behind}
+use Rattle.v6_addr.specs.AddressGrammar.{IsAddressText}
+use Rattle.v6_addr.specs.AddressFaults.{Begins}
 use Rattle.v6_addr.specs.declared.scan.Scanned.TheVariants.{Start}
-use Rattle.v6_addr.proofs.Beginnings.{addresses_reach}
-use Rattle.v6_addr.proofs.Walks.{stopped_at, walked_all, walked_more}
+use Rattle.v6_addr.proofs.AddressBeginnings.{addresses_reach}
+use Rattle.v6_addr.proofs.AddressWalks.{stopped_at, walked_all, walked_more}
 use Rattle.v6_addr.proofs.scan.address_beginning.Goals as goal
 
 pub loop-i-init : goal.loop-i-init

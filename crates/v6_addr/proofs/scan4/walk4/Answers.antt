@@ -1,11 +1,11 @@
 use Rattle.std.proofs.Common.{refl, sym, ◌∙◌, ap, arith, length}
 use Rattle.std.proofs.lemmas.List.{take_all}
-use Rattle.v6_addr.specs.Faults.{Begins}
+use Rattle.v6_addr.specs.AddressFaults.{Begins}
 use Rattle.v6_addr.specs.Scan.{walked}
 use Rattle.v6_addr.specs.Scan4.{start4, behind4}
-use Rattle.v6_addr.specs.Text4.{IsAddress4Text}
+use Rattle.v6_addr.specs.Text4Terms.{IsAddress4Text}
 use Rattle.v6_addr.proofs.Places4.{addresses4_reach, start_valid, one_more4}
-use Rattle.v6_addr.proofs.Walks.{stopped_at, walked_all, walked_more}
+use Rattle.v6_addr.proofs.AddressWalks.{stopped_at, walked_all, walked_more}
 use Rattle.v6_addr.proofs.scan4.walk4.Goals as goal
 
 pub loop-i-init : goal.loop-i-init

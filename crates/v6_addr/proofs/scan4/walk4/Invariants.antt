@@ -1,6 +1,7 @@
 use Rattle.std.proofs.Common.{◌≡◌, take, Some}
 use Rattle.v6_addr.specs.Scan.{walked}
-use Rattle.v6_addr.specs.Scan4.{IsPlace4, start4, behind4}
+use Rattle.v6_addr.specs.Scan4.{start4, behind4}
+use Rattle.v6_addr.specs.Scan4Terms.{IsPlace4}
 use Rattle.v6_addr.proofs.scan4.walk4.Given as goal
 
 -- where the bytes so far have led

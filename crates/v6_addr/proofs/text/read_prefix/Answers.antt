@@ -1,5 +1,5 @@
 use Rattle.std.proofs.Common.{◌∙◌, arith}
-use Rattle.v6_addr.proofs.Reading.{prefix_without_slash, prefix_without_address, prefix_without_length, prefix_made}
+use Rattle.v6_addr.proofs.AddressReading.{prefix_without_slash, prefix_without_address, prefix_without_length, prefix_made}
 use Rattle.v6_addr.proofs.text.read_prefix.Goals as goal
 
 pub returns-in_err-slash : goal.returns-in_err-slash

@@ -1,6 +1,6 @@
 use Rattle.std.proofs.Common.{◌≡◌, ◌+◌, ◌-◌, eqb, get_or, cond, sym, ◌∙◌, arith}
 use Rattle.std.proofs.lemmas.Bool.{cond-true, cond-false, eq-eqb, ne_eqb, le-leb, lt-leb}
-use Rattle.v6_addr.proofs.Runs.{no_runs, runs_before, runs_all}
+use Rattle.v6_addr.proofs.AddressRuns.{no_runs, runs_before, runs_all}
 use Rattle.v6_addr.proofs.write.find_longest_run.Goals as goal
 use Rattle.v6_addr.proofs.write.find_longest_run.Goals.{then-groups-i-eq0, else-groups-i-eq0}
 

@@ -1,4 +1,4 @@
-use Rattle.v6_addr.proofs.Runs.{RunsFrom}
+use Rattle.v6_addr.proofs.AddressRuns.{RunsFrom}
 use Rattle.v6_addr.proofs.write.find_longest_run.Given as goal
 
 abbrev pub invariant-loop-i : goal.invariant-loop-i

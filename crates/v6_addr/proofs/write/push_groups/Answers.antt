@@ -1,4 +1,4 @@
-use Rattle.v6_addr.proofs.Writing.{pushed_groups, pushed_nothing}
+use Rattle.v6_addr.proofs.AddressWriting.{pushed_groups, pushed_nothing}
 use Rattle.v6_addr.proofs.write.push_groups.Goals as goal
 
 pub returns-in-Some-clause-bytes : goal.returns-in-Some-clause-bytes

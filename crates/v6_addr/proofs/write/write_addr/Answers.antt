@@ -1,5 +1,5 @@
 use Rattle.std.proofs.Common.{arith}
-use Rattle.v6_addr.proofs.Writing.{written_out, written_short}
+use Rattle.v6_addr.proofs.AddressWriting.{written_out, written_short}
 use Rattle.v6_addr.proofs.write.write_addr.Goals as goal
 
 pub returns-then-run-lt2 : goal.returns-then-run-lt2

@@ -1,5 +1,5 @@
 use Rattle.std.proofs.Common.{◌∙◌, arith}
-use Rattle.v6_addr.proofs.Writing.{written_prefix}
+use Rattle.v6_addr.proofs.AddressWriting.{written_prefix}
 use Rattle.v6_addr.proofs.write.write_prefix.Goals as goal
 
 pub returns : goal.returns

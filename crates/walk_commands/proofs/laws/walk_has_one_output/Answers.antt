@@ -1,5 +1,5 @@
-use Rattle.walk_commands.proofs.OneOutput.{walk-one}
+use Rattle.walk_commands.proofs.WalkOneOutput.{walk_one}
 use Rattle.walk_commands.proofs.laws.walk_has_one_output.Goals as goal
 
 pub returns : goal.returns
-returns c = walk-one
+returns c = walk_one

@@ -1,5 +1,5 @@
-use Rattle.walk_rules.proofs.Sending.{sent-low, sent-high, sent4-low, sent4-high}
+use Rattle.walk_rules.proofs.Sending.{sent_low, sent_high, sent4_low, sent4_high}
 use Rattle.walk_rules.proofs.laws.a_low_hop_limit_is_not_sent.Goals as goal
 
 pub returns : goal.returns
-returns c = record { low = sent-low; high = sent-high; low4 = sent4-low; high4 = sent4-high }
+returns c = record { low = sent_low; high = sent_high; low4 = sent4_low; high4 = sent4_high }

@@ -1,5 +1,5 @@
-use Rattle.walk_rules.proofs.Ends.{walk_of-stages}
+use Rattle.walk_rules.proofs.WalkEnds.{walk_of_stages}
 use Rattle.walk_rules.proofs.laws.a_walk_stays_at_places.Goals as goal
 
 pub returns : goal.returns
-returns c = walk_of-stages
+returns c = walk_of_stages

@@ -1,5 +1,5 @@
-use Rattle.walk_rules.proofs.Walks.{walk_of-ended}
+use Rattle.walk_rules.proofs.WalkWalks.{walk_of_ended}
 use Rattle.walk_rules.proofs.laws.an_ended_walk_stays.Goals as goal
 
 pub returns : goal.returns
-returns c = walk_of-ended
+returns c = walk_of_ended

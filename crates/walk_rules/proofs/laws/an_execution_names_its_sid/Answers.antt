@@ -1,5 +1,5 @@
-use Rattle.walk_rules.proofs.Judged.{step-again, step-hand}
+use Rattle.walk_rules.proofs.Judged.{step_again, step_hand}
 use Rattle.walk_rules.proofs.laws.an_execution_names_its_sid.Goals as goal
 
 pub returns : goal.returns
-returns c = record { again = step-again; hand = step-hand }
+returns c = record { again = step_again; hand = step_hand }

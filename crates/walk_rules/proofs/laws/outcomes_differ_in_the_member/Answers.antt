@@ -1,5 +1,5 @@
-use Rattle.walk_rules.proofs.Judged.{stage-unique}
+use Rattle.walk_rules.proofs.Judged.{stage_unique}
 use Rattle.walk_rules.proofs.laws.outcomes_differ_in_the_member.Goals as goal
 
 pub returns : goal.returns
-returns c = stage-unique
+returns c = stage_unique

@@ -1,5 +1,5 @@
 use Rattle.std.proofs.Common.{length}
-use Rattle.packet_walk.specs.Schedule.{IsOf, due}
+use Rattle.packet_walk.specs.ScheduleTerms.{IsOf, due}
 use Rattle.walk_tests.proofs.packet_walk_tests.turns_of.Given as goal
 
 abbrev pub invariant-turns : goal.invariant-turns

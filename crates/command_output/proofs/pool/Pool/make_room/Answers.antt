@@ -1,4 +1,4 @@
-use Rattle.command_output.specs.Gathered.{pooled}
+use Rattle.command_output.specs.GatheredTerms.{pooled}
 use Rattle.command_output.proofs.Pooling.{goes_if_poured}
 use Rattle.command_output.proofs.pool.Pool.make_room.Goals as goal
 

@@ -1,9 +1,10 @@
 use Rattle.std.proofs.Common.{[], ◌∷◌, ◌++◌, ◌∙◌, ap, refl}
 use Rattle.std.proofs.lemmas.Result.{err_from_is_err_and}
-use Rattle.srx_edge.specs.Steps.{Memory}
-use Rattle.command_output.specs.Answers.{ending_of_step}
-use Rattle.command_output.specs.Gathered.{Waiting, pooled}
-use Rattle.command_output.specs.Pieces.{ForErr, sinks_of}
+use Rattle.srx_edge.specs.CallSteps.{Memory}
+use Rattle.command_output.specs.CommandAnswers.{ending_of_step}
+use Rattle.command_output.specs.GatheredTerms.{Waiting, pooled}
+use Rattle.command_output.specs.OutputPieces.{ForErr}
+use Rattle.command_output.specs.OutputPiecesTerms.{sinks_of}
 use Rattle.command_output.proofs.PieceSteps.{all_on_err}
 use Rattle.command_output.proofs.Pooling.{goes_both, goes_directly, goes_err, goes_longer, goes_poured, goes_then, goes_unpoured, goes_wanting}
 use Rattle.command_output.proofs.Wanting.{wants_err_behind}

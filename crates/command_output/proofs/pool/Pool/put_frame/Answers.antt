@@ -1,11 +1,11 @@
 use Rattle.std.proofs.Common.{◌+◌, ◌≤◌, [], ◌∷◌, ◌++◌, ◌∙◌, ap, arith, length, refl}
 use Rattle.std.proofs.lemmas.Result.{err_from_is_err_and}
-use Rattle.srx_edge.specs.Steps.{Memory}
+use Rattle.srx_edge.specs.CallSteps.{Memory}
 use Rattle.pcap_io.specs.Capture.{written_frame_bytes}
 use Rattle.command_output.specs.declared.limits.TheConstants.{MOST_WAITING}
-use Rattle.command_output.specs.Gathered.{Waiting, pooled}
-use Rattle.command_output.specs.Pieces.{ForOut}
-use Rattle.command_output.proofs.Pooling.{frame-length, goes_both, goes_longer, goes_out, goes_then, goes_wanting}
+use Rattle.command_output.specs.GatheredTerms.{Waiting, pooled}
+use Rattle.command_output.specs.OutputPieces.{ForOut}
+use Rattle.command_output.proofs.Pooling.{frame_length, goes_both, goes_longer, goes_out, goes_then, goes_wanting}
 use Rattle.command_output.proofs.pool.Pool.put_frame.Goals as goal
 
 pub returns-in_err-make_room-clause-goes : goal.returns-in_err-make_room-clause-goes
@@ -32,7 +32,7 @@ returns-clause-goes g c =
     (g.O.Sink.seen c.make_room.new.out) (g.E.Sink.seen c.make_room.new.err) in
     let room : length c.make_room.new.self.out + (16 + length c.args.packet.now) ≤ MOST_WAITING = c.in_ok-make_room.ensures.out in
     let fits : length c.make_room.new.self.out + length frame ≤ MOST_WAITING =
-    omega (arith, room, frame-length c.args.number c.args.micros c.args.packet.now) in
+    omega (arith, room, frame_length c.args.number c.args.micros c.args.packet.now) in
     goes_both [] (ForOut frame ∷ []) _ mid new c.in_ok-make_room.ensures.goes (goes_out frame mid new refl
     (c.in_ok-write_frame.ensures.ok ∙ ap (λ (w : Waiting). w.out ++ frame) c.self.view_is)
     (ap (λ (w : Waiting). w.err) c.self.view_is)

@@ -1,21 +1,21 @@
 use Rattle.std.proofs.Common.{◌≡◌, Some, length, get_or, slice_get, sym, ◌∙◌, ap, subst, arith, eqb-true}
 use Rattle.std.proofs.lemmas.Option.{same_Some, slice_get_within}
 use Rattle.srv6_rules.specs.declared.sid.SidEntry.{SidEntry}
-use Rattle.leg_table.specs.Sids.{node_at}
-use Rattle.leg_table.specs.Table.{LegTable}
-use Rattle.leg_table.proofs.Ways.{first-stands, none-of-none, none-above}
+use Rattle.leg_table.specs.PositionSids.{node_at}
+use Rattle.leg_table.specs.StrictTableTerms.{LegTable}
+use Rattle.leg_table.proofs.StrictWays.{first_stands, none_of_none, none_above}
 use Rattle.leg_table.proofs.strict_legs.StrictLegs.has_sid.Goals as goal
 
 pub returns-then-is_empty : goal.returns-then-is_empty
 returns-then-is_empty c =
-    sym (none-of-none c.args.self.now.net c.keeps_rules.ensures.facts c.args.self.now.intent c.args.position c.row-row.result.now
+    sym (none_of_none c.args.self.now.net c.keeps_rules.ensures.facts c.args.self.now.intent c.args.position c.row-row.result.now
     c.row-row.ensures c.args.n (eqb-true (length c.row-row.result.now) 0 (sym c.is_empty.ensures ∙ c.if-is_empty.true)))
 
 pub returns-then-n-sids : goal.returns-then-n-sids
 returns-then-n-sids c =
     let same : length c.self.inside.net.now.sids ≡ length c.args.self.now.net.sids =
     ap (λ (t : LegTable). length t.net.sids) c.self.view_is in
-    sym (none-above c.args.self.now.net c.keeps_rules.ensures.facts c.args.self.now.intent c.args.position c.row-row.result.now
+    sym (none_above c.args.self.now.net c.keeps_rules.ensures.facts c.args.self.now.intent c.args.position c.row-row.result.now
     c.row-row.ensures c.args.n (omega (arith, c.sids.ensures, same, c.if-n-sids.true)))
 
 pub sid-requires : goal.sid-requires
@@ -23,7 +23,7 @@ sid-requires c =
     let numbers = c.row-row.result.now in
     let same : length c.self.inside.net.now.sids ≡ length c.args.self.now.net.sids =
     ap (λ (t : LegTable). length t.net.sids) c.self.view_is in
-    let stands = first-stands c.args.self.now.net c.keeps_rules.ensures.facts c.args.self.now.intent c.args.position numbers
+    let stands = first_stands c.args.self.now.net c.keeps_rules.ensures.facts c.args.self.now.intent c.args.position numbers
     c.row-row.ensures
     (sym c.is_empty.ensures ∙ c.if-is_empty.false) in
     let within = slice_get_within c.args.self.now.net.sids (get_or numbers 0 0) stands.0 stands.1 in
@@ -32,7 +32,7 @@ sid-requires c =
 pub is_sid_at-requires-clause-stands : goal.is_sid_at-requires-clause-stands
 is_sid_at-requires-clause-stands c =
     let numbers = c.row-row.result.now in
-    let stands = first-stands c.args.self.now.net c.keeps_rules.ensures.facts c.args.self.now.intent c.args.position numbers
+    let stands = first_stands c.args.self.now.net c.keeps_rules.ensures.facts c.args.self.now.intent c.args.position numbers
     c.row-row.ensures
     (sym c.is_empty.ensures ∙ c.if-is_empty.false) in
     let found : slice_get c.args.self.now.net.sids (get_or numbers 0 0) ≡ Some c.sid.result.now =

@@ -1,8 +1,8 @@
 use Rattle.std.proofs.Common.{◌≡◌, ◌≤◌, ◌-◌, ◌+◌, ℕ, length, drop, get_or, Some, subst, ap, sym, ◌∙◌, arith}
 use Rattle.std.proofs.lemmas.Option.{slice_get_read}
-use Rattle.leg_table.specs.Reach.{IsReach}
-use Rattle.leg_table.specs.Sids.{node_at}
-use Rattle.leg_table.specs.Table.{LegTable}
+use Rattle.leg_table.specs.TransitTables.{IsReach}
+use Rattle.leg_table.specs.PositionSids.{node_at}
+use Rattle.leg_table.specs.StrictTableTerms.{LegTable}
 use Rattle.leg_table.proofs.strict_legs.StrictLegs.reach.Goals as goal
 
 pub returns : goal.returns

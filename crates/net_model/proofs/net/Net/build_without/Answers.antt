@@ -1,4 +1,4 @@
-use Rattle.net_model.specs.Network.{network_of}
+use Rattle.net_model.specs.NetworkTerms.{network_of}
 use Rattle.net_model.proofs.SidLaws.{enough_law}
 use Rattle.net_model.proofs.net.Net.build_without.Goals as goal
 

@@ -1,6 +1,6 @@
 use Rattle.std.proofs.Common.{◌≡◌, ◌↔◌, nat_lt, true, sym, subst}
 use Rattle.net_model.specs.declared.net.EntryId.{EntryId}
-use Rattle.net_model.specs.Network.{CanHide}
+use Rattle.net_model.specs.NetworkTerms.{CanHide}
 use Rattle.net_model.proofs.HiddenLemmas.{there_is}
 use Rattle.net_model.proofs.net.Net.can_hide.Goals as goal
 

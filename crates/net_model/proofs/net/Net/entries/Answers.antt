@@ -3,7 +3,7 @@ use Rattle.std.specs.Option.{option_copied, unwrap_or}
 use Rattle.std.specs.BTreeMap as map
 use Rattle.net_model.specs.Network.{Network}
 use Rattle.net_model.specs.Best.{entries_of}
-use Rattle.net_model.specs.Tables.{HitTable, table_key_cmp, table_key, table_at, IsExact}
+use Rattle.net_model.specs.LookupTables.{HitTable, table_key_cmp, table_key, table_at, IsExact}
 use Rattle.net_model.proofs.net.Net.entries.Goals as goal
 
 pub returns : goal.returns

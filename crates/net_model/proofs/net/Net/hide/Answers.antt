@@ -1,5 +1,6 @@
 use Rattle.std.proofs.Common.{◌≡◌, true, false, sym, subst}
-use Rattle.net_model.specs.Network.{Network, network_of, network_with, is_shown, hit_of_entry, CanHide, IsEdited}
+use Rattle.net_model.specs.Network.{Network, is_shown, hit_of_entry}
+use Rattle.net_model.specs.NetworkTerms.{network_of, network_with, CanHide, IsEdited}
 use Rattle.net_model.proofs.HiddenLemmas.{can_hide_of, marked_others, marked_flags, edited_by}
 use Rattle.net_model.proofs.FirstLemmas.{entry_listed, tables_before}
 use Rattle.net_model.proofs.SettleLemmas.{tables_settled, listed_there}

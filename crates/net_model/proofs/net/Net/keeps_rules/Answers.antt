@@ -1,7 +1,7 @@
 use Rattle.std.proofs.Common.{subst}
-use Rattle.net_model.specs.Rules.{IsNetwork}
-use Rattle.net_model.specs.Judging.{InRange}
-use Rattle.net_model.proofs.KeepsLemmas.{keeps_from_network}
+use Rattle.net_model.specs.NetworkRulesTerms.{IsNetwork}
+use Rattle.net_model.specs.NetworkJudgingTerms.{InRange}
+use Rattle.net_model.proofs.NetworkKeepsLemmas.{keeps_from_network}
 use Rattle.net_model.proofs.HiddenLemmas.{rules_with, range_with}
 use Rattle.net_model.proofs.net.Net.keeps_rules.Goals as goal
 

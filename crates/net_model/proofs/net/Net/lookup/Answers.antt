@@ -1,6 +1,7 @@
 use Rattle.std.proofs.Common.{◌≡◌, sym, ap, ◌∙◌, subst}
-use Rattle.net_model.specs.Best.{IsBest, lookup_of}
-use Rattle.net_model.specs.Tables.{TableOf}
+use Rattle.net_model.specs.Best.{lookup_of}
+use Rattle.net_model.specs.BestTerms.{IsBest}
+use Rattle.net_model.specs.LookupTables.{TableOf}
 use Rattle.net_model.proofs.IsBestLemmas.{lookup_is_best}
 use Rattle.net_model.proofs.net.Net.lookup.Goals as goal
 

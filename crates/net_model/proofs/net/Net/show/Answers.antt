@@ -1,7 +1,8 @@
 use Rattle.std.proofs.Common.{◌≡◌, Some, true, false, sym, ◌∙◌, subst}
 use Rattle.std.specs.Prelude.{IsSome}
-use Rattle.net_model.specs.Network.{Network, network_of, network_with, is_shown, hit_of_entry, CanHide, IsEdited}
-use Rattle.net_model.specs.Tables.{AreTables}
+use Rattle.net_model.specs.Network.{Network, is_shown, hit_of_entry}
+use Rattle.net_model.specs.NetworkTerms.{network_of, network_with, CanHide, IsEdited}
+use Rattle.net_model.specs.LookupTables.{AreTables}
 use Rattle.net_model.proofs.HiddenLemmas.{can_hide_of, marked_there, marked_others, marked_flags, edited_by, marked_back}
 use Rattle.net_model.proofs.FirstLemmas.{entry_listed, tables_before}
 use Rattle.net_model.proofs.SettleLemmas.{tables_settled, listed_first, some_unwrapped, unchanged_tables}

@@ -1,6 +1,7 @@
 use Rattle.std.proofs.Common.{subst}
 use Rattle.node_stage.specs.Fronted.{FrontedContent}
-use Rattle.packet_walk.specs.Flight.{Enters, entering, within}
+use Rattle.packet_walk.specs.Flight.{entering, within}
+use Rattle.packet_walk.specs.FlightTerms.{Enters}
 use Rattle.packet_walk.proofs.packets.Packets.enter.Goals as goal
 
 pub returns : goal.returns

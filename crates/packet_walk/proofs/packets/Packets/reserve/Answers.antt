@@ -1,14 +1,15 @@
 use Rattle.std.proofs.Common.{◌≡◌, ◌-◌, IfSome, None, slice_set, subst, sym, arith}
 use Rattle.walk_rules.specs.Relation.{IsPlace}
-use Rattle.packet_walk.specs.Flight.{Packets, ArePlaced, IsNumber, Reserves, packet_in, within}
-use Rattle.packet_walk.proofs.Numbers.{placed-set, reserves}
-use Rattle.packet_walk.proofs.Rooms.{at-place, reserves-ended}
+use Rattle.packet_walk.specs.Flight.{Packets, packet_in, within}
+use Rattle.packet_walk.specs.FlightTerms.{ArePlaced, IsNumber, Reserves}
+use Rattle.packet_walk.proofs.FlightNumbers.{placed_set, reserves}
+use Rattle.packet_walk.proofs.FlightRooms.{at_place, reserves_ended}
 use Rattle.packet_walk.proofs.packets.Packets.reserve.Goals as goal
 
 pub returns-in-Some : goal.returns-in-Some
 returns-in-Some c =
     record {
-      room = λ net. reserves-ended c.args.number (within net c.args.self.now) _ c.in-Some.ensures;
+      room = λ net. reserves_ended c.args.number (within net c.args.self.now) _ c.in-Some.ensures;
       places = λ net are. are;
     }
 
@@ -32,6 +33,6 @@ returns-in-None c =
           let first = given.first in
           let last = given.last in
           let at : IsPlace net c.index_mut.result.now.place =
-          at-place net packets c.index_mut.result.now (number - 1) owned (omega (arith, first, last)) c.index_mut.ensures.value in
-          placed-set net packets c.reserve.new.self owned (subst (IsPlace net) (sym c.reserve.ensures.place) at) (number - 1));
+          at_place net packets c.index_mut.result.now (number - 1) owned (omega (arith, first, last)) c.index_mut.ensures.value in
+          placed_set net packets c.reserve.new.self owned (subst (IsPlace net) (sym c.reserve.ensures.place) at) (number - 1));
     }

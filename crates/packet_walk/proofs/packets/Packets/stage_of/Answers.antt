@@ -1,6 +1,7 @@
 use Rattle.std.proofs.Common.{◌-◌, IfSome, slice_set, subst, sym}
-use Rattle.packet_walk.specs.Flight.{Packets, ArePlaced, IsNumber, StagesIn, packet_in, within}
-use Rattle.packet_walk.proofs.Numbers.{placed-set, stages-in}
+use Rattle.packet_walk.specs.Flight.{Packets, packet_in, within}
+use Rattle.packet_walk.specs.FlightTerms.{ArePlaced, IsNumber, StagesIn}
+use Rattle.packet_walk.proofs.FlightNumbers.{placed_set, stages_in}
 use Rattle.packet_walk.proofs.packets.Packets.stage_of.Goals as goal
 
 pub returns : goal.returns
@@ -16,9 +17,9 @@ returns c =
     record {
       stage = subst (λ (a : Packets). IfSome (packet_in a.packets number)
           (λ p. StagesIn number (within net a) p c.take_stage.result (within net new))) c.self.view_is
-          (stages-in number (within net all) c.index_mut.result.now given c.index_mut.ensures.value c.take_stage.result
+          (stages_in number (within net all) c.index_mut.result.now given c.index_mut.ensures.value c.take_stage.result
           c.take_stage.new.self c.take_stage.new.error.items c.take_stage.ensures.stage);
-      places = placed-set net packets c.take_stage.new.self
+      places = placed_set net packets c.take_stage.new.self
           (subst (λ (a : Packets). ArePlaced net a.packets) (sym c.self.view_is) c.requires.places) c.take_stage.ensures.place
           (number - 1);
     }

@@ -1,6 +1,6 @@
 use Rattle.std.proofs.Common.{◌≡◌, ◌-◌, [], length}
 use Rattle.std.specs.List.Sorted.{IsStrictlyIncreasing}
-use Rattle.packet_walk.specs.Schedule.{IsOf, progress}
+use Rattle.packet_walk.specs.ScheduleTerms.{IsOf, progress}
 use Rattle.packet_walk.proofs.schedule.Turns.next_going.Given as goal
 
 -- no entry is left, and the packets passed have ended

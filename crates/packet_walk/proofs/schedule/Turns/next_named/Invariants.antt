@@ -1,5 +1,5 @@
 use Rattle.std.proofs.Common.{length}
-use Rattle.packet_walk.specs.Schedule.{IsLeft}
+use Rattle.packet_walk.specs.ScheduleTerms.{IsLeft}
 use Rattle.packet_walk.proofs.schedule.Turns.next_named.Given as goal
 
 abbrev pub invariant-entries : goal.invariant-entries

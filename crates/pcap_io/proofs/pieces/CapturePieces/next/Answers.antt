@@ -1,6 +1,6 @@
 use Rattle.std.proofs.Common.{◌≡◌, ◌∙◌, sym, ap}
-use Rattle.pcap_io.specs.Capture.{Reader}
-use Rattle.pcap_io.specs.Pieces.{fed}
+use Rattle.pcap_io.specs.CaptureTerms.{Reader}
+use Rattle.pcap_io.specs.FedPieces.{fed}
 use Rattle.pcap_io.specs.Feeding.{PiecesSeen, pieces_seen}
 use Rattle.pcap_io.proofs.FeedingLemmas.{found_frame}
 use Rattle.pcap_io.proofs.pieces.CapturePieces.next.Goals as goal

@@ -1,6 +1,6 @@
 use Rattle.std.proofs.Common.{◌≡◌, ◌+◌, ◌≤◌, ◌++◌, ◌∙◌, List, ℕ, length, take, drop, ap, sym, arith, length-drop}
 use Rattle.pkt_buf.specs.BufferView.{Buffer}
-use Rattle.pkt_buf.proofs.BufferLemmas.{same_buffer, cut-behind}
+use Rattle.pkt_buf.proofs.BufferLemmas.{same_buffer, cut_behind}
 use Rattle.pkt_buf.proofs.pkt_buf.PktBuf.cut.Goals as goal
 
 pub returns : goal.returns
@@ -18,5 +18,5 @@ returns c =
     let whole = c.self.inside.held.ok.0 in
     let within : front + at + n ≤ length held = omega (arith, length-drop front held) in
     same_buffer want (drop front c.drop-drain.new.self.0.items) front
-    (ap (drop front) (c.drop-drain.ensures.items ∙ c.drain.ensures.kept) ∙ cut-behind front at n held within
+    (ap (drop front) (c.drop-drain.ensures.items ∙ c.drain.ensures.kept) ∙ cut_behind front at n held within
     ∙ ap (λ xs. take at xs ++ drop (at + n) xs) bytes) room

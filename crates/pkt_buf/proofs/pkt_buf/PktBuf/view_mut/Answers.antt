@@ -1,8 +1,8 @@
 use Rattle.std.proofs.Common.{◌≡◌, ◌-◌, ◌≤◌, ◌++◌, ◌∙◌, List, ℕ, length, take, drop, refl, ap, arith, length-drop}
 use Rattle.std.proofs.lemmas.List.{take_all}
 use Rattle.pkt_buf.specs.BufferView.{Buffer}
-use Rattle.pkt_buf.specs.Lending.{left_in}
-use Rattle.pkt_buf.proofs.BufferLemmas.{same_buffer, lent-behind}
+use Rattle.pkt_buf.specs.BufferLending.{left_in}
+use Rattle.pkt_buf.proofs.BufferLemmas.{same_buffer, lent_behind}
 use Rattle.pkt_buf.proofs.pkt_buf.PktBuf.view_mut.Goals as goal
 
 pub returns : goal.returns
@@ -19,7 +19,7 @@ returns c =
     let lent : List ℕ → List ℕ = λ w. take front held ++ (w ++ drop (length w) (drop front held)) in
     let back : (w : List ℕ) → drop front (take len (lent w ++ drop (length (lent w)) held)) ≡ left_in b.bytes w =
     λ w. ap (λ n. drop front (take n (lent w ++ drop (length (lent w)) held))) whole
-    ∙ lent-behind front held w within ∙ ap (λ xs. left_in xs w) bytes in
+    ∙ lent_behind front held w within ∙ ap (λ xs. left_in xs w) bytes in
     let value : c.slice_mut.result.now ≡ b.bytes =
     c.slice_mut.ensures.value ∙ take_all (len - front) (drop front held) (omega (arith, length-drop front held)) ∙ bytes in (
       (

@@ -1,9 +1,9 @@
 use Rattle.std.proofs.Common.{◌≡◌, slice_get, Some, None, ap, sym, ◌∙◌, subst}
 use Rattle.std.proofs.lemmas.Option.{slice_get-get_or}
-use Rattle.prefix_table.specs.Table.{value_at}
+use Rattle.prefix_table.specs.PrefixTable.{value_at}
 use Rattle.prefix_table.specs.Index.{key_of, place_at}
-use Rattle.prefix_table.proofs.EditLemmas.{value_none}
-use Rattle.prefix_table.proofs.PlaceLemmas.{place_is_within, value_there, none_there}
+use Rattle.prefix_table.proofs.TableEditLemmas.{value_none}
+use Rattle.prefix_table.proofs.TablePlaceLemmas.{place_is_within, value_there, none_there}
 use Rattle.prefix_table.proofs.table.Table.get.Goals as goal
 
 pub returns-in-None : goal.returns-in-None

@@ -1,7 +1,7 @@
 use Rattle.std.proofs.Common.{◌≡◌, ◌↔◌, refl, ap, ◌∙◌, subst}
 use Rattle.std.specs.Prelude.{is_some, IsTrue}
 use Rattle.prefix_table.specs.declared.index.Key.{Key}
-use Rattle.prefix_table.specs.Table.{HasPrefix}
+use Rattle.prefix_table.specs.PrefixTable.{HasPrefix}
 use Rattle.prefix_table.specs.Index.{key_of, place_at}
 use Rattle.prefix_table.proofs.IndexLemmas.{has_tells}
 use Rattle.prefix_table.proofs.table.Table.has.Goals as goal

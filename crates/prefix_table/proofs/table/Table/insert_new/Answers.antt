@@ -1,5 +1,5 @@
 use Rattle.std.proofs.Common.{◌≡◌, ◌++◌, ◌∷◌, [], ap, ◌∙◌, subst}
-use Rattle.prefix_table.specs.Table.{HasPrefix}
+use Rattle.prefix_table.specs.PrefixTable.{HasPrefix}
 use Rattle.prefix_table.proofs.IndexLemmas.{whole_put, whole_same}
 use Rattle.prefix_table.proofs.table.Table.insert_new.Goals as goal
 

@@ -1,9 +1,9 @@
 use Rattle.std.proofs.Common.{◌≡◌, slice_get, slice_set, Some, None, refl, sym, ap, ◌∙◌, subst}
 use Rattle.std.proofs.lemmas.Option.{slice_get-get_or}
-use Rattle.prefix_table.specs.Table.{value_at, with_value}
+use Rattle.prefix_table.specs.PrefixTable.{value_at, with_value}
 use Rattle.prefix_table.specs.Index.{key_of, place_at}
-use Rattle.prefix_table.proofs.EditLemmas.{with_none, value_none}
-use Rattle.prefix_table.proofs.PlaceLemmas.{place_is_within, value_there, with_replaced, whole_replaced, none_there}
+use Rattle.prefix_table.proofs.TableEditLemmas.{with_none, value_none}
+use Rattle.prefix_table.proofs.TablePlaceLemmas.{place_is_within, value_there, with_replaced, whole_replaced, none_there}
 use Rattle.prefix_table.proofs.table.Table.replace.Goals as goal
 
 pub invariant_of-self : goal.invariant_of-self

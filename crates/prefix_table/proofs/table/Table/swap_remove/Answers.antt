@@ -2,11 +2,11 @@ use Rattle.std.proofs.Common.{◌≡◌, slice_get, Some, None, refl, sym, ap, a
 use Rattle.std.specs.Prelude.{if◌then◌else◌}
 use Rattle.std.specs.List.{swap_remove}
 use Rattle.std.proofs.lemmas.Option.{slice_get-get_or}
-use Rattle.prefix_table.specs.Table.{is_one_prefix, value_at}
+use Rattle.prefix_table.specs.PrefixTable.{is_one_prefix, value_at}
 use Rattle.prefix_table.specs.Index.{key_of, place_at, IsTold}
 use Rattle.prefix_table.proofs.IndexLemmas.{taken_none, whole_same}
-use Rattle.prefix_table.proofs.EditLemmas.{value_none, value_absent}
-use Rattle.prefix_table.proofs.PlaceLemmas.{place_is_within, prefix_there, value_there, none_there}
+use Rattle.prefix_table.proofs.TableEditLemmas.{value_none, value_absent}
+use Rattle.prefix_table.proofs.TablePlaceLemmas.{place_is_within, prefix_there, value_there, none_there}
 use Rattle.prefix_table.proofs.SwapLemmas.{swapped_as, value_swapped, has_place_left, whole_swapped}
 use Rattle.prefix_table.proofs.table.Table.swap_remove.Goals as goal
 

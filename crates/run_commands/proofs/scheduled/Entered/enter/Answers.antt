@@ -1,7 +1,8 @@
 use Rattle.std.proofs.Common.{◌∙◌, ◌++◌, ◌∷◌, [], ℕ, List, ap}
 use Rattle.srv6_rules.specs.Packet.{Content}
 use Rattle.node_stage.specs.Fronted.{fronted}
-use Rattle.packet_walk.specs.Flight.{Flight, entered, entering}
+use Rattle.packet_walk.specs.Flight.{Flight, entering}
+use Rattle.packet_walk.specs.FlightTerms.{entered}
 use Rattle.run_commands.proofs.scheduled.Entered.enter.Goals as goal
 
 pub returns-clause-entered : goal.returns-clause-entered

@@ -2,8 +2,9 @@ use Rattle.std.proofs.Common.{◌≡◌, ◌+◌, ◌^◌, ◌<◌, ◌≤◌, O
 use Rattle.srv6_rules.specs.Packet.{entered as entered_as}
 use Rattle.node_stage.specs.Fronted.{fronted}
 use Rattle.packet_walk.specs.Flight.{InFlight, entering}
-use Rattle.update_flight.specs.Transition.{Transition, EntersAs, transition_value}
-use Rattle.update_flight.proofs.Entering.{late-enters, early-enters, early-kept}
+use Rattle.update_flight.specs.Transition.{Transition}
+use Rattle.update_flight.specs.TransitionTerms.{EntersAs, transition_value}
+use Rattle.update_flight.proofs.PassingEntering.{late_enters, early_enters, early_kept}
 use Rattle.update_flight.proofs.transition.Transition.enter.Goals as goal
 
 pub invariant_of-self : goal.invariant_of-self
@@ -17,7 +18,7 @@ invariant_of-self c =
     entering (fronted (entered_as c.args.place.family c.args.old.bytes) c.args.old.front) c.args.place c.args.choices.now in
     let new : InFlight =
     entering (fronted (entered_as c.args.place.family c.args.new.bytes) c.args.new.front) c.args.place c.args.choices.now in
-    (late-enters inside.passed t c.self.invariant old new c.enter.new.self room behind c.enter.result c.enter.ensures).1
+    (late_enters inside.passed t c.self.invariant old new c.enter.new.self room behind c.enter.result c.enter.ensures).1
 
 pub returns-then-self-len : goal.returns-then-self-len
 returns-then-self-len c =
@@ -31,7 +32,7 @@ returns-then-self-len c =
     let new : InFlight =
     entering (fronted (entered_as c.args.place.family c.args.new.bytes) c.args.new.front) c.args.place c.args.choices.now in
     subst (λ (u : Transition). EntersAs u old new c.enter.result (record t { packets = c.enter.new.self })) c.self.view_is
-    (late-enters inside.passed t c.self.invariant old new c.enter.new.self room behind c.enter.result c.enter.ensures).0
+    (late_enters inside.passed t c.self.invariant old new c.enter.new.self room behind c.enter.result c.enter.ensures).0
 
 pub invariant_of-self-in-Ok : goal.invariant_of-self-in-Ok
 invariant_of-self-in-Ok c =
@@ -44,7 +45,7 @@ invariant_of-self-in-Ok c =
     entering (fronted (entered_as c.args.place.family c.args.old.bytes) c.args.old.front) c.args.place c.args.choices.now in
     let new : InFlight =
     entering (fronted (entered_as c.args.place.family c.args.new.bytes) c.args.new.front) c.args.place c.args.choices.now in
-    (early-enters inside.passed t c.self.invariant old new c.enter-2.new.self room before c.in-Ok.number c.in-Ok.ensures).1
+    (early_enters inside.passed t c.self.invariant old new c.enter-2.new.self room before c.in-Ok.number c.in-Ok.ensures).1
 
 pub returns-in-Ok : goal.returns-in-Ok
 returns-in-Ok c =
@@ -59,7 +60,7 @@ returns-in-Ok c =
     entering (fronted (entered_as c.args.place.family c.args.new.bytes) c.args.new.front) c.args.place c.args.choices.now in
     subst (λ (u : Transition). EntersAs u old new (Ok c.in-Ok.number)
     (record t { early = c.in-Ok.number; packets = c.enter-2.new.self })) c.self.view_is
-    (early-enters inside.passed t c.self.invariant old new c.enter-2.new.self room before c.in-Ok.number c.in-Ok.ensures).0
+    (early_enters inside.passed t c.self.invariant old new c.enter-2.new.self room before c.in-Ok.number c.in-Ok.ensures).0
 
 pub invariant_of-self-in-Err : goal.invariant_of-self-in-Err
 invariant_of-self-in-Err c =
@@ -71,7 +72,7 @@ invariant_of-self-in-Err c =
     entering (fronted (entered_as c.args.place.family c.args.old.bytes) c.args.old.front) c.args.place c.args.choices.now in
     let new : InFlight =
     entering (fronted (entered_as c.args.place.family c.args.new.bytes) c.args.new.front) c.args.place c.args.choices.now in
-    (early-kept inside.passed t c.self.invariant old new c.enter-2.new.self room c.in-Err.why c.in-Err.ensures).1
+    (early_kept inside.passed t c.self.invariant old new c.enter-2.new.self room c.in-Err.why c.in-Err.ensures).1
 
 pub returns : goal.returns
 returns c =
@@ -84,4 +85,4 @@ returns c =
     let new : InFlight =
     entering (fronted (entered_as c.args.place.family c.args.new.bytes) c.args.new.front) c.args.place c.args.choices.now in
     subst (λ (u : Transition). record t { packets = c.enter-2.new.self } ≡ u) c.self.view_is
-    (early-kept inside.passed t c.self.invariant old new c.enter-2.new.self room c.in-Err.why c.in-Err.ensures).0
+    (early_kept inside.passed t c.self.invariant old new c.enter-2.new.self room c.in-Err.why c.in-Err.ensures).0

@@ -1,7 +1,8 @@
 use Rattle.std.proofs.Common.{◌≡◌, ◌+◌, ◌^◌, ◌<◌, ◌≤◌, Ok, subst, sym, arith, length}
 use Rattle.packet_walk.specs.Flight.{InFlight, entering}
-use Rattle.update_flight.specs.Transition.{Transition, EntersAs, transition_value}
-use Rattle.update_flight.proofs.Entering.{late-enters, early-enters, early-kept}
+use Rattle.update_flight.specs.Transition.{Transition}
+use Rattle.update_flight.specs.TransitionTerms.{EntersAs, transition_value}
+use Rattle.update_flight.proofs.PassingEntering.{late_enters, early_enters, early_kept}
 use Rattle.update_flight.proofs.transition.Transition.enter_content.Goals as goal
 
 pub invariant_of-self : goal.invariant_of-self
@@ -12,7 +13,7 @@ invariant_of-self c =
     let room : length t.packets.packets + 1 < 2 ^ 32 =
     subst (λ (u : Transition). length u.packets.packets + 1 < 2 ^ 32) (sym c.self.view_is) c.requires.few in
     let p : InFlight = entering c.args.content c.args.place c.args.choices.now in
-    (late-enters inside.passed t c.self.invariant p p c.enter_content.new.self room behind c.enter_content.result c.enter_content.ensures).1
+    (late_enters inside.passed t c.self.invariant p p c.enter_content.new.self room behind c.enter_content.result c.enter_content.ensures).1
 
 pub returns-then-len-self : goal.returns-then-len-self
 returns-then-len-self c =
@@ -23,7 +24,7 @@ returns-then-len-self c =
     subst (λ (u : Transition). length u.packets.packets + 1 < 2 ^ 32) (sym c.self.view_is) c.requires.few in
     let p : InFlight = entering c.args.content c.args.place c.args.choices.now in
     subst (λ (u : Transition). EntersAs u p p c.enter_content.result (record t { packets = c.enter_content.new.self })) c.self.view_is
-    (late-enters inside.passed t c.self.invariant p p c.enter_content.new.self room behind c.enter_content.result c.enter_content.ensures).0
+    (late_enters inside.passed t c.self.invariant p p c.enter_content.new.self room behind c.enter_content.result c.enter_content.ensures).0
 
 pub invariant_of-self-in-Ok : goal.invariant_of-self-in-Ok
 invariant_of-self-in-Ok c =
@@ -33,7 +34,7 @@ invariant_of-self-in-Ok c =
     let room : length t.packets.packets + 1 < 2 ^ 32 =
     subst (λ (u : Transition). length u.packets.packets + 1 < 2 ^ 32) (sym c.self.view_is) c.requires.few in
     let p : InFlight = entering c.args.content c.args.place c.args.choices.now in
-    (early-enters inside.passed t c.self.invariant p p c.enter_content-2.new.self room before c.in-Ok.number c.in-Ok.ensures).1
+    (early_enters inside.passed t c.self.invariant p p c.enter_content-2.new.self room before c.in-Ok.number c.in-Ok.ensures).1
 
 pub returns-in-Ok : goal.returns-in-Ok
 returns-in-Ok c =
@@ -45,7 +46,7 @@ returns-in-Ok c =
     let p : InFlight = entering c.args.content c.args.place c.args.choices.now in
     subst (λ (u : Transition). EntersAs u p p (Ok c.in-Ok.number)
     (record t { early = c.in-Ok.number; packets = c.enter_content-2.new.self })) c.self.view_is
-    (early-enters inside.passed t c.self.invariant p p c.enter_content-2.new.self room before c.in-Ok.number c.in-Ok.ensures).0
+    (early_enters inside.passed t c.self.invariant p p c.enter_content-2.new.self room before c.in-Ok.number c.in-Ok.ensures).0
 
 pub invariant_of-self-in-Err : goal.invariant_of-self-in-Err
 invariant_of-self-in-Err c =
@@ -54,7 +55,7 @@ invariant_of-self-in-Err c =
     let room : length t.packets.packets + 1 < 2 ^ 32 =
     subst (λ (u : Transition). length u.packets.packets + 1 < 2 ^ 32) (sym c.self.view_is) c.requires.few in
     let p : InFlight = entering c.args.content c.args.place c.args.choices.now in
-    (early-kept inside.passed t c.self.invariant p p c.enter_content-2.new.self room c.in-Err.why c.in-Err.ensures).1
+    (early_kept inside.passed t c.self.invariant p p c.enter_content-2.new.self room c.in-Err.why c.in-Err.ensures).1
 
 pub returns-in-Err : goal.returns-in-Err
 returns-in-Err c =
@@ -64,4 +65,4 @@ returns-in-Err c =
     subst (λ (u : Transition). length u.packets.packets + 1 < 2 ^ 32) (sym c.self.view_is) c.requires.few in
     let p : InFlight = entering c.args.content c.args.place c.args.choices.now in
     subst (λ (u : Transition). record t { packets = c.enter_content-2.new.self } ≡ u) c.self.view_is
-    (early-kept inside.passed t c.self.invariant p p c.enter_content-2.new.self room c.in-Err.why c.in-Err.ensures).0
+    (early_kept inside.passed t c.self.invariant p p c.enter_content-2.new.self room c.in-Err.why c.in-Err.ensures).0

@@ -1,5 +1,5 @@
 use Rattle.std.proofs.Common.{◌≡◌, ◌-◌}
-use Rattle.update_flight.specs.Transition.{IsPassed, transition_value}
+use Rattle.update_flight.specs.TransitionTerms.{IsPassed, transition_value}
 use Rattle.update_flight.proofs.transition.Transition.first_early.Given as goal
 
 -- the packets passed have ended, and nothing else has changed

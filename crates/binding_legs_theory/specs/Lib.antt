@@ -1,0 +1,3 @@
+pub mod BindingKind
+pub mod OriginFacts
+pub mod BindingSentences

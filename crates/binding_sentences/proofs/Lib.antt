@@ -1,4 +1,0 @@
-pub mod Tests
-pub mod Sentences
-pub mod Finishes
-pub mod Witnesses

@@ -1,0 +1,13 @@
+pub mod TunnelLayers
+pub mod TunnelStages
+pub mod TunnelWalks
+pub mod BindingRealizes
+pub mod BindingSmall
+pub mod OwnHandCounting
+pub mod OwnHands
+pub mod Machines
+pub mod TunnelPackets
+pub mod NetworkWorld
+pub mod BindingLegsValue
+pub mod Origins
+pub mod BindingHands

@@ -1,0 +1,10 @@
+pub mod GraphOptions
+pub mod GraphLists
+pub mod GraphJoins
+pub mod GraphDepths
+pub mod GraphWalking
+pub mod GraphComings
+pub mod Legs
+pub mod GraphTables
+pub mod GraphOrders
+pub mod PublicLaws

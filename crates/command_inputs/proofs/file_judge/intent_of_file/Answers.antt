@@ -1,0 +1,12 @@
+use Rattle.std.proofs.Common.{ℕ, List, subst}
+use Rattle.command_output.specs.CommandAnswers.{JudgesText}
+use Rattle.command_inputs.specs.Judgements.{intent_in}
+use Rattle.command_inputs.proofs.InputJudging.{judged_file}
+use Rattle.command_inputs.proofs.file_judge.intent_of_file.Goals as goal
+
+pub returns-clause-judged : goal.returns-clause-judged
+returns-clause-judged g c =
+    judged_file (intent_in c.args.net.now) c.intent_of.result c.in_ok-text.text.items c.args.name.now (g.F.Files.seen c.args.files.now)
+    (g.F.Files.seen c.read.new.self) c.in_ok-text.ensures.1 c.in_ok-text.ensures.2
+    (subst (λ (text : List ℕ). JudgesText (intent_in c.args.net.now) text c.intent_of.result) c.as_slice.ensures.value
+    c.intent_of.ensures.judged)

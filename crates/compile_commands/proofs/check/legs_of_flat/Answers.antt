@@ -1,7 +1,0 @@
-use Rattle.std.proofs.Common.{rules}
-use Rattle.intent_legs.proofs.PublicLaws.{sids-for}
-use Rattle.compile_commands.proofs.check.legs_of_flat.Goals as goal
-
-pub returns-clause-known : goal.returns-clause-known
-returns-clause-known c =
-    sids-for c.args.net.now c.args.intent.now c.keeps_rules.ensures.network (search rules) c.requires.intent

@@ -1,5 +1,0 @@
-use Rattle.flat_networks.proofs.FlatLemmas.{flatness_ok}
-use Rattle.flat_networks.proofs.laws.flat_networks_are_refused_for_nothing.Goals as goal
-
-pub returns : goal.returns
-returns c = flatness_ok

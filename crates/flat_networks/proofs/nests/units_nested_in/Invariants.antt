@@ -1,5 +1,0 @@
-use Rattle.flat_networks.specs.Units.{AreFirstUnits}
-use Rattle.flat_networks.proofs.nests.units_nested_in.Given as goal
-
-abbrev pub invariant-loop-inner : goal.invariant-loop-inner
-invariant-loop-inner l = AreFirstUnits l.sids l.outer l.inner-index l.units.items

@@ -1,4 +1,0 @@
-pub mod Heads
-pub mod Stages
-pub mod Places
-pub mod Runs

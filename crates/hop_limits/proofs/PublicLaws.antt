@@ -1,2 +1,0 @@
--- The lemmas that crates above may cite: each proves a law that a public function has for its contract.
-pub use Rattle.hop_limits.proofs.AtSids.{one-course}

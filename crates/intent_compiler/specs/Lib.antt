@@ -1,0 +1,9 @@
+pub mod LegKinds
+pub mod LegKindsTerms
+pub mod IntentLegs
+pub mod KeptSteps
+pub mod KeptStepsTerms
+pub mod IntentSmall
+pub mod CompilerAnswers
+pub mod IntentVerdicts
+pub mod IntentVerdictsTerms

@@ -1,7 +1,0 @@
-use Rattle.intent_legs.proofs.Answering.{laws-for}
-use Rattle.intent_legs.proofs.legs.IntentLegsLegs.steps.Goals as goal
-
-pub returns-clause-laws : goal.returns-clause-laws
-returns-clause-laws c =
-    let k = c.keeps_rules.ensures in
-    laws-for c.args.self.now.net c.args.self.now.intent k.network k.flat k.intent

@@ -1,6 +1,0 @@
-use Rattle.std.proofs.Common.{◌≡◌, ℕ, ◌<◌, false}
-use Rattle.leg_table.specs.Sids.{is_binding}
-use Rattle.intent_legs.proofs.legs.binds_nothing.Given as goal
-
-abbrev pub invariant-loop-n : goal.invariant-loop-n
-invariant-loop-n l = (k : ℕ) → k < l.n → is_binding l.net k ≡ false

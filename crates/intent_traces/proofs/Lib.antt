@@ -1,0 +1,2 @@
+pub mod TraceParts
+pub mod Splits

@@ -1,5 +1,0 @@
-use Rattle.leg_table.proofs.Rides.{every-ride}
-use Rattle.leg_table.proofs.laws.every_way_is_a_ride.Goals as goal
-
-pub returns : goal.returns
-returns c = λ net end steps place p keeps is_place stands positive. every-ride net end keeps steps place p is_place.1 stands positive

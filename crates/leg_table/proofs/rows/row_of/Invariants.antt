@@ -1,6 +1,0 @@
-use Rattle.std.proofs.Common.{◌≡◌}
-use Rattle.leg_table.specs.Sids.{sids_below}
-use Rattle.leg_table.proofs.rows.row_of.Given as goal
-
-abbrev pub invariant-loop-n : goal.invariant-loop-n
-invariant-loop-n l = l.row.items ≡ sids_below l.net l.intent l.position l.n

@@ -1,5 +1,0 @@
-use Rattle.list_certificate.proofs.Pathing.{Walking}
-use Rattle.list_certificate.proofs.path.walked.Given as goal
-
-abbrev pub invariant-loop-k : goal.invariant-loop-k
-invariant-loop-k g l = Walking (g.L.Legs.seen l.legs) l.lines l.k l.state l.spent

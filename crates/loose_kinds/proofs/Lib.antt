@@ -1,9 +1,0 @@
-pub mod Behind
-pub mod Stages
-pub mod Courses
-pub mod Choosing
-pub mod Agreeing
-pub mod Arrivals
-pub mod Over
-pub mod Together
-pub mod PublicLaws

@@ -1,4 +1,0 @@
-pub mod Standing
-pub mod Positions
-pub mod LegLaws
-pub mod Links

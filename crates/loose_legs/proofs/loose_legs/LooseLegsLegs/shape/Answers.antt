@@ -1,0 +1,13 @@
+use Rattle.std.proofs.Common.{length, arith, ap}
+use Rattle.leg_table.specs.StrictTableTerms.{LegTable}
+use Rattle.loose_legs.specs.IntentSteps.{trace_steps}
+use Rattle.loose_legs.proofs.LooseTablePositions.{sid_within}
+use Rattle.loose_legs.proofs.loose_legs.LooseLegsLegs.shape.Goals as goal
+
+pub shape_of-requires : goal.shape_of-requires
+shape_of-requires c =
+    let within =
+    sid_within c.args.self.now.net c.args.self.now.intent (trace_steps c.args.self.now.intent) c.keeps_rules.ensures.facts c.requires.0
+    c.args.sid c.requires.2 in
+    let e = ap (λ (t : LegTable). length t.net.sids) c.self.view_is in
+    omega arith

@@ -1,6 +1,0 @@
-use Rattle.std.proofs.Common.{◌≡◌}
-use Rattle.loose_laws.specs.Value.{sids_below}
-use Rattle.loose_legs.proofs.rows.row_of.Given as goal
-
-abbrev pub invariant-loop-n : goal.invariant-loop-n
-invariant-loop-n l = l.row.items ≡ sids_below l.net l.intent l.steps l.position l.n

@@ -1,0 +1,10 @@
+pub mod LooseSentenceStops
+pub mod LooseSentenceTests
+pub mod Always
+pub mod Sames
+pub mod LooseSentenceWays
+pub mod LooseSentenceMeaning
+pub mod LooseLegStanding
+pub mod LooseLegPositions
+pub mod LooseLegLegLaws
+pub mod LooseLegLinks

@@ -1,0 +1,3 @@
+pub mod LooseStepsTerms
+pub mod LooseSentences
+pub mod StopLinks

@@ -1,3 +1,0 @@
-pub mod Executions
-pub mod Realizes
-pub mod Small

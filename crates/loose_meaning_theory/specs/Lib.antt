@@ -1,0 +1,3 @@
+pub mod LooseKind
+pub mod LongestWays
+pub mod LooseSmallTerms

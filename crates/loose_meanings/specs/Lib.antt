@@ -1,4 +1,0 @@
-pub mod Steps
-pub mod Sids
-pub mod Legs
-pub mod Sentences

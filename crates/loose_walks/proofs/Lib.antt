@@ -1,0 +1,10 @@
+pub mod Quiet
+pub mod Simulating
+pub mod Bridge
+pub mod Making
+pub mod Numbering
+pub mod Nodes
+pub mod WayStarting
+pub mod WayRows
+pub mod Filling
+pub mod Reaching

@@ -1,3 +1,0 @@
-pub mod Stops
-pub mod Graphs
-pub mod Ways

@@ -1,0 +1,10 @@
+use Rattle.std.proofs.Common.{◌≡◌, ◌-◌, ◌++◌, flat_map}
+use Rattle.std.specs.Prelude.{string_bytes}
+use Rattle.net_generator.specs.GeneratedWords.{from_to}
+use Rattle.net_generator.specs.Networks.{routes_of}
+use Rattle.net_generator.proofs.generated_routes.append_routes_in_block.Given as goal
+
+abbrev pub invariant-loop-i : goal.invariant-loop-i
+invariant-loop-i l =
+    string_bytes l.out ++ flat_map (routes_of l.n) (from_to l.i (l.n - 1))
+    ≡ string_bytes l.initial.out ++ flat_map (routes_of l.n) (from_to 0 (l.n - 1))

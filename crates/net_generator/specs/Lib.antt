@@ -1,0 +1,5 @@
+pub mod GeneratedWords
+pub mod GeneratedWordsTerms
+pub mod Networks
+pub mod Intents
+pub mod GeneratedPackets

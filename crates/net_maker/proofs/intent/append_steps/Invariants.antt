@@ -1,9 +1,0 @@
-use Rattle.std.proofs.Common.{◌≡◌, ◌++◌, flat_map}
-use Rattle.std.specs.Prelude.{string_bytes}
-use Rattle.net_maker.specs.Words.{from_to}
-use Rattle.net_maker.specs.Intents.{step_table}
-use Rattle.net_maker.proofs.intent.append_steps.Given as goal
-
-abbrev pub invariant-loop-i : goal.invariant-loop-i
-invariant-loop-i l =
-    string_bytes l.out ++ flat_map step_table (from_to l.i l.n) ≡ string_bytes l.initial.out ++ flat_map step_table (from_to 1 l.n)

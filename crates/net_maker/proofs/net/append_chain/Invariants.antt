@@ -1,9 +1,0 @@
-use Rattle.std.proofs.Common.{◌≡◌, ◌++◌, flat_map}
-use Rattle.std.specs.Prelude.{string_bytes}
-use Rattle.net_maker.specs.Words.{from_to}
-use Rattle.net_maker.specs.Networks.{link_tables}
-use Rattle.net_maker.proofs.net.append_chain.Given as goal
-
-abbrev pub invariant-loop-i : goal.invariant-loop-i
-invariant-loop-i l =
-    string_bytes l.out ++ flat_map link_tables (from_to l.i l.n) ≡ string_bytes l.initial.out ++ flat_map link_tables (from_to 1 l.n)

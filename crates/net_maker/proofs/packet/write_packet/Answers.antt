@@ -1,9 +1,0 @@
-use Rattle.std.proofs.Common.{arith}
-use Rattle.net_maker.proofs.Spelled.{packet-spellable}
-use Rattle.net_maker.proofs.packet.write_packet.Goals as goal
-
-pub returns-in_err-extend_from_slice-clause-spellable : goal.returns-in_err-extend_from_slice-clause-spellable
-returns-in_err-extend_from_slice-clause-spellable c = packet-spellable c.args.k (omega arith)
-
-pub returns-clause-spellable : goal.returns-clause-spellable
-returns-clause-spellable c = packet-spellable c.args.k (omega arith)

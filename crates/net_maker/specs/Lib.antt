@@ -1,4 +1,0 @@
-pub mod Words
-pub mod Networks
-pub mod Intents
-pub mod Packets

@@ -1,5 +1,0 @@
-use Rattle.net_model.proofs.JudgingLemmas.{HasJudged}
-use Rattle.net_model.proofs.judge.judge_all.Given as goal
-
-abbrev pub invariant-loop-i : goal.invariant-loop-i
-invariant-loop-i g l = HasJudged l.table (g.J.Judge.rules l.rules) l.items l.i

@@ -1,0 +1,4 @@
+pub mod TextWords
+pub mod Prefixes
+pub mod DescriptionText
+pub mod IntentText

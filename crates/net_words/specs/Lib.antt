@@ -1,4 +1,0 @@
-pub mod Words
-pub mod Prefixes
-pub mod Description
-pub mod Intent

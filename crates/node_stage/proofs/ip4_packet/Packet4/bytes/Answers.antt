@@ -1,0 +1,10 @@
+use Rattle.std.proofs.Common.{◌∙◌, ap}
+use Rattle.srv6_rules.specs.Packet4.{spelling4}
+use Rattle.node_stage.specs.FrontedTerms.{FrontedPacket4}
+use Rattle.node_stage.proofs.ReadingLemmas4.{alone4_spelled}
+use Rattle.node_stage.proofs.ip4_packet.Packet4.bytes.Goals as goal
+
+pub returns : goal.returns
+returns c =
+    c.view.ensures ∙ alone4_spelled c.self.inside.bytes.bytes c.self.invariant
+    ∙ ap (λ (v : FrontedPacket4). spelling4 v.packet) c.self.view_is

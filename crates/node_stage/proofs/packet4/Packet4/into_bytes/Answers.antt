@@ -1,9 +1,0 @@
-use Rattle.std.proofs.Common.{◌∙◌, ap}
-use Rattle.srv6_rules.specs.Packet4.{spelling4}
-use Rattle.node_stage.specs.Fronted.{FrontedPacket4}
-use Rattle.node_stage.proofs.ReadingLemmas4.{alone4-spelled}
-use Rattle.node_stage.proofs.packet4.Packet4.into_bytes.Goals as goal
-
-pub returns-clause-spelled : goal.returns-clause-spelled
-returns-clause-spelled c =
-    alone4-spelled c.self.inside.bytes.bytes c.self.invariant ∙ ap (λ (v : FrontedPacket4). spelling4 v.packet) c.self.view_is

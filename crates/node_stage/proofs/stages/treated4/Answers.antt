@@ -1,4 +1,0 @@
-use Rattle.node_stage.proofs.stages.treated4.Goals as goal
-
-pub returns-in-Over-clause-front : goal.returns-in-Over-clause-front
-returns-in-Over-clause-front c = c.sent4.ensures.front c.args.node

@@ -1,0 +1,2 @@
+pub mod HeaderFronts
+pub mod HopLimits

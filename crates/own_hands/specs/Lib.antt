@@ -1,5 +1,0 @@
-pub mod OwnHands
-pub mod Reading
-pub mod Counting
-pub mod Small
-pub mod Realizes

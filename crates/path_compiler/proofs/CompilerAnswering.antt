@@ -1,0 +1,143 @@
+-- From the least path over legs to the chosen list.
+use Rattle.std.proofs.Common.{◌≡◌, ℕ, ◌+◌, ◌<◌, ◌≤◌, arith, Bool, true, false, ◌==◌, eqb-true, List, [], ◌∷◌, length, map, Option, Some, Result, Ok, Err, refl, sym, ◌∙◌, ap, subst}
+use Rattle.std.specs.Prelude.{IfOk, ◌*◌, nat_lt, if◌then◌else◌}
+use Rattle.std.proofs.lemmas.Bool.{ltb-true, ltb-false}
+use Rattle.base.specs.declared.no_memory.NoMemory.{NoMemory}
+use Rattle.srv6_rules.specs.Encapsulation.{header_bytes}
+use Rattle.net_model.specs.Network.{Network}
+use Rattle.net_flatness.specs.Flat.{flatness_of}
+use Rattle.list_pack.specs.declared.types.Container.{Container}
+use Rattle.list_pack.specs.declared.types.Cost.{Cost}
+use Rattle.list_pack.specs.declared.types.PathStep.{PathStep}
+use Rattle.list_pack.specs.declared.types.Solution.{Solution}
+use Rattle.list_pack.specs.LegsValue.{LegsValue}
+use Rattle.list_pack.specs.Costs.{Move, AtMost, Under, start}
+use Rattle.list_pack.specs.Least.{IsFirstLeast, IsPathOrNone, IsSolution, IsWithoutPath, step_of, path_before}
+use Rattle.list_pack.specs.Meaning.{Means, IsPathOf}
+use Rattle.list_pack.specs.Paths.{cost_with}
+use Rattle.list_pack.specs.PathLists.{list_of}
+use Rattle.list_pack.specs.SidLists.{IsLegalList, steps_in}
+use Rattle.path_compiler.specs.declared.compiled.Compiled.{Compiled}
+use Rattle.path_compiler.specs.Compiled.{IsWhole, IsChosen, IsFound, IsNoList}
+use Rattle.path_compiler.specs.CompiledTerms.{IsListIn}
+use Rattle.path_compiler.proofs.Costs.{is_path_law, cost_read}
+
+nil_by : (path : List PathStep) → (length path == 0) ≡ true → path ≡ []
+nil_by [] h = refl
+nil_by (x ∷ xs) h = let none = eqb-true (length (x ∷ xs)) 0 h in absurd (omega (arith, none))
+
+-- a list of more containers needs no fewer header bytes
+bytes_by : (reduced : Bool) (few many : ℕ) → few ≤ many → header_bytes reduced few ≤ header_bytes reduced many
+bytes_by false few many most = omega (arith, most)
+bytes_by true few many most = by_sizes (nat_lt 1 few) refl (nat_lt 1 many) refl
+  where
+    by_sizes : (a : Bool) → nat_lt 1 few ≡ a → (b : Bool) → nat_lt 1 many ≡ b
+        → (if a then 32 + 16 * few else 40) ≤ (if b then 32 + 16 * many else 40)
+    by_sizes false is b is' = below b is'
+      where
+        below : (b : Bool) → nat_lt 1 many ≡ b → 40 ≤ (if b then 32 + 16 * many else 40)
+        below false is = omega (arith)
+        below true is = let above = ltb-true 1 many is in omega (arith, above)
+    by_sizes true is true is' = omega (arith, most)
+    by_sizes true is false is' =
+        let above = ltb-true 1 few is in
+        let under = ltb-false 1 many is' in
+        absurd (omega (arith, above, under, most))
+
+module _ (v : LegsValue) (net : Network) (Realizes Executes Hands : List Container → ℕ → Type 0)
+    (means : Means v net Realizes Executes Hands) where
+  module _ (moves : List Move) (c : Cost) (first : IsFirstLeast v start c moves) where
+    -- a list that realizes costs no less than the least path
+    path_at_most : (other : List Container) (need : ℕ) (path : IsPathOf v Executes other need)
+        → AtMost c (cost_with (length other) path.hops)
+    path_at_most other need path = subst (λ (o : Option Cost). Under (Some c) o) path.cost (first.least path.moves)
+
+    least_list : (other : List Container) (n : ℕ) → IsLegalList net other → Realizes other n → AtMost c (cost_with (length other) n)
+    least_list other n legal real =
+        let path = means.paths other n legal real in
+        let most = path_at_most other n path in
+        let few = most.containers in
+        let within = path.within in
+        record { containers = few; hops = λ same. let h = most.hops same in omega (arith, h, within) }
+
+    first_list : (list other : List Container) → steps_in list ≡ map (step_of v) moves → length list ≡ c.containers
+        → IsWhole net Realizes Executes other c.hops → length other ≡ length list
+        → path_before (steps_in other) (steps_in list) ≡ false
+    first_list list other steps containers whole same =
+        let path = means.paths other c.hops whole.legal whole.realizes in
+        let most = path_at_most other c.hops path in
+        let count : length other ≡ c.containers = same ∙ containers in
+        let above = most.hops (sym count) in
+        let within = path.within in
+        let need : path.hops ≡ c.hops = omega (arith, above, within) in
+        let its : cost_with (length other) path.hops ≡ c
+        = ap (λ (n : ℕ). cost_with n path.hops) count ∙ ap (cost_with c.containers) need in
+        let before = first.first path.moves (path.cost ∙ ap Some its) in
+        let all : map (step_of v) path.moves ≡ steps_in other = (path.whole whole.executes).0 in
+        subst (λ (xs : List PathStep). path_before (steps_in other) xs ≡ false) (sym steps)
+        (subst (λ (xs : List PathStep). path_before xs (map (step_of v) moves) ≡ false) all before)
+
+    -- the list of the first least path is the chosen one
+    chosen_list : IsChosen net Realizes Executes (list_of net (map (step_of v) moves)) c.hops
+    chosen_list =
+        let made = means.lists moves c first.cost in
+        let list : List Container = list_of net (map (step_of v) moves) in
+        record {
+          whole = record { legal = made.legal; realizes = made.realizes; executes = made.executes };
+          least = λ other n legal real.
+              subst (λ (k : ℕ). AtMost (cost_with k c.hops) (cost_with (length other) n)) (sym made.of_path.count)
+              (least_list other n legal real);
+          first = λ other whole same. first_list list other made.of_path.steps made.of_path.count whole same;
+        }
+
+    found_by : (reduced : Bool) (s : Solution) (d : Compiled) → IsSolution v s → s.path ≡ map (step_of v) moves
+        → IsListIn net reduced s d → IsFound v net Realizes Executes reduced d
+    found_by reduced s d is path list =
+        let read = cost_read v s.potentials moves c d.containers d.need is.potentials first list.cost in
+        let made = means.lists moves c first.cost in
+        let its : d.list ≡ list_of net (map (step_of v) moves) = list.list ∙ ap (list_of net) path in
+        record {
+          chosen =
+              subst (λ (n : ℕ). IsChosen net Realizes Executes d.list n) (sym read.1)
+              (subst (λ (l : List Container). IsChosen net Realizes Executes l c.hops) (sym its) chosen_list);
+          containers = read.0 ∙ sym made.of_path.count ∙ sym (ap length its);
+          header = list.header;
+          fewest = λ other n legal real.
+              let containers : d.containers ≡ c.containers = read.0 in
+              let most = (least_list other n legal real).containers in
+              subst (λ (bytes : ℕ). bytes ≤ header_bytes reduced (length other)) (sym list.header)
+              (bytes_by reduced d.containers (length other) (omega (arith, containers, most)));
+          path =
+              ap (λ (x : Solution). x.path) list.solution ∙ path ∙ sym made.of_path.steps ∙ sym (ap steps_in its);
+          solution = subst (λ (x : Solution). IsSolution v x) (sym list.solution) is;
+        }
+
+  pub found_is : (reduced : Bool) (s : Solution) (d : Compiled) → IsSolution v s → 0 < length s.path → IsListIn net reduced s d
+      → IsFound v net Realizes Executes reduced d
+  found_is reduced s d is some list =
+      let path = is_path_law v s.path some is.path in
+      found_by path.moves path.cost path.first reduced s d is path.is_path list
+
+  pub result_found : (reduced : Bool) (s : Solution) (r : Result Compiled NoMemory) → IsSolution v s → 0 < length s.path
+      → IfOk r (IsListIn net reduced s) → IfOk r (IsFound v net Realizes Executes reduced)
+  result_found reduced s (Ok d) is some list = found_is reduced s d is some list
+  result_found reduced s (Err e) is some list = tt
+
+  -- ---- no list
+
+  none_path : (s : Solution) → IsSolution v s → s.path ≡ [] → IsWithoutPath v
+  none_path s is empty = subst (λ (path : List PathStep). IsPathOrNone v path) empty is.path
+
+  pub none_realizes : (s : Solution) → IsSolution v s → s.path ≡ [] → (list : List Container) (need : ℕ) → IsLegalList net list
+      → Realizes list need → ⊥
+  none_realizes s is empty list need legal real =
+      let path = means.paths list need legal real in
+      let some = path.cost in
+      let none = none_path s is empty path.moves in
+      absurd (cc)
+
+  pub no_list : (s : Solution) (path : List PathStep) → net.hidden ≡ [] → flatness_of net ≡ Ok tt → IsSolution v s → path ≡ s.path
+      → (length path == 0) ≡ true → IsNoList v net Realizes s
+  no_list s path whole is_flat is e h =
+      let empty : s.path ≡ [] = sym e ∙ nil_by path h in
+      record { whole = whole; flat = is_flat; none = none_realizes s is empty; solution = is; no_path = empty }

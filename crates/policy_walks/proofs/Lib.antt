@@ -1,0 +1,4 @@
+pub mod HeaderWalkHeads
+pub mod HeaderWalkStages
+pub mod HeaderWalkPlaces
+pub mod HeaderWalkRuns

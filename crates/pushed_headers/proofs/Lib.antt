@@ -1,5 +1,0 @@
-pub mod Framing
-pub mod Taking
-pub mod Heads
-pub mod Policies
-pub mod PublicLaws

@@ -1,0 +1,14 @@
+pub mod Sids
+pub mod Entries
+pub mod SidListSteps
+pub mod Advances
+pub mod Goings
+pub mod Packs
+pub mod Follows
+pub mod Nexts
+pub mod SidListEnds
+pub mod Lasts
+pub mod SidListStarts
+pub mod Alongs
+pub mod Examples
+pub mod PublicLaws

@@ -1,0 +1,4 @@
+pub mod SegmentListsTerms
+pub mod ListPlaces
+pub mod ExecutionRows
+pub mod ListExamples

@@ -1,5 +1,0 @@
-use Rattle.srv6_rules.proofs.EncapsulatedSteps.{at_segment-bad_segments}
-use Rattle.srv6_rules.proofs.encapsulation.decapsulation_is_at_the_last_segment.Goals as goal
-
-pub returns : goal.returns
-returns c = at_segment-bad_segments

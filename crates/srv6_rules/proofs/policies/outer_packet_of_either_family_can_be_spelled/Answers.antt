@@ -1,5 +1,0 @@
-use Rattle.srv6_rules.proofs.PolicyLaws.{round-spellable}
-use Rattle.srv6_rules.proofs.policies.outer_packet_of_either_family_can_be_spelled.Goals as goal
-
-pub returns : goal.returns
-returns c = round-spellable

@@ -1,3 +1,0 @@
-pub mod StartFacts
-pub mod LegLaws
-pub mod Strict

@@ -1,0 +1,3 @@
+pub mod CountedLists
+pub mod Documents
+pub mod TomlListReading

@@ -1,0 +1,2 @@
+pub mod TomlReading
+pub mod Tree

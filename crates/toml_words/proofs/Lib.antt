@@ -1,3 +1,0 @@
-pub mod CountedLists
-pub mod Documents
-pub mod ListReading

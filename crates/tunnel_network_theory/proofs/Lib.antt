@@ -1,0 +1,10 @@
+pub mod Watching
+pub mod NetworkMachine
+pub mod NetworkJoins
+pub mod NetworkHanding
+pub mod Meetings
+pub mod TransitWalks
+pub mod NetworkStarts
+pub mod Forms
+pub mod Intents
+pub mod PublicLaws

@@ -1,0 +1,13 @@
+pub mod Alone
+pub mod TunnelStageDepths
+pub mod TunnelStageSpelled
+pub mod Values
+pub mod Following
+pub mod TunnelStageLaws
+pub mod OwnHandFirsts
+pub mod OwnHandRealizing
+pub mod Shorts
+pub mod OwnFirsts
+pub mod Counted
+pub mod OwnHandSmalls
+pub mod OwnHandLaws

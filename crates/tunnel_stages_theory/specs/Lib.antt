@@ -1,0 +1,5 @@
+pub mod TunnelStagesTerms
+pub mod TunnelWalksTerms
+pub mod TunnelLayersTerms
+pub mod OwnHandSentence
+pub mod BindingSmallTerms

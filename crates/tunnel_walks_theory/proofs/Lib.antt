@@ -1,0 +1,9 @@
+pub mod TunnelOptions
+pub mod Lefts
+pub mod TunnelWalks
+pub mod Tunnels
+pub mod Counts
+pub mod TunnelPaths
+pub mod TunnelRests
+pub mod Needs
+pub mod PublicLaws

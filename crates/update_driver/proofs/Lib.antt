@@ -1,0 +1,14 @@
+pub mod EventSteps
+pub mod EventFronts
+pub mod Seats
+pub mod EventTurning
+pub mod EventEnds
+pub mod Editing
+pub mod EventComing
+pub mod EventStarting
+pub mod Loops
+pub mod EventPackets
+pub mod Driving
+pub mod Tracks
+pub mod Seated
+pub mod EventOver

@@ -1,5 +1,0 @@
-pub mod Arriving
-pub mod Moving
-pub mod Events
-pub mod Going
-pub mod Over

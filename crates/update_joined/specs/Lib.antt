@@ -1,0 +1,3 @@
+pub mod RouteKeys
+pub mod JoinedEntries
+pub mod PrefixKeys

@@ -1,5 +1,0 @@
-pub mod Equal
-pub mod Joined
-pub mod Changes
-pub mod Planning
-pub mod Lookups

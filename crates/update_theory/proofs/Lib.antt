@@ -1,0 +1,15 @@
+pub mod PlanLists
+pub mod Equals
+pub mod PlanNumbers
+pub mod PlanParts
+pub mod Apart
+pub mod Across
+pub mod Grounds
+pub mod PlanKeeping
+pub mod Symmetry
+pub mod SameItems
+pub mod Longest
+pub mod Partners
+pub mod OldLookups
+pub mod LookupLaws
+pub mod PublicLaws

@@ -1,9 +1,0 @@
-pub mod Shown
-pub mod Hideable
-pub mod Between
-pub mod Edits
-pub mod Turns
-pub mod PlanFacts
-pub mod WholeWalks
-pub mod Placed
-pub mod PublicLaws

@@ -1,3 +1,0 @@
--- What an intent is compiled to, and what is wanted of it, for the commands that stand on it (own rule).
-pub use Rattle.compile_commands.specs.Lists.{IntentAnswers, IsCompiledFor, IsLeastFor, NoneLessFor, BindsNothing, IsSmallFor, KeepsToSteps}
-pub use Rattle.compile_commands.specs.Compile.{CompiledWants, IntentWants, NetworkWants, hop_limit_line, none_line, too_long_line}
