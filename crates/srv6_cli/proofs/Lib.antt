@@ -1,6 +1,9 @@
 pub mod Completing
 pub mod Consequences
 pub mod ServeLaws
-pub mod Stops
+pub mod ServeStops
 pub mod Sureness
 pub mod Usage
+pub mod Captures
+pub mod Carrying
+pub mod ServeHopLimits

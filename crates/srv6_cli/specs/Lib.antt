@@ -1,5 +1,8 @@
-pub mod Command
+pub mod Commands
+pub mod CommandsTerms
 pub mod Complete
-pub mod Laws
+pub mod ServeLaws
 pub mod Serves
-pub mod Words
+pub mod CommandWords
+pub mod Captured
+pub mod Headline

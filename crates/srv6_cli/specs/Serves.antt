@@ -1,4 +1,4 @@
--- What a call of `serve` leaves (own rule).
+-- What a call of `serve` leaves.
 use Rattle.std.specs.Prelude.{◌≡◌, true}
 use Rattle.srx_edge.specs.Sources.{drained}
 use Rattle.command_output.specs.declared.status.Status.{Status}
@@ -6,11 +6,11 @@ use Rattle.command_output.specs.declared.status.Status.TheVariants as statuses
 use Rattle.command_output.specs.Endings.{ending_of_status, OnWhole, OrNothing, LinesLast, Takes}
 use Rattle.command_output.specs.Outside.{Outside}
 use Rattle.command_output.specs.Gathered.{InGroups}
-use Rattle.command_output.specs.Pieces.{Output, Stop, ending_by}
-use Rattle.command_output.specs.Shape.{WantedOf, IsOneOf}
-use Rattle.srv6_cli.specs.Command.{shape_of}
+use Rattle.command_output.specs.OutputPieces.{Output, Stop, ending_by}
+use Rattle.command_output.specs.CommandSpec.{WantedOf, IsOneOf}
+use Rattle.srv6_cli.specs.Commands.{spec_of}
 use Rattle.srv6_cli.specs.Complete.{FilesAreSure, HadFaultBeside}
-use Rattle.srv6_cli.specs.Words.{Command}
+use Rattle.srv6_cli.specs.CommandWords.{Command}
 
 -- what a call of `serve` leaves, by its status
 pub record Serves (command : Command) (status : Status) (old new : Outside) : Type 0 where
@@ -22,15 +22,15 @@ pub record Serves (command : Command) (status : Status) (old new : Outside) : Ty
   -- place where the call stopped. It may go out in groups, of which none is long, and of each what is for `out` comes first.
   -- Where the command's lines stand after all of `out`, none went out before that.
   pub output : Output
-  pub wanted : OrNothing stop output (WantedOf (shape_of command) old.files.told old.input.left output)
+  pub wanted : OrNothing stop output (WantedOf (spec_of command) old.files.told old.input.left output)
   pub went : InGroups stop output.pieces old.sinks new.sinks
-  pub lines_last : (shape_of command).lines_last ≡ true → LinesLast stop old.sinks new.sinks
+  pub lines_last : (spec_of command).lines_last ≡ true → LinesLast stop old.sinks new.sinks
   -- With a status other than OutsideFault and NoMemory, it is the one that is wanted, and one of the command's.
   pub status_wanted : OnWhole (ending_of_status status) (output.status ≡ status)
-  pub status_own : OnWhole (ending_of_status status) (IsOneOf (shape_of command).statuses status)
+  pub status_own : OnWhole (ending_of_status status) (IsOneOf (spec_of command).statuses status)
   -- The command's files are asked for, in order, as far as it comes, and none after one whose read failed; an input that it
   -- comes to is read to its end, or one byte past the limit, and it is read to its end where the command is done.
-  pub takes : Takes (shape_of command) stop old.files new.files old.input new.input
-  pub read_to_end : status ≡ statuses.Done → (shape_of command).reads ≡ true → new.input ≡ drained old.input
+  pub takes : Takes (spec_of command) stop old.files new.files old.input new.input
+  pub read_to_end : status ≡ statuses.Done → (spec_of command).reads ≡ true → new.input ≡ drained old.input
   -- With files that are sure and hold what the command comes to, a fault is one of the input or of a sink.
-  pub complete : FilesAreSure (shape_of command) old.files → status ≡ statuses.OutsideFault → HadFaultBeside old new
+  pub complete : FilesAreSure (spec_of command) old.files → status ≡ statuses.OutsideFault → HadFaultBeside old new

@@ -1,29 +1,30 @@
 //! The words of the command line, and the call of the command that they name.
 
 ghost use Rattle.std.specs.Prelude.{◌≡◌, IfOk};
-ghost use Rattle.command_output.specs.Answers.{Commands};
+ghost use Rattle.command_output.specs.CommandAnswers.{Commands};
 ghost use Rattle.command_output.specs.Outside.{outside};
 ghost use Rattle.command_output.specs.Verbs.{words_of};
-ghost use Rattle.srv6_cli.specs.Command.{HasChoices, UsageTold, command_of, command_seen, shape_of};
+ghost use Rattle.srv6_cli.specs.Commands.{command_of, spec_of};
+ghost use Rattle.srv6_cli.specs.CommandsTerms.{HasChoices, UsageTold, command_seen};
 
-use command_output::{Halt, Status, Text, Told};
-use compile_commands::check::{self, CheckWords, check_of_words};
-use compile_commands::compile::{self, CompileWords, compile_of_words};
+use command_output::{Conclusion, Halt, Status, Text};
+use compile_commands::check_command::{CheckWords, check, check_of_words};
+use compile_commands::compile_command::{CompileWords, compile, compile_of_words};
 use generate_commands::{GenWords, gen_of_words, generate};
-use run_commands::run::{self, RunWords, run_of_words};
-use run_commands::show::{self, is_show};
+use run_commands::run_command::{RunWords, run, run_of_words};
+use run_commands::show_command::{is_show, show};
 use srx_edge::{Files, Sink, Source};
 use std::alloc::{AllocError, Global};
-use trace_commands::replay::{self, ReplayWords, replay_of_words};
-use trace_commands::trace::{self, TraceWords, trace_of_words};
-use update_commands::update;
-use update_commands::words::{UpdateWords, update_of_words};
-use walk_commands::walk::{self, WalkWords, walk_of_words};
+use trace_commands::replay_command::{ReplayWords, replay, replay_of_words};
+use trace_commands::trace_command::{TraceWords, trace, trace_of_words};
+use update_commands::update_command::update;
+use update_commands::update_words::{UpdateWords, update_of_words};
+use walk_commands::walk_command::{WalkWords, walk, walk_of_words};
 
-/// The line that says how the program is called. (own rule)
+/// The line that says how the program is called.
 pub const USAGE: &[u8] = b"usage: srv6 compile|check|walk|run|trace|replay|show|gen|update\n";
 
-/// What the words ask for: one of the commands, by its words. (own rule)
+/// What the words ask for: one of the commands, by its words.
 #[derive(Debug, Drop)]
 pub enum Asked<'a> {
     /// A run of the packets of the input from a node of the network that a file describes.
@@ -87,18 +88,18 @@ fn asked_of_words(alloc: Global, words: &[String]) -> Result<Asked<'_>, AllocErr
 }
 
 /// Words that are no command.
-#[tactic(auto, unfolding(crate::specs::Command::usage_line))]
-fn usage() -> Result<Told, Halt>
+#[tactic(auto, unfolding(crate::specs::Commands::usage_line))]
+fn usage() -> Result<Conclusion, Halt>
     ensures { UsageTold result }
 {
-    Ok(Told {
+    Ok(Conclusion {
         line: Text::Fixed(USAGE),
         status: Status::Usage,
     })
 }
 
 /// Runs the command that the words name, up to its last line. The words are those after the
-/// program's name. (own rule)
+/// program's name.
 pub fn command<F: Files, S: Source, O: Sink, E: Sink>(
     alloc: Global,
     words: &[String],
@@ -106,26 +107,24 @@ pub fn command<F: Files, S: Source, O: Sink, E: Sink>(
     input: &mut S,
     out: &mut O,
     err: &mut E,
-) -> Result<Told, Halt>
-    ensures { Commands (shape_of (command_of (words_of words.now))) result
+) -> Result<Conclusion, Halt>
+    ensures { Commands (spec_of (command_of (words_of words.now))) result
         (outside (F.seen files.old) (S.seen input.old) (O.seen out.old) (E.seen err.old))
         (outside (F.seen files.new) (S.seen input.new) (O.seen out.new) (E.seen err.new)) }
 {
     match asked_of_words(alloc, words)? {
-        Asked::Run(words) => run::run(alloc, &words, files, input, out, err),
-        Asked::Compile(words) => compile::compile(alloc, words.file, words.intent, files, out),
-        Asked::Check(words) => {
-            check::check(alloc, words.file, words.intent, words.cert, files, out)
-        }
-        Asked::Walk(words) => walk::walk(alloc, &words, files, input, out, err),
+        Asked::Run(words) => run(alloc, &words, files, input, out, err),
+        Asked::Compile(words) => compile(alloc, words.file, words.intent, files, out),
+        Asked::Check(words) => check(alloc, words.file, words.intent, words.cert, files, out),
+        Asked::Walk(words) => walk(alloc, &words, files, input, out, err),
         Asked::Trace(words) => {
             let choices = words.choices.as_slice();
-            trace::trace(alloc, words.file, words.node, choices, files, input, out)
+            trace(alloc, words.file, words.node, choices, files, input, out)
         }
-        Asked::Replay(words) => replay::replay(alloc, words.file, words.trace, files, out),
+        Asked::Replay(words) => replay(alloc, words.file, words.trace, files, out),
         Asked::Gen(words) => generate(alloc, words.size, words.made, out),
-        Asked::Update(words) => update::update(alloc, &words, files, input, out, err),
-        Asked::Show => show::show(alloc, input, out),
+        Asked::Update(words) => update(alloc, &words, files, input, out, err),
+        Asked::Show => show(alloc, input, out),
         Asked::Unknown => usage(),
     }
 }

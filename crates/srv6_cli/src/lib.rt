@@ -2,11 +2,13 @@
 //!
 //! `specs/Serves.antt` says what a call of `serve` leaves, and `serve` is proved to do that over
 //! any files, source and sinks. A command is one file of code and one of definitions, named for
-//! it, in the crate of its kind: its words, its shape and its output. `specs/Words.antt`,
-//! `specs/Command.antt` and `commands` have a line or two of each.
+//! it, in the crate of its kind: its words, its spec and its output. `specs/CommandWords.antt`,
+//! `specs/Commands.antt` and `commands` have a line or two of each. `specs/Headline.antt` says what a
+//! run of `walk` shows, which `the_headline` proves of every call.
 #![tactic(auto)]
 
 mod commands;
+pub mod headline;
 pub mod laws;
 mod serving;
 

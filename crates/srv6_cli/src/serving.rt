@@ -1,16 +1,16 @@
 //! The top call.
 
 ghost use Rattle.std.specs.Prelude.{◌≡◌, IfOk};
-ghost use Rattle.srx_edge.specs.Steps.{Whole};
-ghost use Rattle.command_output.specs.Answers.{Tells, Concludes, ending_of_failure};
-ghost use Rattle.srv6_cli.specs.Command.{command_of};
+ghost use Rattle.srx_edge.specs.CallSteps.{Whole};
+ghost use Rattle.command_output.specs.CommandAnswers.{Tells, Concludes, ending_of_failure};
+ghost use Rattle.srv6_cli.specs.Commands.{command_of};
 ghost use Rattle.command_output.specs.Outside.{outside};
 ghost use Rattle.command_output.specs.Verbs.{words_of};
 ghost use Rattle.srv6_cli.specs.Serves.{Serves};
 ghost use Rattle.command_output.specs.Endings.{ending_of_status};
 
 use crate::commands::command;
-use command_output::{Failure, Halt, Status, Told, line_of_refusal, write_all};
+use command_output::{Conclusion, Failure, Halt, Status, line_of_refusal, write_all};
 use srx_edge::{Files, Sink, Source};
 use std::alloc::Global;
 
@@ -36,7 +36,7 @@ fn tell<E: Sink>(err: &mut E, line: &[u8], status: Status) -> Status
 }
 
 /// Ends a command: its line on `err`, or nothing more where a step wasn't done.
-fn conclude<E: Sink>(alloc: Global, answer: Result<Told, Halt>, err: &mut E) -> Status
+fn conclude<E: Sink>(alloc: Global, answer: Result<Conclusion, Halt>, err: &mut E) -> Status
     requires { IfOk answer (λ told. ending_of_status told.status ≡ Whole) }
     ensures { Concludes answer result (E.seen err.old) (E.seen err.new) }
 {
@@ -52,7 +52,7 @@ fn conclude<E: Sink>(alloc: Global, answer: Result<Told, Halt>, err: &mut E) -> 
 
 /// Runs a command: words, files and input to output and a status. The words are those after the
 /// program's name. After a fault of the outside and after want of memory nothing more is written.
-/// (own rule)
+///
 ///
 /// `Serves` says what a call leaves: where it stopped, if it did, and that nothing of what follows
 /// that place in the order files, input, pieces was read or written; which output is wanted of what

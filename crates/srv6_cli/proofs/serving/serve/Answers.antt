@@ -1,4 +1,4 @@
-use Rattle.srv6_cli.specs.Command.{command_of}
+use Rattle.srv6_cli.specs.Commands.{command_of}
 use Rattle.command_output.specs.Verbs.{words_of}
 use Rattle.srv6_cli.proofs.ServeLaws.{serves, told_whole}
 use Rattle.srv6_cli.proofs.serving.serve.Goals as goal

@@ -1,4 +1,5 @@
--- What `Serves` says of each fault and of each want of memory in a sink by itself (own rule).
+-- Need not be believed: helps proofs and other laws.
+-- What `Serves` says of each fault and of each want of memory in a sink by itself.
 use Rattle.std.specs.Prelude.{◌≡◌, ◌≢◌, ◌⊎◌, ℕ, true, IsTrue, List, []}
 use Rattle.srx_edge.specs.Edge.{next_count}
 use Rattle.srx_edge.specs.Fakes.{FilesState, SureSinkState, SureSourceState, sure_sink_seen, sure_source_seen}
@@ -6,12 +7,12 @@ use Rattle.srx_edge.specs.FilesFake.{files_seen}
 use Rattle.srx_edge.specs.Sinks.{SinkSeen}
 use Rattle.command_output.specs.declared.status.Status.{Status}
 use Rattle.command_output.specs.declared.status.Status.TheVariants as statuses
-use Rattle.srv6_cli.specs.Command.{shape_of}
+use Rattle.srv6_cli.specs.Commands.{spec_of}
 use Rattle.srv6_cli.specs.Complete.{AreHeld}
-use Rattle.srv6_cli.specs.Words.{Command}
+use Rattle.srv6_cli.specs.CommandWords.{Command}
 use Rattle.command_output.specs.Outside.{Outside, ReadsWhole, outside}
-use Rattle.command_output.specs.Pieces.{Output}
-use Rattle.command_output.specs.Shape.{Held, names_of}
+use Rattle.command_output.specs.OutputPieces.{Output}
+use Rattle.command_output.specs.CommandSpec.{Held, names_of}
 use Rattle.srv6_cli.specs.Serves.{Serves}
 
 -- a sink had one fault, or one want, and no call that did anything came after it
@@ -34,7 +35,7 @@ abbrev pub AfterInputFault : Outside → Outside → Type 0
 AfterInputFault old new = (new.input.faults ≡ next_count old.input.faults) × IsTrue new.input.stopped × (new.sinks ≡ old.sinks)
 
 abbrev pub AfterOut : Command → SinkSeen → SinkSeen → Type 0
-AfterOut command old new = (new.faults ≡ old.faults) × (new.wants ≡ old.wants) × ((shape_of command).lines_last ≡ true → new ≡ old)
+AfterOut command old new = (new.faults ≡ old.faults) × (new.wants ≡ old.wants) × ((spec_of command).lines_last ≡ true → new ≡ old)
 
 abbrev pub AfterOutFault : Command → Outside → Outside → Type 0
 AfterOutFault command old new = HadFault old.sinks.out new.sinks.out × AfterOut command old.sinks.err new.sinks.err
@@ -63,7 +64,7 @@ StandAtZero new = (new.input.faults ≡ 0) × (new.sinks.out.faults ≡ 0) × (n
 
 -- files in memory of which no read fails, and that hold each name that a command comes to
 abbrev pub HoldAll : Command → FilesState → Type 0
-HoldAll command files = (files.fails ≡ []) × AreHeld files.files (names_of (shape_of command) files.files)
+HoldAll command files = (files.fails ≡ []) × AreHeld files.files (names_of (spec_of command) files.files)
 
 abbrev pub sure_outside : FilesState → SureSourceState → SureSinkState → SureSinkState → Outside
 sure_outside files input out err = outside (files_seen files) (sure_source_seen input) (sure_sink_seen out) (sure_sink_seen err)
@@ -80,8 +81,8 @@ InputIsWhole old new = (new.input ≡ old.input) ⊎ ReadsWhole old.input new.in
 
 -- with one content of the files and one input, a command has one output
 abbrev pub HasOneOutput : Command → Type 0
-HasOneOutput command = (held : Held) (input : List ℕ) (a b : Output) → (shape_of command).wants held input a
-    → (shape_of command).wants held input b → a ≡ b
+HasOneOutput command = (held : Held) (input : List ℕ) (a b : Output) → (spec_of command).wants held input a
+    → (spec_of command).wants held input b → a ≡ b
 
 -- of what `serve` leaves
 abbrev pub OfServe : (Command → Status → Outside → Outside → Type 0) → Type 0

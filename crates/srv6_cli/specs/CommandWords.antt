@@ -1,6 +1,6 @@
--- What the words of the command line ask for (own rules).
+-- What the words of the command line ask for.
 use Rattle.std.specs.Prelude.{ℕ, List}
-use Rattle.generate_commands.specs.declared.gen_.Made.{Made}
+use Rattle.generate_commands.specs.declared.gen_command.Made.{Made}
 
 -- what the words ask for; words outside the grammar ask for nothing that there is
 pub data Command : Type 0 where
