@@ -374,7 +374,7 @@ def of_another_length(draw, text, kind):
 
 
 def reach_added(draw, text, kind):
-    """A step more before all others, which is to reach a node; or one in place of the first step, and what follows it as it was."""
+    """A step more before all others, a loose one; or one in place of the first step, and what follows it as it was."""
     first, *steps = TABLE_OF_TEXT.split(text)
     return first + b'[[step]]\nreach = "%s"\n\n' % draw.choice((b"B", b"C")) + b"".join(steps[draw.randrange(2) if steps else 0:])
 

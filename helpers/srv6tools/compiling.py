@@ -18,7 +18,7 @@ from .loose import legs_of
 from .report import HEAD, NO_LIST
 
 END = None
-MOST_LOOSE = 128  # SIDs of a description over which an intent may reach a node
+MOST_LOOSE = 128  # SIDs of a description over which an intent may have a loose step
 
 
 @dataclass(frozen=True, slots=True)

@@ -118,7 +118,7 @@ class Sid:
 
     @property
     def binds(self) -> bool:
-        """Whether it binds a policy."""
+        """Whether it is a binding SID."""
         return self.behaviour.startswith("End.B6.")
 
     def exposes(self, family: int) -> bool:

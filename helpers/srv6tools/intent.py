@@ -46,7 +46,7 @@ class Intent:
 
     @property
     def is_loose(self) -> bool:
-        """Whether some step reaches a node."""
+        """Whether some step is loose."""
         return any(step.reach for step in self.steps)
 
     def executes(self, title: str | None, position: int) -> int | None:

@@ -74,8 +74,8 @@ def pushed_along(net: Network, intent: Intent, path: Sequence[PathStep]) -> Push
 
 
 def links_of(net: Network, intent: Intent, path: Sequence[PathStep]) -> Iterator[tuple[str, int]]:
-    """The links of each step, each with its step, from 1; where a step reaches a node, those that
-    the list may take over any links.
+    """The links of each step, each with its step, from 1; where a step is loose, those that the
+    list may take.
     """
     if not intent.is_loose:
         yield from ((name, step.number) for step in intent.steps for name in step.links)
@@ -83,9 +83,9 @@ def links_of(net: Network, intent: Intent, path: Sequence[PathStep]) -> Iterator
     legs: Legs = legs_of(net, intent)
     position, sid = 0, None
     for leg in legs.along([step.prefix for step in path]):
-        start = legs.start(position, sid)
-        if not isinstance(start, Lost):
-            yield from legs.links_on(start, leg.sid).items()
+        origin = legs.origin(position, sid)
+        if not isinstance(origin, Lost):
+            yield from legs.links_on(origin, leg.sid).items()
         position, sid = leg.position, leg.sid
 
 

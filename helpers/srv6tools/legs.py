@@ -1,7 +1,7 @@
 """How packets come from SID to SID along the steps of an intent, by `docs/FORMATS.md` ('States,
 edges and rooms').
 
-What a certificate speaks of: rides of a packet to a SID's first address, legs and finishes, and
+What a certificate speaks of: transits of a packet to a SID's first address, legs and finishes, and
 the room of containers. That the description and the intent keep their rules, and that the network
 is flat, is taken for granted.
 """
@@ -15,10 +15,10 @@ from .description import Network, Sid
 from .intent import Intent, Step
 from .items import Prefix
 from .places import Halt, Place, Tables, arrival, halt_at, place_behind
-from .pushed_headers import HeaderWalks, Lost, Start
+from .pushed_headers import HeaderWalks, Lost, Origin
 
 
-class Ride(NamedTuple):
+class Transit(NamedTuple):
     """The way of a packet from a place: the steps done, the lowerings of the hop limit, and where
     it ends.
     """
@@ -30,7 +30,7 @@ class Ride(NamedTuple):
 
 
 class Leg(NamedTuple):
-    """A ride to a SID that is executed: the steps done with it, and the lowerings; a last one
+    """A transit to a SID that is executed: the steps done with it, and the lowerings; a last one
     ends the list.
     """
 
@@ -53,8 +53,8 @@ class Legs:
         self.sids = sorted(net.sids, key=lambda sid: (sid.prefix, numbers[sid.node]))
         for sid in self.sids:
             self._by_node.setdefault(sid.node, []).append(sid)
-        self._arrivals: dict[tuple[int, int], Ride] = {}
-        self._legs: dict[Start, list[Leg]] = {}
+        self._arrivals: dict[tuple[int, int], Transit] = {}
+        self._legs: dict[Origin, list[Leg]] = {}
         nodes = [frozenset(self.stands[position:]) for position in range(len(self.stands))]
         self._ahead = [[sid for sid in self.sids if sid.node in ahead] for ahead in nodes]
 
@@ -83,30 +83,30 @@ class Legs:
         """
         return self._ahead[position]
 
-    def start(self, position: int, sid: Sid | None) -> Start | Lost:
+    def origin(self, position: int, sid: Sid | None) -> Origin | Lost:
         """From where a packet goes on that executed a SID last, or none, with so many steps done;
         or where the header is lost that the SID pushes.
         """
         if sid is None:
-            return Start(position, Place(self.intent.headend, 0, None, False))
+            return Origin(position, Place(self.intent.headend, 0, None, False))
         if sid.binds:
             return self.headers.end(position, sid)
-        return Start(position, place_behind(sid))
+        return Origin(position, place_behind(sid))
 
-    def ride(self, start: Start, sid: Sid) -> Ride:
+    def transit(self, origin: Origin, sid: Sid) -> Transit:
         """The way of a packet to the first address of a SID's prefix."""
-        return self._on(start.position, start.place, int(sid.prefix.network_address))
+        return self._on(origin.position, origin.place, int(sid.prefix.network_address))
 
-    def _on(self, position: int, place: Place, address: int) -> Ride:
+    def _on(self, position: int, place: Place, address: int) -> Transit:
         found = self._tables.found_at(place, address)
         if isinstance(found, Sid):
-            return Ride(position, 0, found)
+            return Transit(position, 0, found)
         if halt := halt_at(place, found, address, self.steps[position : position + 1]):
-            return Ride(position, 0, None, halt)
-        ride = self._arrive(position + 1, address)
-        return ride._replace(lowered=ride.lowered + 1) if place.lowers else ride
+            return Transit(position, 0, None, halt)
+        transit = self._arrive(position + 1, address)
+        return transit._replace(lowered=transit.lowered + 1) if place.lowers else transit
 
-    def _arrive(self, position: int, address: int) -> Ride:
+    def _arrive(self, position: int, address: int) -> Transit:
         """The way on from where the walk stands, where the packet has come over a link."""
         key = position, address
         if key not in self._arrivals:
@@ -122,12 +122,12 @@ class Legs:
     def legs(self, position: int, sid: Sid | None) -> list[Leg]:
         """The legs and finishes from behind a SID, or from the headend, in the order of the SIDs.
         """
-        start = self.start(position, sid)
-        if isinstance(start, Lost):
+        origin = self.origin(position, sid)
+        if isinstance(origin, Lost):
             return []
-        if start not in self._legs:
-            self._legs[start] = list(self._find(start))
-        return self._legs[start]
+        if origin not in self._legs:
+            self._legs[origin] = list(self._find(origin))
+        return self._legs[origin]
 
     def along(self, prefixes: Sequence[Prefix]) -> Iterator[Leg]:
         """The legs of a list and its finish, by the prefixes of its SIDs."""
@@ -147,8 +147,8 @@ class Legs:
         """
         position, sid = 0, None
         for leg in self.along(prefixes):
-            start = self.start(position, sid)
-            if isinstance(start, Lost) or self.crosses(start, leg.sid):
+            origin = self.origin(position, sid)
+            if isinstance(origin, Lost) or self.crosses(origin, leg.sid):
                 return
             yield leg.sid
             position, sid = leg.position, leg.sid
@@ -158,24 +158,24 @@ class Legs:
                     return
                 yield stage.sid
 
-    def crosses(self, start: Start, sid: Sid) -> bool:
+    def crosses(self, origin: Origin, sid: Sid) -> bool:
         """Whether a packet crosses a link on its way to a SID."""
-        return self.ride(start, sid).position > start.position
+        return self.transit(origin, sid).position > origin.position
 
-    def links_on(self, start: Start, sid: Sid) -> dict[str, int]:
+    def links_on(self, origin: Origin, sid: Sid) -> dict[str, int]:
         """The links that a packet may take on its way to a SID, each with its step, from 1."""
-        steps = self.steps[start.position : self.ride(start, sid).position]
+        steps = self.steps[origin.position : self.transit(origin, sid).position]
         return {link: step.number for step in reversed(steps) for link in step.links}
 
-    def _find(self, start: Start) -> Iterator[Leg]:
-        for sid in self.sids_ahead(start.position):
-            ride = self.ride(start, sid)
-            if ride.sid is not sid or (to := self.executes(sid, ride.position)) is None:
+    def _find(self, origin: Origin) -> Iterator[Leg]:
+        for sid in self.sids_ahead(origin.position):
+            transit = self.transit(origin, sid)
+            if transit.sid is not sid or (to := self.executes(sid, transit.position)) is None:
                 continue
             if self.goes_on(sid):
-                yield Leg(sid, to, ride.lowered + 1, False)
+                yield Leg(sid, to, transit.lowered + 1, False)
             if sid.exposes(self.intent.family) and to == len(self.steps):
-                yield Leg(sid, to, ride.lowered, True)
+                yield Leg(sid, to, transit.lowered, True)
 
 
 def _stands(net: Network, intent: Intent) -> list[str]:
@@ -287,11 +287,11 @@ class Edges:
 
     def like(self, position: int, sid: Sid | None, room: int) -> tuple:
         """What the edges of a state depend on: states that are alike in it have the same ones."""
-        start = self._legs.start(position, sid)
-        if isinstance(start, Lost):
+        origin = self._legs.origin(position, sid)
+        if isinstance(origin, Lost):
             return ()
         form = (sid.csid, self._rooms.block(sid), self._rooms.nested(sid)) if sid else None
-        return start, form, room
+        return origin, form, room
 
     def of(self, position: int, sid: Sid | None, room: int) -> list[Edge]:
         """The edges of a state, in the order of the SIDs, `new` before `stay`."""

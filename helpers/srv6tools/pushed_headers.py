@@ -1,8 +1,8 @@
 """The header that a SID pushes by a policy: what nodes do with it, and where it is taken off.
 
-By `docs/FORMATS.md` ('States, edges and rooms') and `docs/BEHAVIOUR.md` ('At a SID', 'At a SID that
-binds a policy', 'At a compressed SID'). What the header carries is an IPv6 packet, of which nothing
-is looked at.
+By `docs/FORMATS.md` ('States, edges and rooms') and `docs/BEHAVIOUR.md` ('At a SID', 'At a binding
+SID', 'At a compressed SID'). What the header carries is an IPv6 packet, of which nothing is looked
+at.
 """
 
 import collections
@@ -133,7 +133,7 @@ def _replaced(sid: Sid, block_len: int, header: Header) -> Header | Fate:
 # ---- walks
 
 
-class Start(NamedTuple):
+class Origin(NamedTuple):
     """From where a packet goes on to its next SID, with the steps done there."""
 
     position: int
@@ -169,9 +169,9 @@ class HeaderWalks:
         # by the numbers of SIDs: the bits of their blocks, the headers that they push
         self._lengths: dict[int, int] = {}
         self._headers: dict[int, Header] = {}
-        self._ends: dict[tuple[int, int], Start | Lost] = {}
+        self._ends: dict[tuple[int, int], Origin | Lost] = {}
 
-    def end(self, position: int, sid: Sid) -> Start | Lost:
+    def end(self, position: int, sid: Sid) -> Origin | Lost:
         """Where the header is taken off that a SID pushes, once it is executed with so many steps
         done; or where it is lost.
         """
@@ -237,8 +237,8 @@ class HeaderWalks:
         return self._lengths[sid.number]
 
 
-def _end_of(last: Stage) -> Start | Lost:
+def _end_of(last: Stage) -> Origin | Lost:
     if last.header is None:
-        return Start(last.position, last.place)
+        return Origin(last.position, last.place)
     why = f"{MOST_STAGES} stages leave it in front of the packet"
     return Lost(last.position, last.header.destination, why)

@@ -14,7 +14,7 @@ from .legs import Edges, Legs, Rooms
 from .loose import legs_of
 from .places import Halt, Stop
 from .program import run_program
-from .pushed_headers import Lost, Start
+from .pushed_headers import Lost, Origin
 
 SAY = tool_name("srv6-say")
 MOST_NAMES = 4  # SIDs that one line names
@@ -24,9 +24,9 @@ does, and for each SID there why no list goes on. What is found follows the rule
 (docs/FORMATS.md); that there is no list is what srv6 says. Where there is one, the status is
 3."""
 
-# The SIDs behind which a packet goes on from a start, or which push a header that is lost. None is
-# the headend.
-Starts = dict[Start | Lost, list[Sid | None]]
+# The SIDs behind which a packet goes on from an origin, or which push a header that is lost. None
+# is the headend.
+Origins = dict[Origin | Lost, list[Sid | None]]
 
 
 class Search:
@@ -55,17 +55,17 @@ class Search:
                     rooms.add(edge.room)
                     todo.append((edge.position, edge.sid, edge.room))
 
-    def furthest(self) -> tuple[int, Starts]:
+    def furthest(self) -> tuple[int, Origins]:
         """The most steps that are done where a SID is executed, or the header is taken off that it
         pushes, and from where packets go on there.
         """
-        starts: dict[int, Starts] = {}
+        origins: dict[int, Origins] = {}
         for position, reached in self.reached.items():
             for sid in sorted(reached, key=lambda sid: sid.number if sid else 0):
-                start = self.legs.start(position, sid)
-                done = position if isinstance(start, Lost) else start.position
-                starts.setdefault(done, {}).setdefault(start, []).append(sid)
-        return max(starts), starts[max(starts)]
+                origin = self.legs.origin(position, sid)
+                done = position if isinstance(origin, Lost) else origin.position
+                origins.setdefault(done, {}).setdefault(origin, []).append(sid)
+        return max(origins), origins[max(origins)]
 
 
 class Reasons:
@@ -73,7 +73,7 @@ class Reasons:
 
     def __init__(self, search: Search):
         self.search, self.legs = search, search.legs
-        self.position, self.starts = search.furthest()
+        self.position, self.origins = search.furthest()
 
     def step(self, position: int) -> str:
         """A step by the number of steps that are done before it."""
@@ -89,16 +89,17 @@ class Reasons:
             yield f"no list: no list does a step; the headend is {node}"
         if self.position < len(steps):
             yield f"what comes next is {self.step(self.position)}"
-        for start, sids in self.starts.items():
+        for origin, sids in self.origins.items():
             yield ""
-            if isinstance(start, Lost):
+            if isinstance(origin, Lost):
                 yield f"from {self._names(sids)}:"
-                yield f"  the header that the policy puts in front is lost: {self._why_lost(start)}"
+                why = self._why_lost(origin)
+                yield f"  the header that the policy puts in front is lost: {why}"
             else:
                 binds = sids[0] is not None and sids[0].binds
-                where = f", whose header is taken off at {start.place.node}" if binds else ""
+                where = f", whose header is taken off at {origin.place.node}" if binds else ""
                 yield f"from {self._names(sids)}{where}:"
-                yield from self._from(start, sids[0])
+                yield from self._from(origin, sids[0])
         yield ""
         yield from self._missing()
 
@@ -109,32 +110,34 @@ class Reasons:
         more = len(sids) - len(names)
         return ", ".join(names) + (f" and {more} more like these" if more else "")
 
-    def _from(self, start: Start, sid: Sid | None) -> Iterator[str]:
+    def _from(self, origin: Origin, sid: Sid | None) -> Iterator[str]:
         """A line for each reason, with the SIDs that a packet doesn't come to for it."""
         reasons: dict[str, list[Sid]] = {}
         for to in self.legs.sids_ahead(self.position):
-            if why := self.why_not(start, sid, to):
+            if why := self.why_not(origin, sid, to):
                 reasons.setdefault(why, []).append(to)
         if not reasons:
             yield "  there is no other SID at any node of the path from here on"
         for why, targets in reasons.items():
             yield f"  to {self._names(targets)}: {why}"
 
-    def why_not(self, start: Start, sid: Sid | None, to: Sid) -> str:
+    def why_not(self, origin: Origin, sid: Sid | None, to: Sid) -> str:
         """Why no list goes on from a SID to another; nothing where one comes to it without a
         step.
         """
         if to.binds and not self.legs.goes_on(to):
             return "it binds a policy, and where a step reaches a node no list executes such a SID"
-        ride = self.legs.ride(start, to)
-        if ride.halt:
-            return self._crossed(ride.position) + self._why_halted(ride.halt, ride.position)
-        if ride.sid is not to:
-            first = f"the packet comes to {ride.sid} at {ride.sid.node} first" if ride.sid else ""
-            return self._crossed(ride.position) + first
-        done = self.legs.executes(to, ride.position)
+        transit = self.legs.transit(origin, to)
+        if transit.halt:
+            why = self._why_halted(transit.halt, transit.position)
+            return self._crossed(transit.position) + why
+        if transit.sid is not to:
+            met = transit.sid
+            first = f"the packet comes to {met} at {met.node} first" if met else ""
+            return self._crossed(transit.position) + first
+        done = self.legs.executes(to, transit.position)
         if done is None:
-            return f"it is the function {to.title}, and {self._next(ride.position)}"
+            return f"it is the function {to.title}, and {self._next(transit.position)}"
         if to.goes_on and done > self.position:
             return self._why_no_room(sid, to)
         if to.goes_on and not to.exposes(self.legs.intent.family):

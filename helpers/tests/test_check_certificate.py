@@ -49,7 +49,7 @@ CHANGES = (
     ("path new fcbb:bb00:2::/48", "path new FCBB:BB00:2:0::/48", "least 4 4", 0),
 )
 
-# Of the network whose SID fcbb:bb00:b001::/48 binds a policy, worked out by hand.
+# Of the network with the binding SID fcbb:bb00:b001::/48, worked out by hand.
 THROUGH_POLICY = """\
 srv6 certificate 1
 potential 0 - 0 1 4

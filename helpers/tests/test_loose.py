@@ -1,5 +1,4 @@
-"""Intents with steps that reach a node: legs over all choices, lists, certificates, and why there is
-none.
+"""Intents with loose steps: legs over all choices, lists, certificates, and why there is none.
 """
 
 import re
@@ -160,7 +159,7 @@ class Loose(ToolCase):
         ran = run_here("check-certificate", *paths, self.file("cert", forged))
         self.assertEqual((ran.status, ran.out), (4, "no 6 edge\n"))
 
-    @unittest.skipUnless(ROWS.is_dir(), "the rows of steps that reach a node aren't there")
+    @unittest.skipUnless(ROWS.is_dir(), "the rows of loose steps aren't there")
     def test_rows(self):
         """The answers of `compile` and `check`, byte by byte; walks, and faults of an intent's text,
         are the program's.

@@ -6,7 +6,7 @@ from ipaddress import IPv6Address, IPv6Network
 from srv6tools.description import Policy, Sid, read_network
 from srv6tools.intent import read_intent
 from srv6tools.legs import Legs
-from srv6tools.pushed_headers import Fate, Header, Lost, Start, at_sid, header_of
+from srv6tools.pushed_headers import Fate, Header, Lost, Origin, at_sid, header_of
 from support import EXAMPLES
 
 POLICY, INTENT = EXAMPLES / "policy.toml", EXAMPLES / "intent.toml"
@@ -100,10 +100,10 @@ class Walks(unittest.TestCase):
     def test_where_it_is_taken_off(self):
         legs = Legs(read_network(POLICY), read_intent(INTENT))
         (binding,) = (one for one in legs.sids if one.binds)
-        start = legs.start(1, binding)
-        self.assertIsInstance(start, Start)
-        self.assertEqual((start.position, start.place.node, start.place.lowers), (2, "C", True))
-        self.assertIsInstance(legs.start(2, binding), Lost)
+        origin = legs.origin(1, binding)
+        self.assertIsInstance(origin, Origin)
+        self.assertEqual((origin.position, origin.place.node, origin.place.lowers), (2, "C", True))
+        self.assertIsInstance(legs.origin(2, binding), Lost)
 
 
 if __name__ == "__main__":

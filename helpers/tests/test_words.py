@@ -36,7 +36,7 @@ def refusals() -> dict[int, str]:
     """The numbers of refusals, with their names."""
     found = re.findall(r'"refused (\d+) (\w+)', source("command_output/src/refusal.rt"))
     named = {int(number): name for number, name in found}
-    kinds, steps = source("text_faults/src/kind.rt"), source("intent_reader/src/fault.rt")
+    kinds, steps = source("text_faults/src/fault_kind.rt"), source("intent_reader/src/fault.rt")
     names = pairs("FaultKind", r'"(\w+)"', kinds)
     for variant, number in pairs("FaultKind", r"(\d+)", kinds).items():
         named[int(number)] = names[variant]
@@ -114,10 +114,10 @@ class Words(unittest.TestCase):
         self.assertEqual(entries, [number for _, number in found], "docs/srv6.1")
 
     def test_verdicts_answers_and_edits(self):
-        answers = set(re.findall(r"no answer (\w+)", source("compile_commands/src/compile.rt")))
-        edits = set(re.findall(r'"edit (\w+)', source("update_events/src/edit_lines.rt")))
+        answers = set(re.findall(r"no answer (\w+)", source("compile_commands/src/compile_command.rt")))
+        edits = set(re.findall(r'"edit (\w+)', source("update_driver/src/edit_lines.rt")))
         self.assertEqual((len(answers), edits), (3, set(EDITS)), "srv6-say")
-        judged = set(re.findall(r'"no \{number\} (\w+)', source("compile_commands/src/check.rt")))
+        judged = set(re.findall(r'"no \{number\} (\w+)', source("compile_commands/src/check_command.rt")))
         judged |= {"ended", "stages"}
         self.assertEqual(len(judged), 6)
         self.has("docs/FORMATS.md", (DOCS / "FORMATS.md").read_text(), *answers, *edits, *judged)
@@ -127,7 +127,7 @@ class Words(unittest.TestCase):
         keys = set(re.findall(r'Key::\w+ => "(\w+)"', source("text_faults/src/texts.rt")))
         known = {key.name for table in KEYS.values() for key in table} | set(KEYS) - {"intent"}
         self.assertEqual(known, keys, "helpers/srv6tools/schema.py")
-        behaviours = re.findall(r'"(End[\w.]*)" =>', source("net_words/src/sid.rt"))
+        behaviours = re.findall(r'"(End[\w.]*)" =>', source("net_syntax/src/sid_table.rt"))
         self.assertEqual(set(behaviours), set(BEHAVIOURS))
         self.has("docs/FORMATS.md", (DOCS / "FORMATS.md").read_text(), *keys, *behaviours)
         self.has("docs/srv6.5", manual("srv6.5"), *keys, *behaviours)
