@@ -107,6 +107,7 @@ declare -gA _srv6_options=(
     [to-json]='--kind=report,certificate,err,trace,show,verdict,summary'
     [to-linux]='--kernel=any --tun --namespace=any'
     [to-raw]='--keep-numbers --interface=any --direction=in,out --from=any'
+    [view]='--at=any --choices=any --new=toml --plan=toml --most=any --no-fans --title=any'
     [why-no-list]=''
 )
 # What stands behind each tool, word by word: `toml`, `file`, `node` (of the description before it), `start` (a node or
@@ -124,6 +125,7 @@ declare -gA _srv6_arguments=(
     [to-json]='file'
     [to-linux]='toml node'
     [to-raw]='file'
+    [view]='toml file'
     [why-no-list]='toml toml'
 )
 

@@ -28,11 +28,14 @@ PROTOCOLS = {
 
 @dataclass(frozen=True, slots=True)
 class Field:
-    """A field: its name, and its value in words; of plain bytes the bytes themselves."""
+    """A field: its name, and its value in words; of plain bytes the bytes themselves. The fields of
+    a packet's parts, one behind the other, are its bits from the first on.
+    """
 
     name: str
     text: str
     content: bytes | None = None
+    bits: int = field(default=0, compare=False)
 
 
 @dataclass(slots=True)
@@ -127,7 +130,7 @@ def laid_out(kind: str, content: bytes) -> list[Field]:
         if left < 0:
             break
         value = (number >> left) & ((1 << row.bits) - 1)
-        fields.append(Field(row.name, row.text(value)))
+        fields.append(Field(row.name, row.text(value), bits=row.bits))
     return fields
 
 
@@ -227,7 +230,9 @@ def _take_header(parts: list[Part], one: _Inner, header: Header) -> int:
     part = Part(label, laid_out(header.kind, whole))
     rest = whole[_size_of(header.kind) :]
     if header.kind == "srh":
-        part.fields += [Field(f"entry {at}", text) for at, text in enumerate(header.entries)]
+        part.fields += [
+            Field(f"entry {at}", text, bits=128) for at, text in enumerate(header.entries)
+        ]
         rest = rest[16 * len(header.entries) :]
         _add_bytes(part, "TLVs", rest)
     else:
@@ -283,4 +288,4 @@ def _bytes_part(label: str, content: bytes) -> Part:
 
 def _add_bytes(part: Part, name: str, content: bytes) -> None:
     if content:
-        part.fields.append(Field(name, f"{len(content)} bytes", content))
+        part.fields.append(Field(name, f"{len(content)} bytes", content, 8 * len(content)))

@@ -7,7 +7,7 @@ from pathlib import Path
 
 from support import EXAMPLES, HELPERS, Ran, ToolCase, bad_captures, bad_tomls, run_here
 
-NET, INTENT, PLAN = "net", "intent", "plan"
+NET, INTENT, PLAN, WHAT_IF = "net", "intent", "plan", "what-if"
 CAPTURE, SENT, CERT, TRACE = "capture", "sent", "cert", "trace"
 # The words of each tool, in which the names above stand for files, and what its input is. srv6-say,
 # which gives its own streams to the program, has tests of its own for that.
@@ -28,6 +28,9 @@ CALLS = [
     ("linux-route", [INTENT, "2001:db8::/32", "eth0"], CERT),
     ("check-certificate", [NET, INTENT, CERT], None),
     ("draw-walk", [NET, SENT], None),
+    ("view", [NET, CAPTURE, "--at", "B"], None),
+    ("view", [NET, INTENT, CAPTURE], None),
+    ("view", [NET, WHAT_IF], None),
 ]
 CERTIFICATE = """\
 # container fcbb:bb00:2::
@@ -38,6 +41,11 @@ srv6 certificate 1
 potential 0 - 0 1 4
 path new fcbb:bb00:2::/48
 end
+"""
+TABLE = """\
+{"kind": "what-if", "intents": ["i"], "failures": [{"name": "bc1", "links": ["bc1"]}], "cells": [[
+ {"state": "none", "answer": "no answer NoList", "traffic":
+  {"headend": "A", "inner": "60", "link": null, "end": "dropped NoRoute at A", "arrives": false}}]]}
 """
 TRACED = "srv6 trace 1\npacket 1 6 B 60\ndrop Truncated -\nend\n"
 
@@ -52,6 +60,7 @@ def good_files() -> dict[str, bytes]:
         SENT: (EXAMPLES / "csids-out.pcap").read_bytes(),
         CERT: CERTIFICATE.encode(),
         TRACE: TRACED.encode(),
+        WHAT_IF: TABLE.encode(),
     }
 
 

@@ -1,0 +1,120 @@
+// Lists of intents: containers with the bits of each SID, who executes them, and the verdict.
+
+function showLists() {
+  const side = byId("side");
+  side.replaceChildren(make("h2", {}, count(DATA.lists.length, "list")));
+  const shown = new Set(KIND.lists || DATA.lists.slice(0, 2).map((_, number) => number));
+  KIND.lists = shown;
+  const rows = make("ul", { class: "rows short" });
+  DATA.lists.forEach((list, number) => {
+    const box = make("input", { type: "checkbox", id: `pick${number}` });
+    box.checked = shown.has(number);
+    box.addEventListener("change", () => {
+      if (box.checked) {
+        shown.add(number);
+      } else {
+        shown.delete(number);
+      }
+      drawLists();
+    });
+    const size = list.containers.length
+      ? `${count(list.containers.length, "container")}, need ${list.need}` : "no list";
+    rows.append(make("li", {}, make("label", {}, box, ` ${list.label}: ${size}`)));
+  });
+  side.append(rows, make("p", { class: "soft" }, "Those that are ticked stand side by side."));
+  drawLists();
+}
+
+function drawLists() {
+  clearMap();
+  KIND.broken = null;
+  const shown = [...KIND.lists].sort((one, other) => one - other).map((number) => DATA.lists[number]);
+  byId("detail").replaceChildren(
+    make("div", { class: "lists" }, ...shown.map((list) => listBox(list))),
+    make("div", { id: "walker" }));
+  if (shown.length) {
+    markList(shown[0]);
+  }
+}
+
+// Marks on the map the nodes that execute a list's SIDs, and draws the walk of the packet along it.
+function markList(list) {
+  clearMap();
+  if (list.walk >= 0) {
+    drawWalk(DATA.walks[list.walk], -1);
+  }
+  for (const sid of list.sids) {
+    if (sid.node >= 0) {
+      MAP.nodes[sid.node].classList.add("on");
+    }
+  }
+  byId("legend").textContent = `${list.label}: nodes with a thick frame execute SIDs of the list; numbers are sends`;
+}
+
+function listBox(list) {
+  const number = DATA.lists.indexOf(list);
+  const box = make("article", { class: "list", id: `list${number}` }, make("h2", {}, list.label));
+  const isGood = list.containers.length > 0 && !list.refusal;
+  box.append(make("p", { class: isGood ? "verdict" : "verdict no" }, make("code", { class: "check" }, list.check), " ", list.verdict,
+    list.refusal ? make("span", { class: "bad" }, ` ${list.refusal}.`) : null));
+  box.append(make("p", {}, `From ${NET.nodes[list.headend] ? NET.nodes[list.headend].name : "?"}, ${list.inner} inside, ${list.mode} header: ${list.header} bytes in front, the hop limit ${list.hop_limit} is lowered ${count(list.need, "time")}.`),
+    make("ol", { class: "soft" }, ...list.steps.map((one) => make("li", {}, one))));
+  list.containers.forEach((container, at) => {
+    const bar = make("div", { class: "bar", role: "img", "aria-label": `container ${at + 1}: ${container.address}` });
+    for (const [from, bits, what, sid, digits] of container.bits) {
+      const name = what === "sid" ? list.sids[sid].name : what === "block" ? "block" : "";
+      const piece = make("span", {
+        class: `bit ${what}${what === "sid" ? ` s${sid % 3} of${sid}` : ""}`, style: `flex:${bits} 1 ${digits.length * 0.62 + 0.6}em`,
+        title: `bits ${from} to ${from + bits - 1}: ${digits}${what === "sid" ? `, SID ${sid + 1}, executed at ${name}` : ""}`,
+      }, make("span", { class: "mono" }, what === "rest" && !/[^0]/.test(digits) ? "0" : digits), make("small", {}, what === "rest" ? `${bits} bits` : `${name} ${bits}`));
+      if (what === "sid") {
+        piece.addEventListener("click", () => pickSid(list, sid));
+      }
+      bar.append(piece);
+    }
+    box.append(make("div", {}, make("code", { class: "address" }, container.address), bar));
+  });
+  if (list.sids.length) {
+    box.append(sidTable(list));
+  }
+  if (list.walk >= 0) {
+    box.append(button("Walk a packet along it", () => {
+      KIND.broken = null;
+      showWalk(list.walk, 0);
+    }, { class: "along" }));
+  }
+  box.append(make("p", { class: "soft" }, `The certificate lists ${count(list.potentials, "state")}.`));
+  return box;
+}
+
+function sidTable(list) {
+  const rows = list.sids.map((sid, number) => {
+    const moved = sid.stage >= 0 ? stageOf(DATA.walks[list.walk], sid.stage) : null;
+    const done = `behind it ${count(sid.steps, "step")} done`;
+    return make("li", { class: `of${number}` },
+      button(sid.prefix, () => pickSid(list, number), { class: "plain mono" }), make("b", {}, ` at ${sid.name}`),
+      `: ${sid.what}`, make("span", { class: "soft" }, ` (${sid.rfc}); ${done}`),
+      make("div", { class: "becomes" }, moved ? moved.changed || moved.said : "executed before the first link"));
+  });
+  return make("ol", { class: "sids" }, ...rows);
+}
+
+// Marks a SID of a list: its bits, its row, and its node on the map.
+function pickSid(list, number) {
+  const box = byId(`list${DATA.lists.indexOf(list)}`);
+  for (const old of document.querySelectorAll(".list .pick")) {
+    old.classList.remove("pick");
+  }
+  for (const one of box.querySelectorAll(`.of${number}`)) {
+    one.classList.add("pick");
+  }
+  clearMap();
+  if (list.walk >= 0) {
+    drawWalk(DATA.walks[list.walk], list.sids[number].stage);
+  }
+  if (list.sids[number].node >= 0) {
+    MAP.nodes[list.sids[number].node].classList.add("on");
+  }
+  byId("legend").textContent = `SID ${number + 1} of ${list.label}: ${list.sids[number].prefix} at ${list.sids[number].name}`;
+  announce(byId("legend").textContent);
+}

@@ -1,0 +1,284 @@
+// The map: nodes and links, panning and zooming, and what is drawn over them.
+
+const MAP = { svg: byId("map"), links: [], nodes: [], whole: null, box: null, over: null, size: 1 };
+const HALF = 11; // of a node's height, before it is made larger
+
+function halfWidth(name) {
+  return Math.max(15, name.length * 3.9 + 7);
+}
+
+// Where a line from a node's middle leaves its box.
+function edgeOf(node, dx, dy) {
+  const wide = (halfWidth(node.name) + 2) * MAP.size;
+  const high = (HALF + 2) * MAP.size;
+  const share = Math.min(wide / (Math.abs(dx) || 1e-9), high / (Math.abs(dy) || 1e-9));
+  return [node.x + dx * share, node.y + dy * share];
+}
+
+// The curve of a link: links of one direction lie on one side, further ones farther out.
+function shapeOf(link, turn) {
+  const from = NET.nodes[link.from];
+  const to = link.to < 0 ? { x: link.end[0], y: link.end[1], name: "" } : NET.nodes[link.to];
+  const dx = to.x - from.x;
+  const dy = to.y - from.y;
+  const size = Math.hypot(dx, dy) || 1;
+  const bend = link.to < 0 ? 0 : (7 + 13 * turn) * Math.sqrt(MAP.size);
+  const px = (-dy / size) * bend;
+  const py = (dx / size) * bend;
+  const mx = (from.x + to.x) / 2 + px * 1.6;
+  const my = (from.y + to.y) / 2 + py * 1.6;
+  const [ax, ay] = edgeOf(from, mx - from.x, my - from.y);
+  const [bx, by] = link.to < 0 ? link.end : edgeOf(to, mx - to.x, my - to.y);
+  const labelX = (ax + 2 * mx + bx) / 4;
+  const labelY = (ay + 2 * my + by) / 4;
+  return { d: `M${ax.toFixed(1)} ${ay.toFixed(1)}Q${mx.toFixed(1)} ${my.toFixed(1)} ${bx.toFixed(1)} ${by.toFixed(1)}`, labelX, labelY };
+}
+
+function linkWords(link) {
+  const to = link.to < 0 ? "out of the network" : `to ${NET.nodes[link.to].name}`;
+  const mtu = link.mtu === null ? "" : `, MTU ${link.mtu}`;
+  const metric = link.metric === null || link.metric === undefined ? "" : `, metric ${link.metric}`;
+  return `link ${link.name} from ${NET.nodes[link.from].name} ${to}${metric}${mtu}`;
+}
+
+function linkLabel(link) {
+  const metric = link.metric === null || link.metric === undefined ? "" : ` ${link.metric}`;
+  return `${link.name}${metric}${link.mtu === null ? "" : ` mtu ${link.mtu}`}`;
+}
+
+function drawMap() {
+  const turns = new Map();
+  const links = draw("g", {});
+  const nodes = draw("g", {});
+  NET.links.forEach((link, number) => {
+    const key = `${link.from} ${link.to}`;
+    const turn = turns.get(key) || 0;
+    turns.set(key, turn + 1);
+    const shape = shapeOf(link, turn);
+    const group = draw("g", { class: "link", id: `link${number}`, "data-link": number },
+      draw("path", { class: "wide", d: shape.d }),
+      draw("path", { class: "thin", d: shape.d, "marker-end": "url(#tip)" }),
+      link.to < 0 ? draw("circle", { class: "end", cx: link.end[0], cy: link.end[1], r: 3.5 }) : null,
+      draw("text", { x: shape.labelX, y: shape.labelY + (link.to < 0 ? 14 : 3) }, linkLabel(link)),
+      draw("text", { class: "cross", x: shape.labelX, y: shape.labelY + 6 }, "\u2715"),
+      draw("title", {}, linkWords(link)));
+    group.addEventListener("click", () => showLink(number));
+    MAP.links.push({ group, shape, turn });
+    links.append(group);
+  });
+  NET.nodes.forEach((node, number) => {
+    const wide = halfWidth(node.name);
+    const sids = node.sids.length ? `, ${count(node.sids.length, "SID")}` : "";
+    const group = draw("g", {
+      class: "node", id: `node${number}`, transform: `translate(${node.x} ${node.y})`,
+      tabindex: "0", role: "button", "aria-label": `node ${node.name}${sids}`,
+    },
+    draw("circle", { r: 7 }),
+    draw("rect", { x: -wide, y: -HALF, width: 2 * wide, height: 2 * HALF, rx: 5 }),
+    draw("text", { y: 4.3 }, node.name),
+    draw("title", {}, `${node.name} ${node.address}${sids}`));
+    group.addEventListener("click", () => showNode(number));
+    group.addEventListener("keydown", (event) => {
+      if (event.key === "Enter") {
+        showNode(number);
+      }
+    });
+    MAP.nodes.push(group);
+    nodes.append(group);
+  });
+  MAP.over = draw("g", { "aria-hidden": "true" });
+  MAP.svg.append(draw("defs", {}, tip("tip", "var(--link)", 5), tip("walktip", "var(--walk)", 3.4),
+    tip("nowtip", "var(--now)", 2.8)), links, MAP.over, nodes);
+  MAP.whole = wholeBox();
+  setBox(MAP.whole);
+}
+
+function tip(name, colour, size) {
+  return draw("marker", { id: name, viewBox: "0 0 10 10", refX: 9, refY: 5, markerWidth: size, markerHeight: size, orient: "auto" },
+    draw("path", { d: "M0 1L10 5L0 9z", style: `fill:${colour};stroke:none` }));
+}
+
+// Makes boxes larger where the map is small, and lets links end at them.
+function resize(size) {
+  MAP.size = size;
+  NET.nodes.forEach((node, number) => {
+    MAP.nodes[number].setAttribute("transform", `translate(${node.x} ${node.y}) scale(${size})`);
+  });
+  NET.links.forEach((link, number) => {
+    const one = MAP.links[number];
+    one.shape = shapeOf(link, one.turn);
+    place(one.group, one.shape, link.to < 0 ? 14 : 3);
+  });
+  for (const group of MAP.over.querySelectorAll("[data-link]")) {
+    place(group, MAP.links[Number(group.dataset.link)].shape, 3);
+  }
+}
+
+function place(group, shape, lower) {
+  for (const path of group.querySelectorAll("path")) {
+    path.setAttribute("d", shape.d);
+  }
+  for (const label of group.querySelectorAll("text")) {
+    label.setAttribute("x", shape.labelX);
+    label.setAttribute("y", shape.labelY + (label.classList.contains("cross") ? 6 : lower));
+  }
+}
+
+// The box around all, with some room.
+function wholeBox() {
+  const xs = NET.nodes.map((node) => node.x);
+  const ys = NET.nodes.map((node) => node.y);
+  for (const link of NET.links) {
+    if (link.end) {
+      xs.push(link.end[0]);
+      ys.push(link.end[1]);
+    }
+  }
+  const left = Math.min(...xs) - 60;
+  const top = Math.min(...ys) - 45;
+  return [left, top, Math.max(...xs) + 60 - left, Math.max(...ys) + 45 - top];
+}
+
+function setBox(box) {
+  MAP.box = box;
+  MAP.svg.setAttribute("viewBox", box.map((one) => one.toFixed(2)).join(" "));
+  const place = MAP.svg.getBoundingClientRect();
+  const scale = Math.min(place.width / box[2], place.height / box[3]) || 1; // pixels of a unit
+  const unit = LINK_LENGTH * scale;
+  MAP.svg.style.setProperty("--u", (1 / scale).toFixed(4));
+  const size = Math.round(Math.max(0.7, Math.min(2, 0.95 / scale)) * 5) / 5;
+  if (size !== MAP.size) {
+    resize(size);
+  }
+  MAP.svg.classList.toggle("far", unit < 44);
+  MAP.svg.classList.toggle("near", unit > 118);
+}
+
+const LINK_LENGTH = (() => {
+  const sizes = NET.links.filter((link) => link.to >= 0).map((link) => Math.hypot(
+    NET.nodes[link.from].x - NET.nodes[link.to].x, NET.nodes[link.from].y - NET.nodes[link.to].y));
+  sizes.sort((one, other) => one - other);
+  return sizes.length ? sizes[Math.floor(sizes.length / 2)] || 120 : 120;
+})();
+
+// Zooms by a factor, round a point of the screen or the middle.
+function zoom(factor, event) {
+  const [left, top, wide, high] = MAP.box;
+  const place = MAP.svg.getBoundingClientRect();
+  const least = Math.min(MAP.whole[2], MAP.whole[3]) / 60;
+  if ((factor < 1 && wide * factor < least) || (factor > 1 && wide > MAP.whole[2] * 4)) {
+    return;
+  }
+  const x = event ? (event.clientX - place.left) / place.width : 0.5;
+  const y = event ? (event.clientY - place.top) / place.height : 0.5;
+  setBox([left + wide * (1 - factor) * x, top + high * (1 - factor) * y, wide * factor, high * factor]);
+}
+
+function pan(x, y) {
+  const [left, top, wide, high] = MAP.box;
+  setBox([left + x, top + y, wide, high]);
+}
+
+// Brings a node into the middle, near enough to read.
+function centre(number) {
+  const node = NET.nodes[number];
+  const wide = Math.min(MAP.box[2], LINK_LENGTH * 8);
+  const high = (wide * MAP.box[3]) / MAP.box[2];
+  setBox([node.x - wide / 2, node.y - high / 2, wide, high]);
+}
+
+function listenToMap() {
+  let from = null;
+  MAP.svg.addEventListener("wheel", (event) => {
+    event.preventDefault();
+    zoom(event.deltaY < 0 ? 0.85 : 1 / 0.85, event);
+  }, { passive: false });
+  MAP.svg.addEventListener("pointerdown", (event) => {
+    from = [event.clientX, event.clientY];
+  });
+  window.addEventListener("pointermove", (event) => {
+    if (!from) {
+      return;
+    }
+    const place = MAP.svg.getBoundingClientRect();
+    const scale = Math.min(place.width / MAP.box[2], place.height / MAP.box[3]) || 1;
+    pan((from[0] - event.clientX) / scale, (from[1] - event.clientY) / scale);
+    from = [event.clientX, event.clientY];
+  });
+  window.addEventListener("pointerup", () => { from = null; });
+  window.addEventListener("resize", () => setBox(MAP.box));
+  byId("zoomin").addEventListener("click", () => zoom(0.8));
+  byId("zoomout").addEventListener("click", () => zoom(1.25));
+  byId("whole").addEventListener("click", () => setBox(MAP.whole));
+}
+
+// Takes away what is drawn over the map.
+function clearMap() {
+  MAP.over.replaceChildren();
+  for (const node of MAP.nodes) {
+    node.classList.remove("on", "met");
+  }
+  for (const link of MAP.links) {
+    link.group.classList.remove("on", "broken");
+  }
+  byId("legend").textContent = "";
+}
+
+function markLinks(numbers, how) {
+  for (const number of numbers) {
+    MAP.links[number].group.classList.add(how);
+  }
+}
+
+// Draws a walk up to a stage: what was sent before, what is sent now, and what comes later.
+function drawWalk(walk, now) {
+  const sends = new Map();
+  let turn = 0;
+  walk.stages.forEach((row, number) => {
+    if (row[0] >= 0) {
+      MAP.nodes[row[0]].classList.add("met");
+    }
+    if (row[5] >= 0) {
+      turn += 1;
+      const seen = sends.get(row[5]) || { numbers: [], first: number, last: number };
+      seen.numbers.push(turn);
+      seen.last = number;
+      sends.set(row[5], seen);
+    }
+  });
+  for (const [link, seen] of sends) {
+    const { shape } = MAP.links[link];
+    const isNow = walk.stages[now] && walk.stages[now][5] === link;
+    const how = isNow ? "now" : seen.first < now ? "done" : "later";
+    const shown = seen.numbers.length > 6 ? `${seen.numbers.slice(0, 5).join(",")}..` : seen.numbers.join(",");
+    MAP.over.append(draw("g", { class: `step ${how}`, "data-link": link },
+      draw("path", { d: shape.d, "marker-end": `url(#${isNow ? "nowtip" : "walktip"})` }),
+      draw("text", { x: shape.labelX, y: shape.labelY + 3 }, shown)));
+  }
+  const stage = walk.stages[now];
+  if (stage) {
+    const node = NET.nodes[stage[0]];
+    MAP.nodes[stage[0]].classList.add("on");
+    if (words(stage[1]) === "drop" || words(stage[1]) === "local") {
+      MAP.over.append(draw("g", { class: "mark" },
+        draw("text", { x: node.x, y: node.y - HALF * MAP.size - 5 }, words(stage[1]) === "drop" ? "\u00d7 dropped" : "\u25cf delivered")));
+    }
+  }
+}
+
+// Draws all walks of a packet, as wide as many of them go over a link.
+function drawFan(fan) {
+  const all = Number(fan.walks);
+  for (const [link, share] of fan.links) {
+    const { shape } = MAP.links[link];
+    const wide = 2 + 7 * (Number(share) / all);
+    MAP.over.append(draw("g", { class: "fan", "data-link": link },
+      draw("path", { d: shape.d, style: `stroke-width:calc(${wide.toFixed(1)}px * var(--u))`, "marker-end": "url(#walktip)" }),
+      draw("text", { x: shape.labelX, y: shape.labelY + 3 }, share)));
+    MAP.nodes[NET.links[link].from].classList.add("met");
+    if (NET.links[link].to >= 0) {
+      MAP.nodes[NET.links[link].to].classList.add("met");
+    }
+  }
+  byId("legend").textContent = "Numbers at links: how many of the walks go over it";
+}

@@ -1,0 +1,472 @@
+"""view: a page to look at: a network, the walks of packets, lists, and failures by intents."""
+
+import argparse
+import functools
+import json
+import sys
+from collections.abc import Iterator, Sequence
+from dataclasses import dataclass, field
+from pathlib import Path
+from typing import Any
+
+from .captures import GZIP, raw_capture, sent_in
+from .command import Fault, Parser, Status, positive, progress, run_tool, tool_name
+from .decisions import sid_rfc
+from .description import MOST_MTU, Network, read_network
+from .err_lines import PacketLine, err_line_of
+from .files import INPUT_LIMIT, parse_toml, read_bytes, read_text
+from .intent import read_intent
+from .layout import commented, ends, positions
+from .page_lists import Compiled, as_capture, as_data, compiled, network_like, probe
+from .page_packets import Entered, Pages
+from .plan import make_links, read_plan
+from .program import judge_description, run_program
+from .say_items import near
+from .trace import Stage, Trace, Walk, trace_of
+from .walks import Visit, Walks
+from .what_if import STATES, Cell, Traffic, WhatIf, read_what_if
+
+PAGE = Path(__file__).resolve().parent / "page"
+SCRIPTS = ("base.js", "map.js", "packets.js", "lists.js", "whatif.js", "main.js")
+VISITS = 100_000  # of packets at nodes, beyond which walks over all choices aren't counted
+ENTRIES = 4_000_000  # that the program may read for them, at one description a call
+MOST_PACKETS = 1000
+SAY = tool_name("srv6-say")
+DESCRIPTION = """\
+Writes one page of HTML to look at with a browser: from disk, without a network, and with nothing
+else beside it.
+
+  view NET > page.html                            the map of a network
+  view NET CAPTURE --at NODE > page.html          walks of packets that arrive at NODE
+  view NET INTENT.. [CAPTURE] > page.html         lists of intents, and inner packets along them
+  view --new NEW NET INTENT > page.html           a list before and after an update
+  view NET WHAT-IF.json > page.html               a table of failures by intents
+
+Which kind a file is, is found by its first bytes. Positions of nodes are taken from comments
+(`# NAME x = 1, y = 2`) of the description and of the plan, else found so that the map is the same
+each time. What the page says of packets and lists are the answers of `srv6 trace`, `run`, `walk`,
+`show`, `compile` and `check`; the page works nothing out by itself."""
+
+
+@dataclass(slots=True)
+class Asked:
+    """What the words ask for."""
+
+    net: Network
+    intents: list[str] = field(default_factory=list)
+    captures: list[str] = field(default_factory=list)
+    tables: list[str] = field(default_factory=list)
+
+
+def kind_of(path: str) -> str:
+    """Which kind a file is: capture, table or intent."""
+    content = read_bytes(path, INPUT_LIMIT)
+    if content[:2] == GZIP:
+        raise Fault(f"{path}: compressed by gzip; `{tool_name('to-raw')}` makes one that is taken")
+    if b"\0" in content or content[:4] == b"\x0a\x0d\x0d\x0a":
+        return "capture"
+    return "table" if content.lstrip()[:1] == b"{" else "intent"
+
+
+def _refuse(words: Sequence[Any], status: int, err: str) -> None:
+    """A fault where the program didn't do it."""
+    if status != Status.DONE:
+        said = (err.splitlines() or [f"status {status}"])[-1]
+        known = Status(status) if status in list(Status) else Status.OUTSIDE_FAULT
+        raise Fault(f"srv6 {' '.join(map(str, words))}: {said} (`{SAY}` says more)", known)
+
+
+def asked(*words: Any, given: bytes = b"") -> tuple[bytes, str]:
+    """What the program writes on `out` and on `err`."""
+    answer = run_program([str(word) for word in words], given)
+    _refuse(words, answer.status, answer.err)
+    return answer.out, answer.err
+
+
+def packet_lines(err: str) -> dict[int, tuple[PacketLine, str]]:
+    """The lines of packets on `err`, with their words, by number."""
+    found = {}
+    for line in err.splitlines():
+        said = err_line_of(line)
+        if isinstance(said, PacketLine):
+            found[said.number] = said, line.partition(": ")[2]
+    return found
+
+
+def traced(net: Network, node: str, choices: str, given: bytes) -> Trace:
+    """The walks of packets that arrive at a node."""
+    out, _ = asked("trace", net.path, node, choices, given=given)
+    return trace_of(out.decode("latin-1").splitlines(), "srv6 trace")
+
+
+@dataclass(slots=True)
+class Group:
+    """Packets of one capture that enter in one way."""
+
+    label: str
+    packets: list[Entered]
+    unread: list[tuple[int, str]]
+    left_out: int = 0  # packets beyond the most that are shown
+    fans: dict[int, int] = field(default_factory=dict)  # by packet
+    fans_cut: bool = False
+
+
+def arriving(net: Network, node: str, choices: str, path: str, most: int) -> Group:
+    """The packets of a capture that arrive at a node."""
+    given = read_bytes(path, INPUT_LIMIT)
+    _, err = asked("run", net.path, node, choices, given=given)
+    lines = packet_lines(err)
+    walks = traced(net, node, choices, given).walks
+    unread = [(n, said.reason or "") for n, (said, _) in lines.items() if said.outcome == "not read"]
+    packets = [Entered(walk, lines[walk.number][1]) for walk in walks[:most]]
+    label = f"{Path(path).name} arriving at {node}"
+    return Group(label, packets, sorted(unread), len(walks) - len(packets))
+
+
+def along(net: Network, intent: str, choices: str, given: bytes, label: str, most: int) -> Group:
+    """The inner packets of an input along an intent's list."""
+    out, err = asked("walk", net.path, intent, choices, given=given)
+    lines, links = packet_lines(err), list(net.links.values())
+    headend = read_intent(intent).headend
+    inner = {walk.number: walk for walk in traced(net, headend, "0", given).walks}
+    firsts, errors = {}, {}
+    for sent in sent_in(out, "srv6 walk"):
+        if sent.link == 0:
+            errors[sent.packet] = sent.content
+        elif sent.packet not in firsts:
+            firsts[sent.packet] = links[sent.link - 1], sent.content
+    numbers = [n for n in sorted(lines) if lines[n][0].outcome != "not read"][:most]
+    shown = len([one for one, _ in lines.values() if one.outcome != "not read"])
+    onward = _onward(net, {n: firsts[n] for n in numbers if n in firsts}, _behind_first(choices))
+    packets = []
+    for number in numbers:
+        said, words = lines[number]
+        own = inner[number].packet
+        if number in onward:
+            name = firsts[number][0].name
+            packets.append(Entered(onward[number], words, own, name, headend))
+        else:
+            drop = Stage(0, "drop", reason=said.reason, packet=errors.get(number))
+            walk = Walk(0, number, inner[number].family, headend, own, [drop])
+            packets.append(Entered(walk, words, looks_up=False))
+    unread = [(n, said.reason or "") for n, (said, _) in lines.items() if said.outcome == "not read"]
+    return Group(label, packets, sorted(unread), shown - len(packets))
+
+
+def _behind_first(choices: str) -> str:
+    """The choices of a packet behind its first send."""
+    first, *rest = choices.split(",")
+    return ",".join([*rest, first])
+
+
+def _onward(net: Network, firsts: dict[int, Any], choices: str) -> dict[int, Walk]:
+    """The walks of packets from the end of the first link on."""
+    found, by_node = {}, {}
+    for number, (link, content) in firsts.items():
+        if link.end is None:
+            found[number] = Walk(0, number, 6, link.start, content)
+        else:
+            by_node.setdefault(link.end, []).append((number, content))
+    for node, rows in by_node.items():
+        given = b"".join(raw_capture((0, 0, content) for _, content in rows))
+        for (number, _), walk in zip(rows, traced(net, node, choices, given).walks):
+            walk.number = number
+            found[number] = walk
+    return found
+
+
+class BoundedWalks(Walks):
+    """Walks over all choices, as far as the program is asked not too often for them."""
+
+    def __post_init__(self) -> None:
+        super().__post_init__()
+        self.calls = max(20, ENTRIES // (len(self.net.routes) + len(self.net.sids) + 1000))
+
+    def _ask(self, node: str, choice: int, visits: Sequence[Visit]) -> None:
+        self.calls -= 1
+        if self.calls < 0:
+            self.is_cut = True
+        else:
+            super()._ask(node, choice, visits)
+
+
+def count_fans(pages: Pages, group: Group, node: str | None, intent: str | None) -> None:
+    """All walks of a group's packets, over all choices."""
+    walks = BoundedWalks(pages.net, VISITS)
+    shown = [one for one in group.packets if intent is None or one.first]
+    if not shown:
+        return
+    contents = [one.walk.packet if one.inner is None else one.inner for one in shown]
+    given = b"".join(raw_capture((0, 0, content) for content in contents))
+    starts = walks.from_node(node or "", given) if intent is None else walks.from_intent(intent, given)
+    if walks.is_cut:
+        group.fans_cut = True
+        return
+    for start in starts:
+        group.fans[shown[start.number - 1].walk.number] = pages.fan(walks, start)
+
+
+def network_data(net: Network, plan: str | None) -> dict[str, Any]:
+    """The network, for the page."""
+    text = read_text(net.path)
+    given, metrics = commented(text, net.nodes, True), {}
+    if plan:
+        given = commented(read_text(plan), net.nodes, False) | given
+        metrics = make_links(parse_toml(text, net.path), net.path, read_plan(plan)).metrics
+        default = read_plan(plan).metric
+        metrics = {link.name: metrics.get(link.name, default) for link in net.links.values() if link.end}
+    place = positions(net, given)
+    out = ends(net, place)
+    numbers = {name: at for at, name in enumerate(net.nodes)}
+    own: dict[str, list[int]] = {name: [] for name in net.nodes}
+    routes = dict.fromkeys(net.nodes, 0)
+    for sid in net.sids:
+        own[sid.node].append(sid.number - 1)
+    for route in net.routes:
+        routes[route.node] += 1
+    return {
+        "path": net.path,
+        "nodes": [
+            {"name": node.name, "address": str(node.address), "x": place[node.name][0],
+             "y": place[node.name][1], "allow": list(node.allow), "sids": own[node.name],
+             "routes": routes[node.name]}
+            for node in net.nodes.values()
+        ],
+        "links": [
+            {"name": link.name, "from": numbers[link.start],
+             "to": -1 if link.end is None else numbers[link.end],
+             "mtu": None if link.mtu == MOST_MTU else link.mtu, "metric": metrics.get(link.name),
+             **({"end": out[link.name]} if link.end is None else {})}
+            for link in net.links.values()
+        ],
+        "sids": [
+            {"prefix": str(sid.prefix), "node": numbers[sid.node], "what": sid.what, "rfc": sid_rfc(sid)}
+            for sid in net.sids
+        ],
+        "blocks": [f"{one.prefix} ({one.kind}, CSIDs of {one.csid} bits)" for one in net.blocks],
+        "counts": {"nodes": len(net.nodes), "links": len(net.links), "routes": len(net.routes),
+                   "sids": len(net.sids), "policies": len(net.policies)},
+        "placed": len(given),
+    }  # fmt: skip
+
+
+def _enter_group(pages: Pages, group: Group) -> dict[str, Any]:
+    contents = []
+    for one in group.packets:
+        contents += [one.inner or b"", one.walk.packet, *(s.packet or b"" for s in one.walk.stages)]
+    pages.read(contents)
+    walks = [
+        pages.add(one, group.label, group.fans.get(one.walk.number, -1)) for one in group.packets
+    ]
+    return {
+        "label": group.label, "walks": walks, "unread": group.unread, "left_out": group.left_out,
+        "fans_cut": group.fans_cut,
+    }  # fmt: skip
+
+
+def list_data(pages: Pages, one: Compiled, label: str, same_net: bool) -> dict[str, Any]:
+    """A list, with a packet along it."""
+    data = as_data(one, label, pages.sids if same_net else {}, pages.nodes)
+    if not one.report.has_list or one.answer.status != Status.DONE:
+        return data
+    holder = pages if same_net else Pages(one.net)
+    group = along(one.net, one.intent.path, "0", as_capture(probe(one)), f"along {label}", 1)
+    _enter_group(holder, group)
+    walk = holder.walks[-1]
+    if not same_net:
+        walk = _moved(pages, holder, walk)
+    data["walk"] = len(pages.walks) - 1
+    at = 0
+    for number, row in enumerate(walk["stages"]):
+        if at < len(data["sids"]) and row[9] >= 0:
+            sid = one.net.sids[row[9]]
+            if (sid.node, str(sid.prefix)) == (data["sids"][at]["name"], data["sids"][at]["prefix"]):
+                data["sids"][at]["stage"] = number
+                at += 1
+    return data
+
+
+def _moved(pages: Pages, holder: Pages, walk: dict[str, Any]) -> dict[str, Any]:
+    """Adds a walk of another description, whose nodes and links are those of this one."""
+    packets = {place: packet for packet, place in holder.views._places.items()}
+    pages.read(packets.values())
+    texts = holder.texts.values
+    stages = []
+    before = holder._packets[walk["view"]]
+    for node, kind, words, entry, rfc, link, view, _, changed, sid in walk["stages"]:
+        after = packets.get(view)
+        mark = -1
+        if after is not None and texts[kind] != "drop":
+            mark, _words = pages.mark(before, after)
+            before = after
+        stages.append([
+            node, pages.text(texts[kind]), pages.text(texts[words]), pages.text(texts[entry]),
+            pages.text(texts[rfc]), link, pages.view(after) if after is not None else -1, mark,
+            pages.text(texts[changed]), sid,
+        ])  # fmt: skip
+    moved = {
+        **walk, "view": pages.view(packets[walk["view"]]), "end": pages.text(texts[walk["end"]]),
+        "stages": stages,
+    }  # fmt: skip
+    # The SIDs are another description's, so that the page names none of them by number.
+    pages.walks.append({**moved, "stages": [[*row[:9], -1] for row in stages]})
+    return moved
+
+
+def table_data(pages: Pages, table: WhatIf) -> dict[str, Any]:
+    """A table of failures by intents, with the walks that its cells have."""
+    rows = []
+    for failure, cells in zip(table.failures, table.cells):
+        rows.append({
+            "name": failure.name,
+            "links": [pages.links[name] for name in failure.links],
+            "cells": [
+                _cell_data(pages, cell, f"{failure.name} failed, {intent}")
+                for cell, intent in zip(cells, table.intents)
+            ],
+        })  # fmt: skip
+    return {
+        "path": table.path, "intents": table.intents, "failures": rows, "states": STATES,
+    }  # fmt: skip
+
+
+def _cell_data(pages: Pages, cell: Cell, label: str) -> dict[str, Any]:
+    data: dict[str, Any] = {
+        "state": cell.state, "answer": cell.answer, "containers": cell.containers,
+        "need": cell.need, "end": None, "arrives": None, "walk": -1,
+    }  # fmt: skip
+    if traffic := cell.traffic:
+        data |= {"end": traffic.end, "arrives": traffic.arrives}
+        if entered := _entered(traffic):
+            _enter_group(pages, Group(label, [entered], []))
+            data["walk"] = len(pages.walks) - 1
+    return data
+
+
+def _entered(traffic: Traffic) -> Entered | None:
+    """The packet of a cell, where its walk is told."""
+    if traffic.walk:
+        return Entered(
+            traffic.walk, traffic.end, traffic.inner, traffic.link, traffic.headend, False
+        )
+    if traffic.link:
+        return None
+    reason = traffic.end.partition("dropped ")[2].partition(" ")[0] or None
+    family = 4 if traffic.inner[:1] and traffic.inner[0] >> 4 == 4 else 6
+    walk = Walk(0, 1, family, traffic.headend, traffic.inner, [Stage(0, "drop", reason=reason)])
+    return Entered(walk, traffic.end, looks_up=False)
+
+
+def page_text(data: dict[str, Any], title: str) -> str:
+    """The page: the parts of the folder `page` put into one, and the data."""
+    text = (PAGE / "page.html").read_text()
+    shown = json.dumps(data, separators=(",", ":")).replace("<", "\\u003c")
+    safe = title.replace("&", "&amp;").replace("<", "&lt;").replace(">", "&gt;")
+    pieces = {
+        "/*STYLE*/": (PAGE / "page.css").read_text(),
+        "/*SCRIPT*/": "\n".join((PAGE / name).read_text() for name in SCRIPTS),
+        "/*DATA*/": shown,
+        "/*TITLE*/": safe,
+    }
+    whole = []
+    for line in text.split("\n"):
+        for mark, piece in pieces.items():
+            if mark in line:
+                front, _, behind = line.partition(mark)
+                line = front + piece + behind
+                break
+        whole.append(line)
+    return "\n".join(whole)
+
+
+def _groups(asked_for: Asked, words: argparse.Namespace, pages: Pages) -> Iterator[dict[str, Any]]:
+    net = asked_for.net
+    for path in asked_for.captures:
+        for intent in asked_for.intents:
+            given = read_bytes(path, INPUT_LIMIT)
+            label = f"{Path(path).name} along {Path(intent).name}"
+            group = along(net, intent, words.choices, given, label, words.most)
+            if not words.no_fans:
+                count_fans(pages, group, None, intent)
+            yield _enter_group(pages, group)
+        if words.at is not None:
+            group = arriving(net, words.at, words.choices, path, words.most)
+            if not words.no_fans:
+                count_fans(pages, group, words.at, None)
+            yield _enter_group(pages, group)
+
+
+def _lists(asked_for: Asked, words: argparse.Namespace, pages: Pages) -> Iterator[dict[str, Any]]:
+    new = network_like(words.new, asked_for.net) if words.new else None
+    for intent in asked_for.intents:
+        name = Path(intent).name
+        before = f"{name}, before" if new else name
+        yield list_data(pages, compiled(asked_for.net, intent), before, True)
+        if new:
+            yield list_data(pages, compiled(new, intent), f"{name}, after", False)
+
+
+def _sorted(words: argparse.Namespace) -> Asked:
+    """The files of the words, by their kinds."""
+    found = Asked(read_network(words.net))
+    for path in words.files:
+        kind = kind_of(path)
+        {"capture": found.captures, "table": found.tables, "intent": found.intents}[kind].append(path)
+    if words.at is not None and words.at not in found.net.nodes:
+        what = near(words.at, found.net.nodes, "nodes", most=256)
+        raise Fault(f'{words.net} has no node "{words.at}"; {what}')
+    if found.captures and not found.intents and words.at is None:
+        raise Fault("where do the packets arrive? Give --at NODE, or an intent", Status.USAGE)
+    if words.new and not found.intents:
+        raise Fault("--new needs an intent, whose list is shown before and after", Status.USAGE)
+    return found
+
+
+def _work(tool: str, words: argparse.Namespace) -> None:
+    with progress(tool, "asking srv6"):
+        asked_for = _sorted(words)
+        judge_description(words.net)
+        pages = Pages(asked_for.net)
+        data: dict[str, Any] = {"net": network_data(asked_for.net, words.plan)}
+        data["lists"] = list(_lists(asked_for, words, pages))
+        data["groups"] = list(_groups(asked_for, words, pages))
+        tables = [read_what_if(path, asked_for.net) for path in asked_for.tables]
+        data["tables"] = [table_data(pages, table) for table in tables]
+        data |= pages.data()
+        title = words.title or Path(words.net).name
+        data["title"] = title
+        text = page_text(data, title)
+    sys.stdout.write(text)
+
+
+def _choices(text: str) -> str:
+    """A list of choices, as `srv6` reads it."""
+    if not all(one.isascii() and one.isdecimal() for one in text.split(",")):
+        raise argparse.ArgumentTypeError(f"{text!r} is no list of numbers")
+    return text
+
+
+def main(words: Sequence[str]) -> int:
+    """Runs the tool."""
+    parser = Parser("view", DESCRIPTION)
+    parser.usage = "view [OPTION].. NET [CAPTURE|INTENT|WHAT-IF.json].. > page.html"
+    parser.add_argument("net", metavar="NET", help="a description")
+    parser.add_argument(
+        "files", metavar="FILE", nargs="*", help="captures, intents, tables of failures"
+    )
+    parser.add_argument("--at", metavar="NODE", help="where the packets of a capture arrive")
+    parser.add_argument(
+        "--choices", metavar="N,..", type=_choices, default="0",
+        help="choices among equal next hops (0)",
+    )  # fmt: skip
+    parser.add_argument("--new", metavar="NEW", help="the new description of an update")
+    parser.add_argument("--plan", metavar="PLAN", help="the plan, for metrics and positions")
+    parser.add_argument(
+        "--most", metavar="N", type=positive, default=MOST_PACKETS,
+        help=f"packets of a capture that are shown ({MOST_PACKETS})",
+    )  # fmt: skip
+    parser.add_argument(
+        "--no-fans", action="store_true", help="don't count the walks over all choices"
+    )
+    parser.add_argument("--title", metavar="TEXT", help="the page's title")
+    return run_tool(parser, functools.partial(_work, parser.prog), words)
