@@ -129,6 +129,25 @@ def _short(text: str) -> str:
     return text.removesuffix(" in hexadecimal")
 
 
+def _how(csid: str, changes: Sequence[str]) -> str:
+    """How the destination came to be another one at a SID, by what changed."""
+    fields = {
+        (line.partition(": ")[0], one.rpartition(" to ")[0].rpartition(" ")[0])
+        for line in changes
+        for one in line.partition(": ")[2].split(", ")
+    }
+    if ("IPv6 header", "destination") not in fields:
+        return ""
+    if any(name == "Segments Left" for _, name in fields):
+        return {"replace": "the next CSID, or a whole segment, comes from the next entry"}.get(
+            csid, "the next entry of the segment list becomes the destination"
+        )
+    return {
+        "next": "the CSID is shifted out: what stood behind it moves up to behind the block",
+        "replace": "the next CSID of the same container takes its place",
+    }.get(csid, "")
+
+
 class Pages:
     """All that the page has of packets."""
 
@@ -227,6 +246,8 @@ class Pages:
             elif after:
                 now = self.view(after, view)
                 mark, words = self.mark(packet, after)
+                if stage.kind == "again" and said.sid and (how := _how(said.sid.csid, words)):
+                    words = [*words, how]
                 packet, view = after, now
             rows.append(self._row(stage.kind, said, stage.link, now, mark, words))
         self.walks.append({

@@ -169,6 +169,11 @@ class Browser:
         """Writes the window as PNG."""
         path.write_bytes(base64.b64decode(self._ask("GET", "/screenshot")))
 
+    def emulate(self, media: str) -> None:
+        """Shows the page as on a screen or as in print."""
+        given = {"cmd": "Emulation.setEmulatedMedia", "params": {"media": media}}
+        self._ask("POST", "/goog/cdp/execute", given)
+
     def printed(self) -> bytes:
         """The page as it prints, in PDF."""
         return base64.b64decode(self._ask("POST", "/print", {"background": False}))

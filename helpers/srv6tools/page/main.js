@@ -28,12 +28,17 @@ function showNetwork() {
   const nodes = make("ul", { class: "rows short" }, ...NET.nodes.map((node, number) => make("li", {},
     make("button", { type: "button", on: () => showNode(number), id: `row${number}` }, make("b", {}, node.name),
       make("span", { class: "soft mono" }, node.address)))));
+  const links = make("details", {}, make("summary", {}, "Links"));
+  links.addEventListener("toggle", () => {
+    if (links.children.length === 1) {
+      links.append(make("ul", { class: "rows short" }, ...NET.links.map((link, number) => make("li", {},
+        make("button", { type: "button", on: () => showLink(number) }, linkWords(link).replace("link ", ""))))));
+    }
+  });
   side.replaceChildren(make("h2", {}, NET.path), make("p", {}, `${counts.join(", ")}.`),
     NET.placed ? make("p", { class: "soft" }, `${NET.placed} positions are the file's own.`) : "",
     ...NET.blocks.map((one) => make("p", { class: "mono soft" }, `block ${one}`)),
-    make("h3", {}, "Nodes"), nodes, make("details", {}, make("summary", {}, "Links"),
-      make("ul", { class: "rows short" }, ...NET.links.map((link, number) => make("li", {},
-        make("button", { type: "button", on: () => showLink(number) }, linkWords(link).replace("link ", "")))))));
+    make("h3", {}, "Nodes"), nodes, links);
   byId("detail").replaceChildren();
 }
 

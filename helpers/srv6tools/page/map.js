@@ -50,6 +50,7 @@ function drawMap() {
   const turns = new Map();
   const links = draw("g", {});
   const nodes = draw("g", {});
+  const labels = draw("g", { class: "labels", "aria-hidden": "true" });
   NET.links.forEach((link, number) => {
     const key = `${link.from} ${link.to}`;
     const turn = turns.get(key) || 0;
@@ -57,13 +58,13 @@ function drawMap() {
     const shape = shapeOf(link, turn);
     const group = draw("g", { class: "link", id: `link${number}`, "data-link": number },
       draw("path", { class: "wide", d: shape.d }),
-      draw("path", { class: "thin", d: shape.d, "marker-end": "url(#tip)" }),
+      draw("path", { class: "thin", d: shape.d }),
       link.to < 0 ? draw("circle", { class: "end", cx: link.end[0], cy: link.end[1], r: 3.5 }) : null,
-      draw("text", { x: shape.labelX, y: shape.labelY + (link.to < 0 ? 14 : 3) }, linkLabel(link)),
-      draw("text", { class: "cross", x: shape.labelX, y: shape.labelY + 6 }, "\u2715"),
       draw("title", {}, linkWords(link)));
     group.addEventListener("click", () => showLink(number));
-    MAP.links.push({ group, shape, turn });
+    const label = draw("text", {}, linkLabel(link));
+    labels.append(label);
+    MAP.links.push({ group, shape, turn, label });
     links.append(group);
   });
   NET.nodes.forEach((node, number) => {
@@ -87,15 +88,18 @@ function drawMap() {
     nodes.append(group);
   });
   MAP.over = draw("g", { "aria-hidden": "true" });
-  MAP.svg.append(draw("defs", {}, tip("tip", "var(--link)", 5), tip("walktip", "var(--walk)", 3.4),
-    tip("nowtip", "var(--now)", 2.8)), links, MAP.over, nodes);
+  MAP.labels = labels;
+  MAP.tips = [["tip", "--link", 8], ["walktip", "--walk", 12], ["nowtip", "--now", 15]].map(([name, colour, size]) =>
+    [tip(name, colour), size]);
+  MAP.svg.append(draw("defs", {}, ...MAP.tips.map(([one]) => one)), links, labels, MAP.over, nodes);
+  placeLabels();
   MAP.whole = wholeBox();
   setBox(MAP.whole);
 }
 
-function tip(name, colour, size) {
-  return draw("marker", { id: name, viewBox: "0 0 10 10", refX: 9, refY: 5, markerWidth: size, markerHeight: size, orient: "auto" },
-    draw("path", { d: "M0 1L10 5L0 9z", style: `fill:${colour};stroke:none` }));
+function tip(name, colour) {
+  return draw("marker", { id: name, viewBox: "0 0 10 10", refX: 9, refY: 5, markerUnits: "userSpaceOnUse", orient: "auto" },
+    draw("path", { d: "M0 1L10 5L0 9z", style: `fill:var(${colour});stroke:none` }));
 }
 
 // Makes boxes larger where the map is small, and lets links end at them.
@@ -107,21 +111,30 @@ function resize(size) {
   NET.links.forEach((link, number) => {
     const one = MAP.links[number];
     one.shape = shapeOf(link, one.turn);
-    place(one.group, one.shape, link.to < 0 ? 14 : 3);
+    place(one.group, one.shape);
   });
+  placeLabels();
   for (const group of MAP.over.querySelectorAll("[data-link]")) {
-    place(group, MAP.links[Number(group.dataset.link)].shape, 3);
+    place(group, MAP.links[Number(group.dataset.link)].shape);
   }
 }
 
-function place(group, shape, lower) {
+function place(group, shape) {
   for (const path of group.querySelectorAll("path")) {
     path.setAttribute("d", shape.d);
   }
   for (const label of group.querySelectorAll("text")) {
     label.setAttribute("x", shape.labelX);
-    label.setAttribute("y", shape.labelY + (label.classList.contains("cross") ? 6 : lower));
+    label.setAttribute("y", shape.labelY);
   }
+}
+
+function placeLabels() {
+  NET.links.forEach((link, number) => {
+    const { label, shape } = MAP.links[number];
+    label.setAttribute("x", shape.labelX);
+    label.setAttribute("y", shape.labelY + (link.to < 0 ? 12 : 0));
+  });
 }
 
 // The box around all, with some room.
@@ -142,10 +155,26 @@ function wholeBox() {
 function setBox(box) {
   MAP.box = box;
   MAP.svg.setAttribute("viewBox", box.map((one) => one.toFixed(2)).join(" "));
+  window.clearTimeout(MAP.later);
+  if (MAP.scaled) {
+    MAP.later = window.setTimeout(scaleParts, 80); // once the wheel rests
+  } else {
+    MAP.scaled = true;
+    scaleParts();
+  }
+}
+
+// Gives boxes, arrows and labels their sizes on the screen.
+function scaleParts() {
   const place = MAP.svg.getBoundingClientRect();
-  const scale = Math.min(place.width / box[2], place.height / box[3]) || 1; // pixels of a unit
+  const scale = Math.min(place.width / MAP.box[2], place.height / MAP.box[3]) || 1; // pixels of a unit
   const unit = LINK_LENGTH * scale;
-  MAP.svg.style.setProperty("--u", (1 / scale).toFixed(4));
+  for (const [one, pixels] of MAP.tips) {
+    one.setAttribute("markerWidth", pixels / scale);
+    one.setAttribute("markerHeight", pixels / scale);
+  }
+  MAP.over.style.fontSize = `${11 / scale}px`;
+  MAP.labels.style.fontSize = `${9 / scale}px`;
   const size = Math.round(Math.max(0.7, Math.min(2, 0.95 / scale)) * 5) / 5;
   if (size !== MAP.size) {
     resize(size);
@@ -226,7 +255,12 @@ function clearMap() {
 
 function markLinks(numbers, how) {
   for (const number of numbers) {
-    MAP.links[number].group.classList.add(how);
+    const { group, shape } = MAP.links[number];
+    group.classList.add(how);
+    if (how === "broken") {
+      MAP.over.append(draw("g", { class: "cross", "data-link": number },
+        draw("text", { x: shape.labelX, y: shape.labelY, dy: ".35em" }, "\u2715")));
+    }
   }
 }
 
@@ -253,7 +287,7 @@ function drawWalk(walk, now) {
     const shown = seen.numbers.length > 6 ? `${seen.numbers.slice(0, 5).join(",")}..` : seen.numbers.join(",");
     MAP.over.append(draw("g", { class: `step ${how}`, "data-link": link },
       draw("path", { d: shape.d, "marker-end": `url(#${isNow ? "nowtip" : "walktip"})` }),
-      draw("text", { x: shape.labelX, y: shape.labelY + 3 }, shown)));
+      draw("text", { x: shape.labelX, y: shape.labelY, dy: ".35em" }, shown)));
   }
   const stage = walk.stages[now];
   if (stage) {
@@ -273,8 +307,8 @@ function drawFan(fan) {
     const { shape } = MAP.links[link];
     const wide = 2 + 7 * (Number(share) / all);
     MAP.over.append(draw("g", { class: "fan", "data-link": link },
-      draw("path", { d: shape.d, style: `stroke-width:calc(${wide.toFixed(1)}px * var(--u))`, "marker-end": "url(#walktip)" }),
-      draw("text", { x: shape.labelX, y: shape.labelY + 3 }, share)));
+      draw("path", { d: shape.d, style: `stroke-width:${wide.toFixed(1)}px`, "marker-end": "url(#walktip)" }),
+      draw("text", { x: shape.labelX, y: shape.labelY, dy: ".35em" }, share)));
     MAP.nodes[NET.links[link].from].classList.add("met");
     if (NET.links[link].to >= 0) {
       MAP.nodes[NET.links[link].to].classList.add("met");

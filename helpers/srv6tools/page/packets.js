@@ -4,9 +4,10 @@
 const LISTED = DATA.groups.flatMap((group) => group.walks);
 
 function showPackets() {
-  const side = byId("side");
-  side.replaceChildren();
-  for (const group of DATA.groups) {
+  const side = make("div", {});
+  KIND.packetList = KIND.packetList || side;
+  byId("side").replaceChildren(KIND.packetList);
+  for (const group of KIND.packetList === side ? DATA.groups : []) {
     side.append(make("h2", {}, `${count(group.walks.length, "packet")}: ${group.label}`));
     const ends = new Map();
     for (const number of group.walks) {
