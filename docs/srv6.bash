@@ -125,7 +125,7 @@ declare -gA _srv6_arguments=(
     [to-json]='file'
     [to-linux]='toml node'
     [to-raw]='file'
-    [view]='toml file'
+    [view]='file file' # any, as an editor has this name too
     [why-no-list]='toml toml'
 )
 

@@ -116,9 +116,11 @@ class Teller:
     def told(self, walk: Walk) -> Iterator[Told]:
         """The stages of a walk, one by one."""
         place, packet, last = Place(walk.node, 0, None, True), walk.packet, None
+        family = walk.family
         for stage in walk.stages:
             found = self._found(walk, stage, place, packet)
-            yield self._one(stage, place, found, last)
+            yield self._one(stage, place, found, last, family)
+            family = stage.family or family
             last = found if isinstance(found, Sid) else None
             if stage.kind == "send":
                 link = self.net.links[stage.link]
@@ -157,13 +159,14 @@ class Teller:
             raise Fault(f"a walk executes {stage.sid} at {place.node}, which has no such SID")
         return found
 
-    def _one(self, stage: Stage, place: Place, found: Found, last: Sid | None) -> Told:
+    def _one(
+        self, stage: Stage, place: Place, found: Found, last: Sid | None, family: int
+    ) -> Told:
         entry = entry_words(place, found) if self.looks_up else ""
         match stage.kind:
             case "send" if isinstance(found, Via):
-                return Told(
-                    place.node, entry, self._send(stage, place, found), _send_rfc(found, last)
-                )
+                words = self._send(stage, place, found, family)
+                return Told(place.node, entry, words, _send_rfc(found, last))
             case "again" if isinstance(found, Sid):
                 return Told(place.node, entry, _again(stage, found), sid_rfc(found), found)
             case "hand" if isinstance(found, Sid):
@@ -179,15 +182,15 @@ class Teller:
                 return Told(place.node, entry, self._drop(stage), rfc, sid)
         return Told(place.node, "", "stops: 10,000 stages without an end", "own rule")
 
-    def _send(self, stage: Stage, place: Place, found: Via) -> str:
+    def _send(self, stage: Stage, place: Place, found: Via, family: int) -> str:
         link = self.net.links[stage.link]
-        to = f"to {link.end}" if link.end else "which leaves the network"
+        to = f" to {link.end}" if link.end else ", which leaves the network"
         which = ""
         if len(found.links) > 1:
             number = found.links.index(link.name) + 1
             which = f", next hop {number} of {len(found.links)} equal ones"
-        lowered = " and lowers the hop limit" if place.lowers else ""
-        return f"sends it on {link.name} {to}{which}{lowered}"
+        lowered = f", and lowers the {'hop limit' if family == 6 else 'TTL'}" if place.lowers else ""
+        return f"sends it on {link.name}{to}{which}{lowered}"
 
     def _drop(self, stage: Stage) -> str:
         why = REASONS.get(stage.reason or "", "")

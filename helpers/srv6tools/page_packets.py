@@ -267,9 +267,9 @@ class Pages:
         after = entered.walk.packet
         mark, words = self.mark(entered.inner or b"", after)
         link = self.net.links[entered.first or ""]
-        to = f"to {link.end}" if link.end else "which leaves the network"
+        to = f" to {link.end}" if link.end else ", which leaves the network"
         told = Told(
-            entered.node, "the intent's list", f"puts the list on and sends it on {link.name} {to}",
+            entered.node, "the intent's list", f"puts the list on and sends it on {link.name}{to}",
             HEADEND_RFC,
         )  # fmt: skip
         return self._row("enter", told, link.name, self.view(after), mark, words)

@@ -31,6 +31,11 @@ def _found() -> tuple[str, str] | None:
     return (browser, driver) if browser and driver else None
 
 
+def is_there() -> bool:
+    """Whether the browser and its driver are there."""
+    return _found() is not None
+
+
 def needs_browser(test):
     """Skips a test where the browser or its driver isn't there."""
     return unittest.skipUnless(_found(), "chromium or chromedriver is missing")(test)
@@ -159,6 +164,10 @@ class Browser:
             {"type": "pointerUp", "button": 0},
         ]
         self._ask("POST", "/actions", {"actions": [{"type": "pointer", "id": "mouse", "actions": acts}]})
+
+    def settle(self) -> None:
+        """Waits until the map has its sizes."""
+        time.sleep(0.3)
 
     def console(self) -> list[str]:
         """What the console has of warnings and errors since it was asked last."""

@@ -141,7 +141,7 @@ class Page(ToolCase):
             if stage.packet is not None:
                 self.assertEqual(page.run(SHOWN_BYTES), stage.packet.hex())
             if stage.kind == "send":
-                self.assertIn(f"sends it on {stage.link} ", said)
+                self.assertRegex(said, rf"sends it on {re.escape(stage.link)}[ ,.]")
                 now = page.run("return document.querySelector('.step.now').dataset.link")
                 self.assertEqual(list(links)[int(now)], stage.link)
                 to = links[stage.link]["to"]

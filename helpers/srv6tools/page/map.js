@@ -29,9 +29,12 @@ function shapeOf(link, turn) {
   const my = (from.y + to.y) / 2 + py * 1.6;
   const [ax, ay] = edgeOf(from, mx - from.x, my - from.y);
   const [bx, by] = link.to < 0 ? link.end : edgeOf(to, mx - to.x, my - to.y);
-  const labelX = (ax + 2 * mx + bx) / 4;
-  const labelY = (ay + 2 * my + by) / 4;
-  return { d: `M${ax.toFixed(1)} ${ay.toFixed(1)}Q${mx.toFixed(1)} ${my.toFixed(1)} ${bx.toFixed(1)} ${by.toFixed(1)}`, labelX, labelY };
+  const at = (share) => [ // a point of the curve, from 0 to 1
+    (1 - share) ** 2 * ax + 2 * share * (1 - share) * mx + share ** 2 * bx,
+    (1 - share) ** 2 * ay + 2 * share * (1 - share) * my + share ** 2 * by];
+  const [labelX, labelY] = at(0.5);
+  const [stepX, stepY] = at(0.36);
+  return { d: `M${ax.toFixed(1)} ${ay.toFixed(1)}Q${mx.toFixed(1)} ${my.toFixed(1)} ${bx.toFixed(1)} ${by.toFixed(1)}`, labelX, labelY, stepX, stepY };
 }
 
 function linkWords(link) {
@@ -124,8 +127,8 @@ function place(group, shape) {
     path.setAttribute("d", shape.d);
   }
   for (const label of group.querySelectorAll("text")) {
-    label.setAttribute("x", shape.labelX);
-    label.setAttribute("y", shape.labelY);
+    label.setAttribute("x", shape.stepX);
+    label.setAttribute("y", shape.stepY);
   }
 }
 
@@ -259,7 +262,7 @@ function markLinks(numbers, how) {
     group.classList.add(how);
     if (how === "broken") {
       MAP.over.append(draw("g", { class: "cross", "data-link": number },
-        draw("text", { x: shape.labelX, y: shape.labelY, dy: ".35em" }, "\u2715")));
+        draw("text", { x: shape.stepX, y: shape.stepY, dy: ".35em" }, "\u2715")));
     }
   }
 }
@@ -287,7 +290,7 @@ function drawWalk(walk, now) {
     const shown = seen.numbers.length > 6 ? `${seen.numbers.slice(0, 5).join(",")}..` : seen.numbers.join(",");
     MAP.over.append(draw("g", { class: `step ${how}`, "data-link": link },
       draw("path", { d: shape.d, "marker-end": `url(#${isNow ? "nowtip" : "walktip"})` }),
-      draw("text", { x: shape.labelX, y: shape.labelY, dy: ".35em" }, shown)));
+      draw("text", { x: shape.stepX, y: shape.stepY, dy: ".35em" }, shown)));
   }
   const stage = walk.stages[now];
   if (stage) {
@@ -308,7 +311,7 @@ function drawFan(fan) {
     const wide = 2 + 7 * (Number(share) / all);
     MAP.over.append(draw("g", { class: "fan", "data-link": link },
       draw("path", { d: shape.d, style: `stroke-width:${wide.toFixed(1)}px`, "marker-end": "url(#walktip)" }),
-      draw("text", { x: shape.labelX, y: shape.labelY, dy: ".35em" }, share)));
+      draw("text", { x: shape.stepX, y: shape.stepY, dy: ".35em" }, share)));
     MAP.nodes[NET.links[link].from].classList.add("met");
     if (NET.links[link].to >= 0) {
       MAP.nodes[NET.links[link].to].classList.add("met");

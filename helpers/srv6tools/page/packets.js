@@ -15,7 +15,7 @@ function showPackets() {
       ends.set(end, (ends.get(end) || 0) + 1);
     }
     const summary = [...ends].sort((one, other) => other[1] - one[1]).slice(0, 8);
-    side.append(make("table", { class: "ends-summary" }, ...summary.map(([end, times]) => make("tr", {},
+    side.append(make("h3", {}, "How they end"), make("table", { class: "ends-summary" }, ...summary.map(([end, times]) => make("tr", {},
       make("td", { class: "mono" }, String(times)), make("td", { class: endClass(end) }, `${endSign(end)} ${end}`)))));
     if (group.left_out) {
       side.append(make("p", { class: "warn" }, `${count(group.left_out, "packet")} more aren't shown.`));
@@ -23,6 +23,7 @@ function showPackets() {
     if (group.fans_cut) {
       side.append(make("p", { class: "warn" }, "The walks over all choices aren't counted: there are too many."));
     }
+    side.append(make("h3", {}, "One by one"));
     const rows = make("ol", { class: "rows", "aria-label": group.label });
     for (const number of group.walks) {
       const walk = DATA.walks[number];
