@@ -385,7 +385,12 @@ def _groups(asked_for: Asked, words: argparse.Namespace, pages: Pages) -> Iterat
         for intent in asked_for.intents:
             given = read_bytes(path, INPUT_LIMIT)
             label = f"{Path(path).name} along {Path(intent).name}"
-            group = along(net, intent, words.choices, given, label, words.most)
+            try:
+                group = along(net, intent, words.choices, given, label, words.most)
+            except Fault as fault:
+                if fault.status != Status.NO_ANSWER:  # else the lists say so
+                    raise
+                continue
             if not words.no_fans:
                 count_fans(pages, group, None, intent)
             yield _enter_group(pages, group)

@@ -9,6 +9,7 @@ import subprocess
 import unittest
 from ipaddress import IPv6Address
 
+from srv6tools.captures import sent_in
 from srv6tools.decisions import RFC_OF, RFC_OF_REASON
 from srv6tools.description import BEHAVIOURS, read_network
 from srv6tools.layout import commented, positions
@@ -111,6 +112,31 @@ class View(ToolCase):
         shown = [f"packet {row['number']}: {data['texts'][row['end']]}" for row in ends]
         self.assertEqual(sorted(unread + shown), sorted(lines))
         self.assertEqual(len(unread), 4)
+
+    def test_choices_are_those_of_walk(self):
+        """The links of inner packets are those of the frames of `srv6 walk` under the choices."""
+        given = (DOMAIN / "customers.pcap").read_bytes()
+        seen = set()
+        for choices in ("0", "1", "1,0", "0,1,1"):
+            words = [DOMAIN / "net.toml", DOMAIN / "by-firewall.toml"]
+            data = data_of(self.page(*words, DOMAIN / "customers.pcap", "--choices", choices, "--no-fans"))
+            links: dict[int, list[int]] = {}
+            out = run_program(["walk", *words, choices], given).out
+            for sent in sent_in(out, "walk"):
+                if sent.link:
+                    links.setdefault(sent.packet, []).append(sent.link - 1)
+            walks = [data["walks"][number] for number in data["groups"][0]["walks"]]
+            shown = {
+                walk["number"]: [row[5] for row in walk["stages"] if row[5] >= 0] for walk in walks
+            }
+            self.assertEqual({n: way for n, way in shown.items() if way}, links)
+            seen.add(json.dumps(links))
+        self.assertGreater(len(seen), 1)
+
+    def test_an_intent_without_a_list_has_no_packets(self):
+        words = [DOMAIN / "net.toml", DOMAIN / "no-list.toml", DOMAIN / "customers.pcap"]
+        data = data_of(self.page(*words))
+        self.assertEqual((data["groups"], len(data["lists"])), ([], 1))
 
     def test_fans_are_those_of_all_paths(self):
         capture = DOMAIN / "anycast.pcap"

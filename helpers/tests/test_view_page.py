@@ -284,6 +284,9 @@ class Page(ToolCase):
         self.assertEqual(dark.run(theme), "dark")
         back = "return getComputedStyle(document.body).backgroundColor"
         self.assertEqual(dark.run(back), "rgb(18, 24, 30)")
+        dark.emulate("print")
+        self.assertEqual(dark.run(back), "rgb(255, 255, 255)")
+        dark.emulate("screen")
         dark.press("t")
         self.assertEqual((dark.run(theme), dark.run(back)), ("light", "rgb(255, 255, 255)"))
         dark.emulate("print")

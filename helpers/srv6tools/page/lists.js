@@ -81,6 +81,7 @@ function listBox(list) {
     box.append(button("Walk a packet along it", () => {
       KIND.broken = null;
       showWalk(list.walk, 0);
+      byId("walker").scrollIntoView({ block: "start" });
     }, { class: "along" }));
   }
   box.append(make("p", { class: "soft" }, `The certificate lists ${count(list.potentials, "state")}.`));

@@ -177,13 +177,13 @@ function scaleParts() {
     one.setAttribute("markerHeight", pixels / scale);
   }
   MAP.over.style.fontSize = `${11 / scale}px`;
-  MAP.labels.style.fontSize = `${9 / scale}px`;
+  MAP.labels.style.fontSize = `${10 / scale}px`;
   const size = Math.round(Math.max(0.7, Math.min(2, 0.95 / scale)) * 5) / 5;
   if (size !== MAP.size) {
     resize(size);
   }
   MAP.svg.classList.toggle("far", unit < 44);
-  MAP.svg.classList.toggle("near", unit > 118);
+  MAP.svg.classList.toggle("near", unit > 145);
 }
 
 const LINK_LENGTH = (() => {
