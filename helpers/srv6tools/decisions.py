@@ -153,8 +153,8 @@ class Teller:
             return Via((stage.link,), None)
         if stage.sid is None:
             return None
-        found = next((sid for key, sid in self._sids.items() if key[0] == place.node
-                      and str(key[1]) == stage.sid), None)  # fmt: skip
+        own = (sid for (node, _), sid in self._sids.items() if node == place.node)
+        found = next((sid for sid in own if str(sid.prefix) == stage.sid), None)
         if found is None:
             raise Fault(f"a walk executes {stage.sid} at {place.node}, which has no such SID")
         return found
@@ -189,7 +189,8 @@ class Teller:
         if len(found.links) > 1:
             number = found.links.index(link.name) + 1
             which = f", next hop {number} of {len(found.links)} equal ones"
-        lowered = f", and lowers the {'hop limit' if family == 6 else 'TTL'}" if place.lowers else ""
+        limit = "hop limit" if family == 6 else "TTL"
+        lowered = f", and lowers the {limit}" if place.lowers else ""
         return f"sends it on {link.name}{to}{which}{lowered}"
 
     def _drop(self, stage: Stage) -> str:

@@ -176,8 +176,9 @@ def as_data(one: Compiled, label: str, sids: dict, nodes: dict[str, int]) -> dic
     """A list, for the page."""
     intent = one.intent
     data: dict[str, Any] = {
-        "label": label, "net": one.net.path, "intent": intent.path, "headend": nodes.get(intent.headend, -1),
-        "inner": intent.inner, "mode": intent.mode, "hop_limit": intent.hop_limit,
+        "label": label, "net": one.net.path, "intent": intent.path,
+        "headend": nodes.get(intent.headend, -1), "inner": intent.inner,
+        "mode": intent.mode, "hop_limit": intent.hop_limit,
         "steps": [str(step) for step in intent.steps],
         "check": one.verdict, "verdict": verdict_words(one),
         "potentials": len(one.certificate.potentials),
@@ -212,6 +213,8 @@ def as_data(one: Compiled, label: str, sids: dict, nodes: dict[str, int]) -> dic
 def network_like(path: str, net: Network) -> Network:
     """A second description, which has the same nodes and links, as an update needs them."""
     other = read_network(path)
-    if list(other.nodes) != list(net.nodes) or list(other.links.values()) != list(net.links.values()):
-        raise Fault(f"{path}: its nodes and links aren't those of {net.path}, so no update leads there")
+    both = [(list(one.nodes), list(one.links.values())) for one in (other, net)]
+    if both[0] != both[1]:
+        why = f"its nodes and links aren't those of {net.path}, so no update leads there"
+        raise Fault(f"{path}: {why}")
     return other

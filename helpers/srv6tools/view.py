@@ -9,29 +9,24 @@ from dataclasses import dataclass, field
 from pathlib import Path
 from typing import Any
 
-from .captures import GZIP, raw_capture, sent_in
+from .captures import GZIP
 from .command import Fault, Parser, Status, positive, progress, run_tool, tool_name
 from .decisions import sid_rfc
 from .description import MOST_MTU, Network, read_network
-from .err_lines import PacketLine, err_line_of
 from .files import INPUT_LIMIT, parse_toml, read_bytes, read_text
-from .intent import read_intent
 from .layout import commented, ends, positions
+from .page_groups import Group, along, arriving, count_fans, enter_group
 from .page_lists import Compiled, as_capture, as_data, compiled, network_like, probe
 from .page_packets import Entered, Pages
 from .plan import make_links, read_plan
-from .program import judge_description, run_program
+from .program import judge_description
 from .say_items import near
-from .trace import Stage, Trace, Walk, trace_of
-from .walks import Visit, Walks
+from .trace import Stage, Walk
 from .what_if import STATES, Cell, Traffic, WhatIf, read_what_if
 
 PAGE = Path(__file__).resolve().parent / "page"
 SCRIPTS = ("base.js", "map.js", "packets.js", "lists.js", "whatif.js", "main.js")
-VISITS = 100_000  # of packets at nodes, beyond which walks over all choices aren't counted
-ENTRIES = 4_000_000  # that the program may read for them, at one description a call
 MOST_PACKETS = 1000
-SAY = tool_name("srv6-say")
 DESCRIPTION = """\
 Writes one page of HTML to look at with a browser: from disk, without a network, and with nothing
 else beside it.
@@ -68,144 +63,6 @@ def kind_of(path: str) -> str:
     return "table" if content.lstrip()[:1] == b"{" else "intent"
 
 
-def _refuse(words: Sequence[Any], status: int, err: str) -> None:
-    """A fault where the program didn't do it."""
-    if status != Status.DONE:
-        said = (err.splitlines() or [f"status {status}"])[-1]
-        known = Status(status) if status in list(Status) else Status.OUTSIDE_FAULT
-        raise Fault(f"srv6 {' '.join(map(str, words))}: {said} (`{SAY}` says more)", known)
-
-
-def asked(*words: Any, given: bytes = b"") -> tuple[bytes, str]:
-    """What the program writes on `out` and on `err`."""
-    answer = run_program([str(word) for word in words], given)
-    _refuse(words, answer.status, answer.err)
-    return answer.out, answer.err
-
-
-def packet_lines(err: str) -> dict[int, tuple[PacketLine, str]]:
-    """The lines of packets on `err`, with their words, by number."""
-    found = {}
-    for line in err.splitlines():
-        said = err_line_of(line)
-        if isinstance(said, PacketLine):
-            found[said.number] = said, line.partition(": ")[2]
-    return found
-
-
-def traced(net: Network, node: str, choices: str, given: bytes) -> Trace:
-    """The walks of packets that arrive at a node."""
-    out, _ = asked("trace", net.path, node, choices, given=given)
-    return trace_of(out.decode("latin-1").splitlines(), "srv6 trace")
-
-
-@dataclass(slots=True)
-class Group:
-    """Packets of one capture that enter in one way."""
-
-    label: str
-    packets: list[Entered]
-    unread: list[tuple[int, str]]
-    left_out: int = 0  # packets beyond the most that are shown
-    fans: dict[int, int] = field(default_factory=dict)  # by packet
-    fans_cut: bool = False
-
-
-def arriving(net: Network, node: str, choices: str, path: str, most: int) -> Group:
-    """The packets of a capture that arrive at a node."""
-    given = read_bytes(path, INPUT_LIMIT)
-    _, err = asked("run", net.path, node, choices, given=given)
-    lines = packet_lines(err)
-    walks = traced(net, node, choices, given).walks
-    unread = [(n, said.reason or "") for n, (said, _) in lines.items() if said.outcome == "not read"]
-    packets = [Entered(walk, lines[walk.number][1]) for walk in walks[:most]]
-    label = f"{Path(path).name} arriving at {node}"
-    return Group(label, packets, sorted(unread), len(walks) - len(packets))
-
-
-def along(net: Network, intent: str, choices: str, given: bytes, label: str, most: int) -> Group:
-    """The inner packets of an input along an intent's list."""
-    out, err = asked("walk", net.path, intent, choices, given=given)
-    lines, links = packet_lines(err), list(net.links.values())
-    headend = read_intent(intent).headend
-    inner = {walk.number: walk for walk in traced(net, headend, "0", given).walks}
-    firsts, errors = {}, {}
-    for sent in sent_in(out, "srv6 walk"):
-        if sent.link == 0:
-            errors[sent.packet] = sent.content
-        elif sent.packet not in firsts:
-            firsts[sent.packet] = links[sent.link - 1], sent.content
-    numbers = [n for n in sorted(lines) if lines[n][0].outcome != "not read"][:most]
-    shown = len([one for one, _ in lines.values() if one.outcome != "not read"])
-    onward = _onward(net, {n: firsts[n] for n in numbers if n in firsts}, _behind_first(choices))
-    packets = []
-    for number in numbers:
-        said, words = lines[number]
-        own = inner[number].packet
-        if number in onward:
-            name = firsts[number][0].name
-            packets.append(Entered(onward[number], words, own, name, headend))
-        else:
-            drop = Stage(0, "drop", reason=said.reason, packet=errors.get(number))
-            walk = Walk(0, number, inner[number].family, headend, own, [drop])
-            packets.append(Entered(walk, words, looks_up=False))
-    unread = [(n, said.reason or "") for n, (said, _) in lines.items() if said.outcome == "not read"]
-    return Group(label, packets, sorted(unread), shown - len(packets))
-
-
-def _behind_first(choices: str) -> str:
-    """The choices of a packet behind its first send."""
-    first, *rest = choices.split(",")
-    return ",".join([*rest, first])
-
-
-def _onward(net: Network, firsts: dict[int, Any], choices: str) -> dict[int, Walk]:
-    """The walks of packets from the end of the first link on."""
-    found, by_node = {}, {}
-    for number, (link, content) in firsts.items():
-        if link.end is None:
-            found[number] = Walk(0, number, 6, link.start, content)
-        else:
-            by_node.setdefault(link.end, []).append((number, content))
-    for node, rows in by_node.items():
-        given = b"".join(raw_capture((0, 0, content) for _, content in rows))
-        for (number, _), walk in zip(rows, traced(net, node, choices, given).walks):
-            walk.number = number
-            found[number] = walk
-    return found
-
-
-class BoundedWalks(Walks):
-    """Walks over all choices, as far as the program is asked not too often for them."""
-
-    def __post_init__(self) -> None:
-        super().__post_init__()
-        self.calls = max(20, ENTRIES // (len(self.net.routes) + len(self.net.sids) + 1000))
-
-    def _ask(self, node: str, choice: int, visits: Sequence[Visit]) -> None:
-        self.calls -= 1
-        if self.calls < 0:
-            self.is_cut = True
-        else:
-            super()._ask(node, choice, visits)
-
-
-def count_fans(pages: Pages, group: Group, node: str | None, intent: str | None) -> None:
-    """All walks of a group's packets, over all choices."""
-    walks = BoundedWalks(pages.net, VISITS)
-    shown = [one for one in group.packets if intent is None or one.first]
-    if not shown:
-        return
-    contents = [one.walk.packet if one.inner is None else one.inner for one in shown]
-    given = b"".join(raw_capture((0, 0, content) for content in contents))
-    starts = walks.from_node(node or "", given) if intent is None else walks.from_intent(intent, given)
-    if walks.is_cut:
-        group.fans_cut = True
-        return
-    for start in starts:
-        group.fans[shown[start.number - 1].walk.number] = pages.fan(walks, start)
-
-
 def network_data(net: Network, plan: str | None) -> dict[str, Any]:
     """The network, for the page."""
     text = read_text(net.path)
@@ -214,7 +71,8 @@ def network_data(net: Network, plan: str | None) -> dict[str, Any]:
         given = commented(read_text(plan), net.nodes, False) | given
         metrics = make_links(parse_toml(text, net.path), net.path, read_plan(plan)).metrics
         default = read_plan(plan).metric
-        metrics = {link.name: metrics.get(link.name, default) for link in net.links.values() if link.end}
+        inside = [link.name for link in net.links.values() if link.end]
+        metrics = {name: metrics.get(name, default) for name in inside}
     place = positions(net, given)
     out = ends(net, place)
     numbers = {name: at for at, name in enumerate(net.nodes)}
@@ -240,27 +98,14 @@ def network_data(net: Network, plan: str | None) -> dict[str, Any]:
             for link in net.links.values()
         ],
         "sids": [
-            {"prefix": str(sid.prefix), "node": numbers[sid.node], "what": sid.what, "rfc": sid_rfc(sid)}
+            {"prefix": str(sid.prefix), "node": numbers[sid.node], "what": sid.what,
+             "rfc": sid_rfc(sid)}
             for sid in net.sids
         ],
         "blocks": [f"{one.prefix} ({one.kind}, CSIDs of {one.csid} bits)" for one in net.blocks],
         "counts": {"nodes": len(net.nodes), "links": len(net.links), "routes": len(net.routes),
                    "sids": len(net.sids), "policies": len(net.policies)},
         "placed": len(given),
-    }  # fmt: skip
-
-
-def _enter_group(pages: Pages, group: Group) -> dict[str, Any]:
-    contents = []
-    for one in group.packets:
-        contents += [one.inner or b"", one.walk.packet, *(s.packet or b"" for s in one.walk.stages)]
-    pages.read(contents)
-    walks = [
-        pages.add(one, group.label, group.fans.get(one.walk.number, -1)) for one in group.packets
-    ]
-    return {
-        "label": group.label, "walks": walks, "unread": group.unread, "left_out": group.left_out,
-        "fans_cut": group.fans_cut,
     }  # fmt: skip
 
 
@@ -271,7 +116,7 @@ def list_data(pages: Pages, one: Compiled, label: str, same_net: bool) -> dict[s
         return data
     holder = pages if same_net else Pages(one.net)
     group = along(one.net, one.intent.path, "0", as_capture(probe(one)), f"along {label}", 1)
-    _enter_group(holder, group)
+    enter_group(holder, group)
     walk = holder.walks[-1]
     if not same_net:
         walk = _moved(pages, holder, walk)
@@ -280,8 +125,9 @@ def list_data(pages: Pages, one: Compiled, label: str, same_net: bool) -> dict[s
     for number, row in enumerate(walk["stages"]):
         if at < len(data["sids"]) and row[9] >= 0:
             sid = one.net.sids[row[9]]
-            if (sid.node, str(sid.prefix)) == (data["sids"][at]["name"], data["sids"][at]["prefix"]):
-                data["sids"][at]["stage"] = number
+            wanted = data["sids"][at]
+            if (sid.node, str(sid.prefix)) == (wanted["name"], wanted["prefix"]):
+                wanted["stage"] = number
                 at += 1
     return data
 
@@ -338,7 +184,7 @@ def _cell_data(pages: Pages, cell: Cell, label: str) -> dict[str, Any]:
     if traffic := cell.traffic:
         data |= {"end": traffic.end, "arrives": traffic.arrives}
         if entered := _entered(traffic):
-            _enter_group(pages, Group(label, [entered], []))
+            enter_group(pages, Group(label, [entered], []))
             data["walk"] = len(pages.walks) - 1
     return data
 
@@ -393,12 +239,12 @@ def _groups(asked_for: Asked, words: argparse.Namespace, pages: Pages) -> Iterat
                 continue
             if not words.no_fans:
                 count_fans(pages, group, None, intent)
-            yield _enter_group(pages, group)
+            yield enter_group(pages, group)
         if words.at is not None:
             group = arriving(net, words.at, words.choices, path, words.most)
             if not words.no_fans:
                 count_fans(pages, group, words.at, None)
-            yield _enter_group(pages, group)
+            yield enter_group(pages, group)
 
 
 def _lists(asked_for: Asked, words: argparse.Namespace, pages: Pages) -> Iterator[dict[str, Any]]:
@@ -415,8 +261,8 @@ def _sorted(words: argparse.Namespace) -> Asked:
     """The files of the words, by their kinds."""
     found = Asked(read_network(words.net))
     for path in words.files:
-        kind = kind_of(path)
-        {"capture": found.captures, "table": found.tables, "intent": found.intents}[kind].append(path)
+        kinds = {"capture": found.captures, "table": found.tables, "intent": found.intents}
+        kinds[kind_of(path)].append(path)
     if words.at is not None and words.at not in found.net.nodes:
         what = near(words.at, found.net.nodes, "nodes", most=256)
         raise Fault(f'{words.net} has no node "{words.at}"; {what}')

@@ -115,7 +115,8 @@ def read_what_if(path: str | Path, net: Network) -> WhatIf:
     if not isinstance(root, dict) or root.get("kind") != "what-if":
         raise Fault(f"{name}: no object with the kind `what-if`")
     reader = _Reader(name, net)
-    intents = [reader.text(one, "intents") for one in reader.rows(root.get("intents"), "intents", str)]
+    names = reader.rows(root.get("intents"), "intents", str)
+    intents = [reader.text(one, "intents") for one in names]
     failures = [
         Failure(
             reader.text(row.get("name"), f"failure {number}"),

@@ -178,10 +178,29 @@ class Browser:
         """Writes the window as PNG."""
         path.write_bytes(base64.b64decode(self._ask("GET", "/screenshot")))
 
+    def _command(self, name: str, **given: Any) -> Any:
+        """A command of the DevTools protocol."""
+        return self._ask("POST", "/goog/cdp/execute", {"cmd": name, "params": given})
+
     def emulate(self, media: str) -> None:
         """Shows the page as on a screen or as in print."""
-        given = {"cmd": "Emulation.setEmulatedMedia", "params": {"media": media}}
-        self._ask("POST", "/goog/cdp/execute", given)
+        self._command("Emulation.setEmulatedMedia", media=media)
+
+    def without_colour(self) -> None:
+        """Shows the page as one sees it who sees no colours."""
+        self._command("Emulation.setEmulatedVisionDeficiency", type="achromatopsia")
+
+    def nameless(self) -> list[str]:
+        """The roles of what can be used, or is an image, and has no name for those who listen."""
+        wanted = {"button", "link", "slider", "searchbox", "checkbox", "tab", "image", "textbox"}
+        tree = self._command("Accessibility.getFullAXTree")["nodes"]
+        return [
+            node["role"]["value"]
+            for node in tree
+            if not node.get("ignored")
+            and node.get("role", {}).get("value") in wanted
+            and not node.get("name", {}).get("value")
+        ]
 
     def printed(self) -> bytes:
         """The page as it prints, in PDF."""

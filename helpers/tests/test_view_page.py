@@ -273,6 +273,9 @@ class Page(ToolCase):
         page.press("2", "down", "down")
         self.assertEqual(page.run("return document.querySelector('[aria-current=true]').id"), "walk3")
         self.assertEqual(len(page.texts(".unread li")), 4)
+        for key in "1234":
+            page.press(key)
+            self.assertEqual(page.nameless(), [])
         self.is_quiet()
 
     def test_themes_and_print(self):
