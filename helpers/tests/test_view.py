@@ -22,6 +22,7 @@ from support import EXAMPLES, HELPERS, ToolCase, needs_program, run_here
 
 M2, INTENT, DOMAIN = EXAMPLES / "m2.toml", EXAMPLES / "intent.toml", EXAMPLES / "domain"
 PAGE = HELPERS / "srv6tools" / "page"
+ROWS = HELPERS.parent / "crates" / "worked_rows" / "data"
 
 
 def data_of(page: str) -> dict:
@@ -101,6 +102,23 @@ class View(ToolCase):
                 data = data_of(self.page(net, capture, "--at", node))
                 stages += self.walks_are_those_of_trace(data, net, node, capture)
         self.assertGreater(stages, 100)
+
+    def test_worked_rows(self):
+        """So are those of every sixth worked row that `run` and `trace` have, but for what is cut."""
+        compared = 0
+        for file in sorted(ROWS.rglob("args"))[::6]:
+            command, *words = file.read_text().split()
+            net, given = file.parent / (words or ["-"])[0], file.parent / "stdin"
+            if command not in ("run", "trace") or not net.is_file() or not given.is_file():
+                continue
+            if run_program(["trace", net, *words[1:]], given.read_bytes()).status or words[2:]:
+                continue
+            with self.subTest(row=file.parent.name):
+                data = data_of(self.page(net, given, "--at", words[1], "--no-fans"))
+                if not any(walk["more"] for walk in data["walks"]):
+                    self.walks_are_those_of_trace(data, net, words[1], given)
+                    compared += 1
+        self.assertGreater(compared, 30)
 
     def test_inner_packets(self):
         data = data_of(self.page(DOMAIN / "net.toml", DOMAIN / "red.toml", DOMAIN / "customers.pcap"))
