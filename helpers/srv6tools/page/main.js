@@ -24,7 +24,7 @@ function showView(name) {
 
 function showNetwork() {
   const side = byId("side");
-  const counts = Object.entries(NET.counts).filter(([, number]) => number).map(([what, number]) => `${number} ${what}`);
+  const counts = Object.entries(NET.counts).filter(([, number]) => number).map(([what, number]) => `${number} ${what === "sids" ? "SIDs" : what}`);
   const nodes = make("ul", { class: "rows short" }, ...NET.nodes.map((node, number) => make("li", {},
     make("button", { type: "button", on: () => showNode(number), id: `row${number}` }, make("b", {}, node.name),
       make("span", { class: "soft mono" }, node.address)))));

@@ -32,7 +32,7 @@ function shapeOf(link, turn) {
   const at = (share) => [ // a point of the curve, from 0 to 1
     (1 - share) ** 2 * ax + 2 * share * (1 - share) * mx + share ** 2 * bx,
     (1 - share) ** 2 * ay + 2 * share * (1 - share) * my + share ** 2 * by];
-  const [labelX, labelY] = at(0.5);
+  const [labelX, labelY] = at(link.to < 0 ? 0.5 : 0.64);
   const [stepX, stepY] = at(0.36);
   return { d: `M${ax.toFixed(1)} ${ay.toFixed(1)}Q${mx.toFixed(1)} ${my.toFixed(1)} ${bx.toFixed(1)} ${by.toFixed(1)}`, labelX, labelY, stepX, stepY };
 }
@@ -45,7 +45,7 @@ function linkWords(link) {
 }
 
 function linkLabel(link) {
-  const metric = link.metric === null || link.metric === undefined ? "" : ` ${link.metric}`;
+  const metric = link.metric === null || link.metric === undefined ? "" : ` (${link.metric})`;
   return `${link.name}${metric}${link.mtu === null ? "" : ` mtu ${link.mtu}`}`;
 }
 
