@@ -97,11 +97,13 @@ _srv6() {
 declare -gA _srv6_options=(
     [all-paths]='--table --json --dot --most=any'
     [check-certificate]=''
+    [conform]='--dut=any --profile=profile --json --junit=file --keep=file --seed=any --more=any --most=any'
     [draw-walk]='--used --new=file'
-    [from-linux]='--ipv4=file --node=any --address=any --source=any --link=any'
+    [from-linux]='--ipv4=file --rules=file --sid-table=any --node=any --address=any --source=any --link=any'
     [largest-inner]=''
     [linux-route]='--kernel=any'
     [name-links]=''
+    [packets]='--manifest=file --seed=any --more=any'
     [routes]='--compact --unjudged'
     [srv6-diff]='--replay=toml --net=toml --most=any'
     [to-json]='--kind=report,certificate,err,trace,show,verdict,summary'
@@ -115,11 +117,13 @@ declare -gA _srv6_options=(
 declare -gA _srv6_arguments=(
     [all-paths]='toml start'
     [check-certificate]='toml toml file'
+    [conform]='toml node'
     [draw-walk]='toml file'
     [from-linux]='file'
     [largest-inner]='toml toml'
     [linux-route]='toml any any'
     [name-links]='toml'
+    [packets]='toml node'
     [routes]='toml toml'
     [srv6-diff]='file file'
     [to-json]='file'
@@ -141,6 +145,10 @@ _srv6_kind() {
         nodes=("${COMPREPLY[@]}")
         _srv6_files '*.toml' "$current"
         COMPREPLY+=("${nodes[@]}")
+        ;;
+    profile)
+        _srv6_files '*.toml' "$current"
+        mapfile -t -O ${#COMPREPLY[@]} COMPREPLY < <(compgen -W 'linux none' -- "$current")
         ;;
     any | '') ;;
     *) mapfile -t COMPREPLY < <(compgen -W "${kind//,/ }" -- "$current") ;;

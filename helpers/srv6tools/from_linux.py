@@ -13,8 +13,8 @@ from typing import Any
 
 from .command import Fault, Parser, Status, progress, run_tool
 from .files import INPUT_LIMIT, STDIN, read_bytes, read_input
-from .ip_json import LOCAL, UNICAST, LinuxRoute, NextHop, Unread
-from .ip_json import object_of, routes_in, table_of
+from .ip_json import LOCAL, UNICAST, LinuxRoute, NextHop, Prefix, Unread
+from .ip_json import object_of, routes_in, rules_in, table_of
 from .items import address_of
 from .linux import MAIN_TABLE, OWN_TABLES
 from .toml_writer import lined_text
@@ -37,6 +37,10 @@ Several nodes make a network: their texts one after the other, where --link says
 
   ip -6 -j route show table all > six; ip -4 -j route show table all > four
   from-linux --node A --ipv4 four --link eth0=ab:B six > a.toml
+
+Where SIDs stand in a table of their own, `ip -6 -j rule > rules` and --rules rules find it; a rule
+counts that asks for a destination alone and comes before the main table's. Where all SIDs are left
+out for their tables the status is 3.
 
 What is known of Linux is that of 6.18, whose output was read, with iproute2 6.1."""
 
@@ -115,6 +119,8 @@ class Made:
     policies: list[dict[str, Any]] = field(default_factory=list)
     sids: dict[IPv6Network, dict[str, Any]] = field(default_factory=dict)
     notes: list[str] = field(default_factory=list)
+    elsewhere: int = 0
+    """SIDs that are left out for the table in which they stand."""
 
     def note(self, what: object, why: str) -> None:
         """Takes note of what is left out or changed."""
@@ -130,6 +136,8 @@ class Reading:
     source: IPv6Address
     links: Links
     routes: list[LinuxRoute]
+    sid_tables: dict[int, list[Prefix]] = field(default_factory=dict)
+    """The tables beside the main one whose SIDs are taken, with the prefixes for which packets look up there first."""
     made: Made = field(default_factory=Made)
 
     def __post_init__(self) -> None:
@@ -202,6 +210,8 @@ class Reading:
         if not route.hops:
             raise LeftOut("it names no interface")
         table = self._table(route.table)
+        if table and self._is_asked_first(route):
+            self.made.note(route, "packets look it up before the main table, which a description can't say of a route")
         if len({hop.weight for hop in route.hops}) > 1:
             self.made.note(route, "the weights of its next hops are left out; they are equal here")
         via = list(dict.fromkeys(self._link_of(hop) for hop in route.hops))
@@ -228,14 +238,20 @@ class Reading:
         return table
 
     def _take_sid(self, route: LinuxRoute) -> None:
-        if route.table != MAIN_TABLE:
-            raise LeftOut("SIDs of a description are in table 0, Linux' main table")
+        if route.table != MAIN_TABLE and not self._is_asked_first(route):
+            self.made.elsewhere += 1
+            raise LeftOut("SIDs of a description are in table 0, Linux' main table (--rules and --sid-table take those of others)")
         if not isinstance(route.prefix, IPv6Network) or route.prefix.prefixlen == 0:
             raise LeftOut("a SID has an IPv6 prefix of 1 to 128 bits")
         if route.prefix in self.made.sids:
             raise LeftOut("another SID of the prefix has a lower metric")
         item: dict[str, Any] = {"node": self.node, "prefix": str(route.prefix)}
         self.made.sids[route.prefix] = item | self._behaviour(route) | self._flavours(route)
+
+    def _is_asked_first(self, route: LinuxRoute) -> bool:
+        """Whether packets to the route's prefix look it up in its table before the main one."""
+        prefixes = [one for one in self.sid_tables.get(route.table, ()) if one.version == route.prefix.version]
+        return any(route.prefix.subnet_of(one) for one in prefixes)  # type: ignore[arg-type]
 
     def _behaviour(self, route: LinuxRoute) -> dict[str, Any]:
         action, words = str(route.action.get("action")), route.action
@@ -422,29 +438,60 @@ def listed(name: str, family: int, notes: list[str]) -> Iterator[LinuxRoute]:
             yield route
 
 
-def described(words: argparse.Namespace, notes: list[str]) -> str:
-    """The description of the router that the words name."""
+def sid_tables(words: argparse.Namespace, notes: list[str]) -> dict[int, list[Prefix]]:
+    """The tables in which packets look for SIDs before the main one: those that words name, or rules."""
+    found: dict[int, list[Prefix]] = {table: [IPv6Network("::/0")] for table in words.sid_table or ()}
+    if not words.rules:
+        return found
+    rules = []
+    for rule in rules_in(read_bytes(words.rules, INPUT_LIMIT), words.rules):
+        if isinstance(rule, Unread):
+            notes.append(f"{words.rules}: rule {rule.number}: {rule.why}")
+        else:
+            rules.append(rule)
+    for rule in sorted(rules, key=lambda rule: rule.priority):
+        if rule.more and rule.table not in OWN_TABLES:
+            notes.append(f"{words.rules}: {rule}: it asks for more than a destination ({', '.join(rule.more)})")
+        elif rule.table == MAIN_TABLE:
+            break
+        elif not rule.more and rule.table not in OWN_TABLES:
+            found.setdefault(rule.table, []).append(rule.prefix)
+    return found
+
+
+def described(words: argparse.Namespace, notes: list[str]) -> tuple[str, bool]:
+    """The description of the router that the words name, and whether it lacks SIDs that stand in other tables."""
     routes = list(listed(words.routes, 6, notes))
     if words.ipv4:
         routes += listed(words.ipv4, 4, notes)
     address = words.address or own_address(routes)
     links = Links(words.node, dict(words.link or ()))
-    reading = Reading(words.node, address, words.source or address, links, routes)
+    tables = sid_tables(words, notes)
+    reading = Reading(words.node, address, words.source or address, links, routes, tables)
     reading.made.notes = notes
     reading.read()
-    return lined_text(tables_of(reading))
+    return lined_text(tables_of(reading)), bool(reading.made.elsewhere and not reading.made.sids)
 
 
 def work(words: argparse.Namespace) -> int:
     """Reads the routes and writes the description."""
     notes: list[str] = []
     with progress(TOOL, "reads the routes"):
-        text = described(words, notes)
+        text, lacks_sids = described(words, notes)
     sys.stdout.write(text)
     sys.stdout.flush()
     for note in notes:
         print(f"{TOOL}: {note}", file=sys.stderr)
+    if lacks_sids:
+        raise Fault("no SID is taken, since all stand in other tables than the main one", Status.NO_ANSWER)
     return Status.DONE
+
+
+def table_word(text: str) -> int:
+    """The number of a table."""
+    if not text.isascii() or not text.isdecimal() or not 0 < int(text) < 2**32:
+        raise argparse.ArgumentTypeError(f"{text!r} is no number of a table")
+    return int(text)
 
 
 def main(words: Sequence[str] | None = None) -> int:
@@ -452,6 +499,11 @@ def main(words: Sequence[str] | None = None) -> int:
     parser = Parser(TOOL, DESCRIPTION, MORE)
     parser.add_argument("routes", metavar="IN", nargs="?", default="-", help="the JSON of ip")
     parser.add_argument("--ipv4", metavar="FILE", help="JSON of ip -4 -j route show table all")
+    parser.add_argument("--rules", metavar="FILE", help="JSON of ip -6 -j rule, which may lead to SIDs in other tables")
+    parser.add_argument(
+        "--sid-table", metavar="N", type=table_word, action="append",
+        help="a table beside the main one whose SIDs are taken",
+    )  # fmt: skip
     parser.add_argument("--node", metavar="NAME", type=node_word, default="router", help="its name")
     parser.add_argument(
         "--address", type=address_word,

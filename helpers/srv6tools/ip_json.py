@@ -52,6 +52,21 @@ class LinuxRoute:
 
 
 @dataclass(frozen=True)
+class LinuxRule:
+    """A rule of Linux that names a table: for which destinations, and what more it asks for."""
+
+    number: int  # in the list, from 1
+    priority: int
+    prefix: Prefix
+    table: int
+    more: tuple[str, ...] = ()
+    """What it asks for beside the destination, in words."""
+
+    def __str__(self) -> str:
+        return f"rule {self.number} to {self.prefix}, which names table {self.table}"
+
+
+@dataclass(frozen=True)
 class Unread:
     """A route that can't be read, and why."""
 
@@ -77,6 +92,34 @@ def routes_in(content: bytes, name: str, family: int) -> Iterator[LinuxRoute | U
             yield _route(number, pairs, family)
         except ValueError as fault:
             yield Unread(number, str(fault))
+
+
+def rules_in(content: bytes, name: str, family: int = 6) -> Iterator[LinuxRule | Unread]:
+    """The rules of the JSON of `ip` that name a table."""
+    try:
+        listed = json.loads(decoded(content, name))
+    except (ValueError, RecursionError):
+        raise Fault(f"{name}: no JSON, as `ip -6 -j rule` writes it") from None
+    if not isinstance(listed, list) or not all(isinstance(one, dict) for one in listed):
+        raise Fault(f"{name}: no list of rules, as `ip -6 -j rule` writes it")
+    for number, values in enumerate(listed, 1):
+        if "table" not in values:
+            continue
+        try:
+            yield _rule(number, values, family)
+        except ValueError as fault:
+            yield Unread(number, str(fault))
+
+
+def _rule(number: int, values: dict[str, Any], family: int) -> LinuxRule:
+    prefix = "default"
+    if (address := values.get("dst", "all")) != "all":
+        prefix = f"{address}/{values['dstlen']}" if "dstlen" in values else str(address)
+    known = ("priority", "dst", "dstlen", "table", "protocol")
+    more = [key for key in values if key not in known and not (key == "src" and values[key] == "all")]
+    return LinuxRule(
+        number, _number(values.get("priority", 0), "priority"), _prefix(prefix, family), table_of(values["table"]), tuple(more)
+    )
 
 
 def _is_object(value: Any) -> bool:

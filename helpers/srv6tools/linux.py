@@ -2,7 +2,8 @@
 
 Two kernels are known. What is said of 6.18 was seen on 6.18.44; what is said of 6.1 stands in
 ip-route(8) and ip-sr(8) of iproute2 6.1 and in Documentation/networking/seg6-sysctl.rst and
-net/ipv6/seg6_iptunnel.c of Linux 6.1. A kernel between them is taken to do what 6.1 does.
+net/ipv6/seg6_iptunnel.c of Linux 6.1. A kernel between them is taken to do what 6.1 does, but for PSP at
+End, which users found in 6.12.
 """
 
 import functools
@@ -34,7 +35,7 @@ class Kernel:
     @property
     def psp_at_end(self) -> bool:
         """Whether End has the flavour PSP."""
-        return self >= LATE
+        return self >= PSP_FROM
 
     @property
     def next_at_end_x(self) -> bool:
@@ -48,6 +49,8 @@ class Kernel:
 
 
 EARLY, LATE = Kernel(6, 1), Kernel(6, 18)
+PSP_FROM = Kernel(6, 12)
+"""Where PSP at End was reported to work; kernels between it and 6.1 may have it."""
 
 
 def kernel_of(text: str) -> Kernel:

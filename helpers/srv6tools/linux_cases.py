@@ -4,7 +4,7 @@ from __future__ import annotations
 
 from collections.abc import Iterator
 
-from .packets import (
+from .packet_parts import (
     DESTINATION, FRAGMENT, HOP_BY_HOP, ICMPV6, IPV4, IPV6, NOTHING, ROUTING, UDP,
     fragment, icmp6, ip4, ip6, options, srh, udp,
 )  # fmt: skip

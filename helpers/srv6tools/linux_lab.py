@@ -19,7 +19,7 @@ from ipaddress import IPv6Address
 from .command import Fault, Status
 from .description import Network
 from .linux import interface_name
-from .packets import ICMPV6, ip6
+from .packet_parts import ICMPV6, ip6
 from .to_linux import Script
 
 TUNSETIFF = 0x400454CA
@@ -127,14 +127,14 @@ class Lab:
             for name, content in self._readable(left):
                 if content == wanted:
                     found = True
-                elif name != ENTRY and not self._is_own(content):
+                elif not self._is_own(content):
                     sent.append(self._sent(name, content))
         if not found:
             raise Fault("the node doesn't send on any more", Status.OUTSIDE_FAULT)
         for name, content in self._readable(0):
-            if name != ENTRY and not self._is_own(content):
+            if not self._is_own(content):
                 sent.append(self._sent(name, content))
-        return sent
+        return [one for one in sent if one.link != ENTRY]
 
     def _is_own(self, content: bytes) -> bool:
         """Whether it is a router solicitation or the like, of a link-local or no address."""

@@ -1,66 +1,190 @@
-"""Packets laid out field by field, also those that no sender should send."""
+"""packets: a covering set of packets for a node, with what the node does of each."""
 
-import struct
-from collections.abc import Sequence
-from ipaddress import IPv4Address, IPv6Address
+from __future__ import annotations
 
-HOP_BY_HOP, IPV4, UDP, IPV6, ROUTING, FRAGMENT, ICMPV6, NOTHING, DESTINATION = (
-    0, 4, 17, 41, 43, 44, 58, 59, 60,
-)  # fmt: skip
-SOURCE = "2001:db8:1::1"
+import argparse
+import json
+import random
+import sys
+from collections.abc import Iterator, Sequence
+from dataclasses import dataclass, field
+from pathlib import Path
+from typing import Any
 
+from .captures import FRAME_LIMIT, raw_capture
+from .chains import retagged
+from .command import Fault, Parser, Status, positive, progress, run_tool, tool_name
+from .coverage import Doing, Pair, Seer, Universe
+from .description import MOST_MTU, Network, read_network
+from .node_cases import BYTES_CHANGED, Case, Maker
+from .program import judge_description
+from .tagging import lengthened
 
-def ip6(
-    destination: str, kind: int = NOTHING, payload: bytes = b"", hop_limit: int = 64,
-    source: str = SOURCE, length: int | None = None, version: int = 6,
-) -> bytes:  # fmt: skip
-    """An IPv6 packet; `length` is the payload length that it claims."""
-    size = len(payload) if length is None else length
-    head = struct.pack(">IHBB", version << 28, size, kind, hop_limit)
-    return head + IPv6Address(source).packed + IPv6Address(destination).packed + payload
+TOOL = "packets"
+NOT_SHOWN = "no packet of this set shows it"
 
+DESCRIPTION = """\
+Writes a capture of packets for one node of a network: to each SID, to its address, over its routes, and to nowhere, with
+headers, segments, options, items, hop limits, sizes and inner packets at and beyond each bound. What the node does with each
+the program says (srv6 trace). With --manifest a file says of each packet what it exercises and what the node sends; and which
+pairs of what is met and what comes of it are shown, and which can't be, and why."""
 
-def srh(
-    left: int, segments: Sequence[str], kind: int = NOTHING, last: int | None = None,
-    tlvs: bytes = b"", length: int | None = None, routing_type: int = 4,
-) -> bytes:  # fmt: skip
-    """A segment routing header; its last segment stands first."""
-    body = b"".join(IPv6Address(segment).packed for segment in segments) + tlvs
-    size = len(body) // 8 if length is None else length
-    last = len(segments) - 1 if last is None else last
-    return struct.pack(">BBBBBBH", kind, size, routing_type, left, last, 0, 0) + body
+MORE = """\
+Each packet has its number as a tag: in the flow label, in the identification of IPv4, and behind the mark "srv6" in the
+payload. With --more N as many further packets follow, which are packets of the set with bytes changed by --seed.
 
-
-def options(kind: int, content: str) -> bytes:
-    """A header of options of 8 bytes, from 6 bytes in hexadecimal."""
-    return bytes([kind, 0]) + bytes.fromhex(content)
-
-
-def fragment(kind: int, offset: int = 0, more: bool = True) -> bytes:
-    """A Fragment header; `offset` counts in 8 bytes."""
-    return struct.pack(">BBHI", kind, 0, offset << 3 | more, 1)
+  helpers/packets --manifest set.json examples/behaviours.toml N > set.pcap
+  srv6 run examples/behaviours.toml N < set.pcap > out.pcap"""
 
 
-def udp() -> bytes:
-    """A UDP header without a payload or checksum."""
-    return bytes.fromhex("0001000200080000")
+@dataclass
+class CoveringSet:
+    """The packets of a set, what the node does of each, and which pairs they show."""
+
+    net: Network
+    node: str
+    seed: int = 0
+    cases: list[Case] = field(default_factory=list)
+    doings: list[list[Doing]] = field(default_factory=list)
+
+    @property
+    def met(self) -> dict[Pair, list[int]]:
+        """The pairs that are shown, with the packets that show them."""
+        found: dict[Pair, list[int]] = {}
+        for case, doings in zip(self.cases, self.doings):
+            for pair in dict.fromkeys(pair for doing in doings for pair in doing.pairs):
+                found.setdefault(pair, []).append(case.number)
+        return found
+
+    def unmet(self) -> list[tuple[Pair, str]]:
+        """The pairs that aren't shown, each with the reason."""
+        met, universe = self.met, Universe(self.net, self.node)
+        return [(pair, why or NOT_SHOWN) for pair, why in universe.pairs() if pair not in met]
+
+    def capture(self) -> bytes:
+        """The packets as a capture."""
+        return b"".join(raw_capture((case.number, 0, case.packet) for case in self.cases))
 
 
-def icmp6(kind: int, code: int = 0, content: bytes = b"") -> bytes:
-    """An ICMPv6 message without a checksum."""
-    return bytes([kind, code, 0, 0]) + bytes(4) + content
+def covering_set(net: Network, node: str, path: str | Path, seed: int = 0, more: int = 0) -> CoveringSet:
+    """The covering set of a node, found by asking the program."""
+    if node not in net.nodes:
+        names = ", ".join(list(net.nodes)[:12])
+        raise Fault(f"{path}: no node is called {node!r}; there are {names or 'none'}")
+    made, seer, maker = CoveringSet(net, node, seed), Seer(net, node, path), Maker(net, node)
+    for to, exercises, packet in maker.all():
+        made.cases.append(Case(maker.tag, to, exercises, packet))
+        maker.tag += 1
+    if len(made.cases) + more > FRAME_LIMIT:
+        raise Fault(f"{path}: node {node}: {len(made.cases)} packets and {more} more, and a capture has {FRAME_LIMIT}")
+    made.doings = seer.doings([case.packet for case in made.cases])
+    sized = list(_of_sizes(made, maker))
+    further = list(_further(made, maker, random.Random(seed), more))
+    made.doings += seer.doings([case.packet for case in (*sized, *further)])
+    made.cases += [*sized, *further]
+    if len(made.cases) > FRAME_LIMIT:
+        raise Fault(f"{path}: node {node}: {len(made.cases)} packets, and a capture has {FRAME_LIMIT}")
+    return made
 
 
-def ip4(
-    destination: str, kind: int = UDP, payload: bytes = b"", ttl: int = 64,
-    total: int | None = None, good_checksum: bool = True, version: int = 4,
-) -> bytes:  # fmt: skip
-    """An IPv4 packet without options."""
-    size = 20 + len(payload) if total is None else total
-    addresses = IPv4Address("198.51.100.1").packed + IPv4Address(destination).packed
-    head = struct.pack(">BBHHHBBH", version << 4 | 5, 0, size, 0, 0, ttl, kind, 0) + addresses
-    total_sum = sum(struct.unpack(">10H", head))
-    while total_sum > 0xFFFF:
-        total_sum = (total_sum & 0xFFFF) + (total_sum >> 16)
-    checksum = total_sum ^ 0xFFFF if good_checksum else (total_sum ^ 0xFFFF) ^ 1
-    return head[:10] + struct.pack(">H", checksum) + head[12:] + payload
+SIZED = {"a segment left", "shift", "index 0, a segment left", "a whole segment", "IPv6 inside", "IPv4 inside", "sent on"}
+"""What packets exercise that are made as long as an MTU; behind it a link may be named."""
+
+
+def _of_sizes(made: CoveringSet, maker: Maker) -> Iterator[Case]:
+    """Packets that are as long as a link's MTU where they are sent on it, and longer by one byte."""
+    for case, doings in list(zip(made.cases, made.doings)):
+        if case.exercises.split(", over ")[0] not in SIZED:
+            continue
+        for link, content in dict.fromkeys((doing.link, doing.content) for doing in doings if doing.outcome == "sent"):
+            mtu = made.net.links[link or ""].mtu
+            if mtu == MOST_MTU or content is None:
+                continue
+            for size in (mtu, mtu + 1):
+                more = size - len(content)
+                if more >= 0 and len(case.packet) + more <= MOST_MTU:
+                    packet = lengthened(retagged(case.packet, case.number, maker.tag), more)
+                    yield Case(maker.tag, case.to, f"{case.exercises}, {size} bytes over {link}", packet)
+                    maker.tag += 1
+
+
+def _further(made: CoveringSet, maker: Maker, chance: random.Random, more: int) -> Iterator[Case]:
+    """Packets of the set in which some bytes are changed."""
+    small = [case for case in made.cases if len(case.packet) <= 400]
+    for _ in range(more):
+        case = chance.choice(small)
+        content = bytearray(retagged(case.packet, case.number, maker.tag))
+        places = [at for at in range(4, len(content)) if not 24 <= at < 32]
+        for _ in range(chance.randint(1, 3)):
+            if places:
+                content[chance.choice(places)] = chance.choice((0, 1, 2, 4, 41, 43, 44, 60, 255, chance.randrange(256)))
+        yield Case(maker.tag, case.to, case.exercises + BYTES_CHANGED, bytes(content))
+        maker.tag += 1
+
+
+def manifest_of(made: CoveringSet) -> dict[str, Any]:
+    """The set as JSON."""
+    met = made.met
+    return {
+        "srv6": "packets 1",
+        "net": made.net.path,
+        "node": made.node,
+        "seed": made.seed,
+        "packets": [
+            {
+                "packet": case.number, "to": case.to, "exercises": case.exercises, "bytes": case.packet.hex(),
+                "expected": [_expected(doing) for doing in doings],
+            }
+            for case, doings in zip(made.cases, made.doings)
+        ],
+        "met": [{"met": pair.met, "outcome": pair.outcome, "packets": met[pair]} for pair in sorted(met)],
+        "unmet": [{"met": pair.met, "outcome": pair.outcome, "why": why} for pair, why in made.unmet()],
+    }  # fmt: skip
+
+
+def _expected(doing: Doing) -> dict[str, Any]:
+    """What the node does under one choice, as JSON."""
+    said: dict[str, Any] = {"outcome": doing.outcome}
+    if doing.outcome == "sent":
+        said |= {"link": doing.link, "bytes": (doing.content or b"").hex()}
+    if doing.outcome == "dropped":
+        said |= {"reason": doing.reason, "error": doing.content.hex() if doing.content else None}
+    return said | {"pairs": [str(pair) for pair in doing.pairs]}
+
+
+def work(words: argparse.Namespace) -> int:
+    """Writes the capture on `out`, and what isn't shown on `err`."""
+    with progress(TOOL, f"asks srv6 what {words.node} does"):
+        judge_description(words.net)
+        made = covering_set(read_network(words.net), words.node, words.net, words.seed, words.more)
+    if words.manifest:
+        text = json.dumps(manifest_of(made), indent=1) + "\n"
+        try:
+            Path(words.manifest).write_text(text)
+        except OSError as fault:
+            raise Fault(f"{words.manifest}: {fault.strerror or fault}", Status.OUTSIDE_FAULT) from None
+    sys.stdout.buffer.write(made.capture())
+    sys.stdout.flush()
+    unmet = made.unmet()
+    open_ones = [pair for pair, why in unmet if why == NOT_SHOWN]
+    print(f"{TOOL}: {len(made.cases)} packets; {len(made.met)} pairs are met, {len(unmet) - len(open_ones)} can't be,"
+          f" {len(open_ones)} aren't", file=sys.stderr)  # fmt: skip
+    for pair in open_ones:
+        print(f"{TOOL}: not met: {pair}", file=sys.stderr)
+    return Status.DONE
+
+
+def number(text: str) -> int:
+    """A number from 0 on."""
+    return 0 if text == "0" else positive(text)
+
+
+def main(words: Sequence[str] | None = None) -> int:
+    """The command."""
+    parser = Parser(TOOL, DESCRIPTION, MORE.replace("helpers/packets", tool_name(TOOL)))
+    parser.add_argument("net", metavar="NET", help="the description")
+    parser.add_argument("node", metavar="NODE", help="the name of a node")
+    parser.add_argument("--manifest", metavar="FILE", help="write what each packet is for, as JSON")
+    parser.add_argument("--seed", metavar="N", type=number, default=0, help="the seed of --more (0)")
+    parser.add_argument("--more", metavar="N", type=number, default=0, help="further packets, with bytes changed (0)")
+    return run_tool(parser, work, sys.argv[1:] if words is None else words)

@@ -6,8 +6,9 @@ import argparse
 import io
 import sys
 from collections.abc import Iterator, Sequence
-from dataclasses import dataclass
+from dataclasses import dataclass, replace
 
+from .aligning import aligned
 from .capture_formats import CutCapture, NoCapture, TakenFrame, frames_in
 from .captures import FRAME_LIMIT, Sent, sent_in
 from .command import Fault, Parser, Status, progress, run_tool
@@ -21,6 +22,8 @@ from .trace import Stage, Walk, stage_of, trace_of
 
 TOOL = "srv6-diff"
 MOST = 100
+FEW = 2
+"""Where no more frames differ they are those that stand at one place."""
 LINK_LIMIT = 4096
 OUTPUT_LIMIT = 4 * INPUT_LIMIT
 """The bytes of a file; what `srv6` writes is longer than its input."""
@@ -32,8 +35,9 @@ Says where two captures or two traces differ: which field of which header of whi
 right one; with one trace alone it reads the answer of srv6 replay on standard input.
 
 Captures that srv6 wrote are compared packet by packet, of others the IP packets of their frames
-one by one, of each kind of capture that to-raw reads. A is the first file, B the second, or what
-srv6 expects."""
+one by one, of each kind of capture that to-raw reads. Where frames are missing or stand in another
+order they are found again by their bytes, their tag or their payload. A is the first file, B the
+second, or what srv6 expects."""
 
 MORE = """\
 Status 0 says that nothing differs, 4 that something does.
@@ -171,15 +175,41 @@ def facts_of(stage: Stage) -> dict[str, str]:
     return facts
 
 
-def compared(one: dict[Key, Item], other: dict[Key, Item], most: int) -> Iterator[str]:
-    """What differs between two files, in the order of their items."""
+Pair = tuple[Item | None, Item | None]
+
+
+def by_place(one: dict[Key, Item], other: dict[Key, Item]) -> list[Pair]:
+    """The items that differ, in the order of their places, each with that of the same place."""
     keys = sorted(one.keys() | other.keys())
-    unequal = [key for key in keys if _differ(one.get(key), other.get(key))]
-    both = [key for key in unequal[:most] if key in one and key in other]
-    packets = packet_differences([(one[key].packet, other[key].packet) for key in both])
+    return [(one.get(key), other.get(key)) for key in keys if _differ(one.get(key), other.get(key))]
+
+
+def by_content(one: dict[Key, Item], other: dict[Key, Item]) -> list[Pair]:
+    """The items that differ, each with the one that belongs to it by its bytes, its tag or its payload."""
+    items = [[rows[key] for key in sorted(rows)] for rows in (one, other)]
+    found: list[Pair] = []
+    for here, there, moved in aligned(*([item.packet for item in row] for row in items)):
+        left = None if here is None else items[0][here]
+        right = None if there is None else items[1][there]
+        if left and right and moved:
+            left, right = (replace(item, facts=item.facts | {"order": f"as {item.name}"}) for item in (left, right))
+        if _differ(left, right):
+            found.append((left, right))
+    return found
+
+
+def compared(one: dict[Key, Item], other: dict[Key, Item], most: int, is_capture: bool = False) -> Iterator[str]:
+    """What differs between two files; of captures by content where far less differs so."""
+    unequal = by_place(one, other)
+    if is_capture and len(unequal) > FEW:
+        better = by_content(one, other)
+        if better and len(unequal) > 2 * len(better) + FEW:
+            unequal = better
+    both = [place for place, (left, right) in enumerate(unequal[:most]) if left and right]
+    packets = packet_differences([(unequal[place][0].packet, unequal[place][1].packet) for place in both])
     said = dict(zip(both, packets))
-    for key in unequal[:most]:
-        yield from _lines_of(one.get(key), other.get(key), said.get(key, []))
+    for place, (left, right) in enumerate(unequal[:most]):
+        yield from _lines_of(left, right, said.get(place, []))
     if len(unequal) > most:
         yield f"and {len(unequal) - most} more that differ (--most N says how many are shown)"
 
@@ -193,8 +223,8 @@ def _differ(one: Item | None, other: Item | None) -> bool:
 def _lines_of(one: Item | None, other: Item | None, packets: list[str]) -> Iterator[str]:
     if one is None or other is None:
         where, found = ("A", one) if one else ("B", other)
-        facts = ", ".join(f"{name} {text}" for name, text in found.facts.items())
-        yield f"{found.name}: in {where} alone: {facts}, {len(found.packet)} bytes"
+        facts = [f"{name} {text}" for name, text in found.facts.items()]
+        yield f"{found.name}: in {where} alone: {', '.join([*facts, f'{len(found.packet)} bytes'])}"
         return
     yield one.name if one.name == other.name else f"{one.name}, in B {other.name}"
     for name in dict.fromkeys([*one.facts, *other.facts]):
@@ -220,7 +250,7 @@ def differences_of(paths: Sequence[str], names: Names, most: int) -> list[str]:
         one, other = (items_of_trace(content, path) for content, path in zip(contents, paths))
         return list(compared(one, other, most))
     one, other = items_of_captures(contents, paths, names)
-    return list(compared(one, other, most))
+    return list(compared(one, other, most, is_capture=True))
 
 
 def explained(path: str, answer: str) -> list[str]:

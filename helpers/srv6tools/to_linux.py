@@ -10,13 +10,15 @@ from dataclasses import dataclass, field
 from typing import Any
 
 from .command import Fault, Parser, Status, progress, run_tool
-from .description import Link, Network, Node, Policy, Route, Sid, read_network
+from .description import MOST_MTU, Link, Network, Node, Policy, Route, Sid, read_network
 from .linux import (
     KERNEL_HELP, OWN_TABLES, Kernel, interface_name, next_hop_4, next_hop_6, table_number,
     wanted_kernel,
 )  # fmt: skip
 
 TOOL = "to-linux"
+ICMP_MESSAGES = 10_000_000  # a second, so that no error is held back
+LAST_METRIC = 4_278_198_272  # what Linux' documentation of VRF devices gives a route that ends a look-up
 
 DESCRIPTION = """\
 Writes a node of a description as commands that make a network namespace of Linux treat packets as
@@ -53,10 +55,11 @@ class Script:
         front = ["ip", "-n", self.namespace] if self.namespace else ["ip"]
         self.lines.append(shlex.join([*front, *map(str, words)]))
 
-    def sysctl(self, name: str, value: int) -> None:
-        """Adds a setting of the namespace."""
+    def sysctl(self, name: str, value: int | str, if_there: bool = False) -> None:
+        """Adds a setting of the namespace; one that some kernels lack may fail."""
         inside = ["ip", "netns", "exec", self.namespace] if self.namespace else []
-        self.lines.append(shlex.join([*inside, "sysctl", "-qw", f"{name}={value}"]))
+        more = " 2>/dev/null || true" if if_there else ""
+        self.lines.append(shlex.join([*inside, "sysctl", "-qw", f"{name}={value}"]) + more)
 
     def refuse(self, what: str, why: str) -> None:
         """Takes note of what Linux can't do."""
@@ -119,6 +122,9 @@ class Writer:
             script.sysctl("net.ipv4.conf.default.rp_filter", 0)
         script.note("errors without a limit of their rate, and with flow label 0")
         script.sysctl("net.ipv6.icmp.ratelimit", 0)
+        script.sysctl("net.ipv6.icmp.ratemask", "")
+        for name in ("msgs_per_sec", "msgs_burst"):  # of all namespaces in earlier kernels
+            script.sysctl(f"net.ipv4.icmp_{name}", ICMP_MESSAGES, if_there=True)
         script.sysctl("net.ipv6.auto_flowlabels", 0)
         script.ip("link", "set", "dev", "lo", "up")
 
@@ -126,6 +132,8 @@ class Writer:
         name = interface_name(link.name, link.number)
         if tun:
             self.script.ip("tuntap", "add", "dev", name, "mode", "tun")
+        if link.mtu < MOST_MTU:
+            self.script.ip("link", "set", "dev", name, "mtu", link.mtu)
         self.script.ip("link", "set", "dev", name, "up")
         self.script.ip("-6", "route", "add", f"{next_hop_6(link.number)}/128", "dev", name)
         if any(sid.behaviour == "End.DX4" and link.name in (sid.links or ()) for sid in self.sids):
@@ -138,6 +146,9 @@ class Writer:
             self.script.ip("link", "add", f"vrf{table}", "type", "vrf", "table", table)
             self.script.ip("link", "set", "dev", f"vrf{table}", "up")
             self.script.sysctl("net.vrf.strict_mode", 1)
+            for family in ("-6", "-4"):  # else what the table doesn't have is looked up in the main one
+                words = ["unreachable", "default", "table", table, "metric", LAST_METRIC]
+                self.script.ip(family, "route", "add", *words)
 
     def _sources(self) -> None:
         """All headers that Linux puts in front have one source."""

@@ -8,7 +8,8 @@ from pathlib import Path
 from support import EXAMPLES, HELPERS, Ran, ToolCase, bad_captures, bad_tomls, run_here
 
 NET, INTENT, PLAN, WHAT_IF = "net", "intent", "plan", "what-if"
-CAPTURE, SENT, CERT, TRACE = "capture", "sent", "cert", "trace"
+CAPTURE, SENT, CERT, TRACE, PROFILE = "capture", "sent", "cert", "trace", "profile"
+LISTED, RULES = "listed", "rules"
 # The words of each tool, in which the names above stand for files, and what its input is. srv6-say,
 # which gives its own streams to the program, has tests of its own for that.
 CALLS = [
@@ -31,6 +32,9 @@ CALLS = [
     ("view", [NET, CAPTURE, "--at", "B"], None),
     ("view", [NET, INTENT, CAPTURE], None),
     ("view", [NET, WHAT_IF], None),
+    ("from-linux", ["--address", "::1", "--rules", RULES, LISTED], None),
+    ("packets", [NET, "B"], None),
+    ("conform", [NET, "B", "--dut", "pcap:head -c 24", "--most", "0", "--profile", PROFILE], None),
 ]
 CERTIFICATE = """\
 # container fcbb:bb00:2::
@@ -61,6 +65,9 @@ def good_files() -> dict[str, bytes]:
         CERT: CERTIFICATE.encode(),
         TRACE: TRACED.encode(),
         WHAT_IF: TABLE.encode(),
+        LISTED: b'[{"dst": "fc00:0:1::/48", "encap": "seg6local", "action": "End", "dev": "a", "table": "7", "metric": 1}]',
+        RULES: b'[{"priority": 1, "src": "all", "dst": "fc00::", "dstlen": 16, "table": "7"}]',
+        PROFILE: b'name = "quiet"\n[rule]\nerror = "optional"\n',
     }
 
 
@@ -118,7 +125,7 @@ def module_of(tool: str) -> str:
 
 def _add(tool: str, words: list[str], given: str | None) -> None:
     """A test of a call."""
-    name = "test_" + "_".join([tool, *words]).replace("-", "_").replace(":", "").replace("/", "_")
+    name = "test_" + "_".join([tool, *words]).replace("-", "_").replace(":", "").replace("/", "_").replace(" ", "_")
     there = (HELPERS / "srv6tools" / f"{module_of(tool)}.py").exists()
     test = unittest.skipUnless(there, f"{tool} is missing")(
         lambda self: self.answers(tool, words, given)

@@ -20,11 +20,11 @@ def seg6local(**words) -> list[dict]:
 
 
 class FromLinux(ToolCase):
-    def described(self, listed: list | str, *words: str):
+    def described(self, listed: list | str, *words: str | Path, status: int = 0):
         text = listed if isinstance(listed, str) else json.dumps(listed)
         ran = run_here("from-linux", "--address", "2001:db8::1", *words, given=text.encode())
         self.assertNotIn("Traceback", ran.err)
-        self.assertEqual(ran.status, 0, ran.err)
+        self.assertEqual(ran.status, status, ran.err)
         return network_of(tomllib.loads(ran.out), "out"), ran.err
 
     def test_routes_of_a_router(self):
@@ -111,11 +111,52 @@ class FromLinux(ToolCase):
         self.assertEqual(net.sids[0].table, 20)
         net, said = self.described(
             '[{"dst":"fc00::/48","encap":"seg6local","action":"End.T","table":"7","dev":"a",'
-            '"table":"9","metric":1}]'
-        )
+            '"table":"9","metric":1}]', status=3,
+        )  # fmt: skip
         self.assertIn("SIDs of a description are in table 0", said)
         net, said = self.described(seg6local(action="End.X", nh6="fe80::1", oif="west"))
         self.assertEqual(list(net.links), ["west"])
+
+    def test_sids_in_another_table(self):
+        """The lines of rules are those that `ip` 6.1 wrote on Linux 6.18."""
+        rules = [
+            {"priority": 0, "src": "all", "table": "local"},
+            {"priority": 32763, "src": "all", "iif": "lo", "table": "102"},
+            {"priority": 32764, "src": "2001:db8::", "srclen": 32, "dst": "fd00::", "dstlen": 16, "table": "101"},
+            {"priority": 32765, "src": "all", "dst": "fc00::", "dstlen": 16, "table": "100"},
+            {"priority": 32766, "src": "all", "table": "main"},
+            {"priority": 32767, "src": "all", "table": "99"},
+        ]
+        path = self.file("rules", json.dumps(rules))
+        listed = [
+            {"dst": prefix, "encap": "seg6local", "action": "End", "dev": "east", "table": table, "metric": 1}
+            for prefix, table in (("fc00:0:1::/48", "100"), ("fd00:0:1::/48", "100"), ("fd00:0:2::/48", "101"),
+                                  ("fc00:0:3::/48", "102"), ("fc00:0:4::/48", "99"))
+        ]  # fmt: skip
+        net, said = self.described(listed, "--rules", path)
+        self.assertEqual([str(sid.prefix) for sid in net.sids], ["fc00:0:1::/48"])
+        for text in ("asks for more than a destination (iif)", "asks for more than a destination (src, srclen)"):
+            self.assertIn(text, said)
+        net, said = self.described(listed, "--sid-table", "99", "--sid-table", "101")
+        self.assertEqual([str(sid.prefix) for sid in net.sids], ["fd00:0:2::/48", "fc00:0:4::/48"])
+        net, said = self.described(listed, status=3)
+        self.assertEqual(net.sids, [])
+        self.assertTrue(said.endswith("no SID is taken, since all stand in other tables than the main one\n"))
+        listed.append({"dst": "fc00:0:9::/48", "gateway": "fe80::1", "dev": "east", "table": "100", "metric": 1})
+        net, said = self.described(listed, "--rules", path)
+        self.assertEqual(net.routes[0].table, 100)
+        self.assertIn("packets look it up before the main table", said)
+
+    def test_bad_rules(self):
+        for text, said in (("{", "no JSON"), ("[1]", "no list of rules"), ('{"a": 1}', "no list of rules"), ("[" * 5000, "no JSON")):
+            ran = run_here("from-linux", "--address", "::1", "--rules", self.file("rules", text), given=b"[]")
+            self.named_answer(ran, [1])
+            self.assertIn(said, ran.err)
+        bad = [{"priority": 1, "src": "all", "dst": "x", "table": "7"}, {"priority": "p", "table": "7"}, {"table": "seven"}]
+        ran = run_here("from-linux", "--address", "::1", "--rules", self.file("rules", json.dumps(bad)), given=b"[]")
+        self.assertEqual((ran.status, len(ran.err.splitlines())), (0, 3), ran.err)
+        self.named_answer(run_here("from-linux", "--sid-table", "x", given=b"[]"), [2])
+        self.named_answer(run_here("from-linux", "--address", "::1", "--rules", self.folder, given=b"[]"), [5])
 
     def test_bad_input(self):
         self.helps("from-linux")

@@ -6,7 +6,7 @@ import unittest
 from capture_files import ARP, classic, ethernet
 from srv6tools.captures import raw_capture
 from srv6tools.differences import packet_differences
-from srv6tools.packets import (
+from srv6tools.packet_parts import (
     DESTINATION, FRAGMENT, HOP_BY_HOP, ICMPV6, IPV4, IPV6, ROUTING, UDP,
     fragment, icmp6, ip4, ip6, options, srh, udp,
 )  # fmt: skip
@@ -140,6 +140,42 @@ class Captures(ToolCase):
         ])  # fmt: skip
         ran = run_here("srv6-diff", one, other, "--most", "1")
         self.assertIn("and 1 more that differ", ran.out)
+
+    def test_a_frame_is_missing(self):
+        packets = [ip6("::1", flow=number, payload=number.to_bytes(8), kind=59) for number in range(1, 20_001)]
+        one = self.file("one.pcap", classic(229, *packets))
+        other = self.file("other.pcap", classic(229, *packets[:7], *packets[8:]))
+        ran = run_here("srv6-diff", one, other)
+        self.assertEqual((ran.status, ran.out.splitlines()), (4, ["frame 8: in A alone: 48 bytes"]))
+        ran = run_here("srv6-diff", other, one)
+        self.assertEqual((ran.status, ran.out.splitlines()), (4, ["frame 8: in B alone: 48 bytes"]))
+
+    def test_a_frame_is_missing_and_others_are_changed(self):
+        packets = [ip6("::1", flow=number) for number in range(1, 101)]
+        changed = [*packets[:10], *packets[11:50], ip6("::1", flow=51, hop_limit=9), *packets[51:90], *packets[91:], packets[90]]
+        ran = run_here("srv6-diff", self.file("one.pcap", classic(229, *packets)), self.file("other.pcap", classic(229, *changed)))
+        self.assertEqual((ran.status, ran.out.splitlines()), (4, [
+            "frame 11: in A alone: 40 bytes",
+            "frame 51, in B frame 50",
+            "  IPv6 header: hop limit 64 in A, 9 in B",
+            "frame 91, in B frame 99",
+            "  order as frame 91 in A, as frame 99 in B",
+        ]))  # fmt: skip
+
+    def test_a_packet_of_the_program_is_missing(self):
+        content = (EXAMPLES / "behaviours.pcap").read_bytes()
+        outs = []
+        for given in (content, content[:24] + content[24 + 16 + int.from_bytes(content[32:36], "little") :]):
+            outs.append(self.file(f"{len(outs)}.pcap", run_program(["run", BEHAVIOURS, "N"], given).out))
+        ran = run_here("srv6-diff", *outs)
+        lines = ran.out.splitlines()
+        self.assertEqual((ran.status, len(lines)), (4, 1), ran.out)
+        self.assertIn("packet 1, send 1 (frame 1): in A alone", lines[0])
+
+    def test_equal_frames_without_a_tag(self):
+        packets = [ip6("::1")] * 2000
+        ran = run_here("srv6-diff", self.file("one.pcap", classic(229, *packets)), self.file("other.pcap", classic(229, *packets[1:])))
+        self.assertEqual(ran.out.splitlines(), ["frame 2000: in A alone: 40 bytes"])
 
     def test_others_by_frames(self):
         ran = run_here("srv6-diff", EXAMPLES / "inner.pcap", EXAMPLES / "behaviours.pcap")
