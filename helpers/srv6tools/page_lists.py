@@ -16,7 +16,7 @@ from .description import Network, Sid, read_network
 from .intent import Intent, read_intent
 from .legs import Leg, Rooms
 from .loose import legs_of
-from .packets import ip4, ip6
+from .packet_parts import ip4, ip6
 from .program import Answer, run_program
 from .report import Certificate, Report, certificate_in, report_of
 

@@ -10,7 +10,7 @@ import unittest
 from browser import Browser, needs_browser
 from srv6tools.captures import raw_capture
 from srv6tools.description import read_network
-from srv6tools.packets import ip6
+from srv6tools.packet_parts import ip6
 from srv6tools.program import run_program
 from srv6tools.routes import fill
 from srv6tools.trace import trace_of
