@@ -1,0 +1,5 @@
+pub mod Asks
+pub mod Ends
+pub mod Feeding
+pub mod Steps
+pub mod Talking

@@ -1,0 +1,7 @@
+pub mod Lines
+pub mod Replies
+pub mod Talk
+pub mod Talked
+pub mod TalkTerms
+pub mod MemTalk
+pub mod MemAsks
