@@ -1,4 +1,4 @@
--- The lines of an input: own rule.
+-- The lines of an input.
 use Rattle.std.specs.Prelude.{ℕ, List, [], ◌∷◌, ◌++◌, ◌==◌, if◌then◌else◌}
 
 -- the byte behind each line
