@@ -177,15 +177,20 @@ def table_data(pages: Pages, table: WhatIf) -> dict[str, Any]:
 
 
 def _cell_data(pages: Pages, cell: Cell, label: str) -> dict[str, Any]:
-    data: dict[str, Any] = {
-        "state": cell.state, "answer": cell.answer, "containers": cell.containers,
-        "need": cell.need, "end": None, "arrives": None, "walk": -1,
+    return {
+        "state": cell.state, "answer": cell.answer, "containers": cell.containers, "need": cell.need,
+        "at_once": _traffic_data(pages, cell.at_once, f"{label}, at first"),
+        "traffic": _traffic_data(pages, cell.traffic, label),
     }  # fmt: skip
-    if traffic := cell.traffic:
-        data |= {"end": traffic.end, "arrives": traffic.arrives}
-        if entered := _entered(traffic):
-            enter_group(pages, Group(label, [entered], []))
-            data["walk"] = len(pages.walks) - 1
+
+
+def _traffic_data(pages: Pages, traffic: Traffic | None, label: str) -> dict[str, Any] | None:
+    if traffic is None:
+        return None
+    data = {"end": traffic.end, "arrives": traffic.arrives, "walk": -1}
+    if entered := _entered(traffic):
+        enter_group(pages, Group(label, [entered], []))
+        data["walk"] = len(pages.walks) - 1
     return data
 
 

@@ -20,7 +20,7 @@ STATES = {
 
 @dataclass(frozen=True, slots=True)
 class Traffic:
-    """A packet with the list from before, in the network with the failure: as it came to the
+    """A packet with the list from before, in a network with the failure: as it came to the
     headend, the link on which it was sent, its walk from there where it is told, how it ends, and
     whether it ends as without the failure.
     """
@@ -41,7 +41,8 @@ class Cell:
     answer: str  # the program's line
     containers: int | None
     need: int | None
-    traffic: Traffic | None
+    at_once: Traffic | None  # before routes are found anew: next hops that are gone are left out
+    traffic: Traffic | None  # once they are
 
 
 @dataclass(frozen=True, slots=True)
@@ -149,13 +150,16 @@ def _cell(reader: _Reader, cell: dict[str, Any], where: str) -> Cell:
         reader.text(cell.get("answer"), where),
         reader.count(cell.get("containers"), where),
         reader.count(cell.get("need"), where),
-        _traffic(reader, cell["traffic"], where) if cell.get("traffic") is not None else None,
+        _traffic(reader, cell.get("at_once"), "at_once", where),
+        _traffic(reader, cell.get("traffic"), "traffic", where),
     )
 
 
-def _traffic(reader: _Reader, row: Any, where: str) -> Traffic:
+def _traffic(reader: _Reader, row: Any, key: str, where: str) -> Traffic | None:
+    if row is None:
+        return None
     if not isinstance(row, dict):
-        raise reader.fault(where, "`traffic` is no object")
+        raise reader.fault(where, f"`{key}` is no object")
     headend, end = reader.node(row.get("headend"), where), reader.text(row.get("end"), where)
     try:
         inner = bytes.fromhex(reader.text(row.get("inner"), where))

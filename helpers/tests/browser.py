@@ -47,6 +47,7 @@ class Browser:
     def __init__(self, width: int = 1280, height: int = 860, dark: bool = False):
         browser, driver = _found() or ("", "")
         self._folder = tempfile.TemporaryDirectory()
+        self._is_measured = False
         self._log = Path(self._folder.name, "log")
         self._driver = subprocess.Popen(
             [driver, "--port=0"], stdout=self._log.open("wb"), stderr=subprocess.STDOUT
@@ -148,7 +149,8 @@ class Browser:
         self._ask("POST", "/actions", {"actions": [{"type": "key", "id": "keys", "actions": acts}]})
 
     def point(self, selector: str) -> None:
-        """Moves the pointer onto an element."""
+        """Moves the pointer onto an element, once that is seen."""
+        self.run("document.querySelector(arguments[0]).scrollIntoView({ block: 'center' })", selector)
         place = {ELEMENT: self._element(selector)}
         move = {"type": "pointerMove", "duration": 0, "origin": place, "x": 0, "y": 0}
         acts = [{"type": "pointer", "id": "mouse", "actions": [move]}]
@@ -164,6 +166,21 @@ class Browser:
             {"type": "pointerUp", "button": 0},
         ]
         self._ask("POST", "/actions", {"actions": [{"type": "pointer", "id": "mouse", "actions": acts}]})
+
+    def busy(self, script: str) -> float:
+        """The milliseconds that the page's thread works on a script, on what it draws then too; time in which the processor does
+        other work isn't counted.
+        """
+        if not self._is_measured:
+            self._command("Performance.enable", timeDomain="threadTicks")
+            self._is_measured = True
+        before = self._worked()
+        self.run(f"{script}; document.body.getBoundingClientRect()")
+        return (self._worked() - before) * 1000
+
+    def _worked(self) -> float:
+        rows = self._command("Performance.getMetrics")["metrics"]
+        return next(row["value"] for row in rows if row["name"] == "TaskDuration")
 
     def settle(self) -> None:
         """Waits until the map has its sizes."""

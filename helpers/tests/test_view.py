@@ -224,16 +224,36 @@ class View(ToolCase):
             for cell, one in zip(row["cells"], wanted, strict=True):
                 cells += 1
                 self.assertEqual((cell["state"], cell["answer"]), (one["state"], one["answer"]))
-                self.assertEqual(cell["end"], one["traffic"]["end"])
-                if one["traffic"]["trace"]:
-                    lines = one["traffic"]["trace"].splitlines()
-                    walk = data["walks"][cell["walk"]]
-                    self.assertEqual(len(walk["stages"]), len(lines) - 2)
+                for key in ("at_once", "traffic"):
+                    self.assertEqual(cell[key]["end"], one[key]["end"])
+                    self.assertEqual(cell[key]["arrives"], one[key]["arrives"])
+                    if one[key]["trace"]:
+                        lines = one[key]["trace"].splitlines()
+                        walk = data["walks"][cell[key]["walk"]]
+                        self.assertEqual(len(walk["stages"]), len(lines) - 2)
         self.assertEqual(cells, 84)
+
+    def test_what_if_without_traffic(self):
+        """What may be absent may be: a cell without packets, and one with packets at one time alone."""
+        table = json.loads((DOMAIN / "what-if.json").read_text())
+        first, second, *others = table["cells"][0]
+        for cell in (first, *others):
+            del cell["at_once"]
+        for cell in (second, *others):
+            cell["traffic"] = None
+        small = table | {"failures": table["failures"][:1], "cells": table["cells"][:1]}
+        cells = data_of(self.page(DOMAIN / "net.toml", self.file("small.json", json.dumps(small))))
+        shown = cells["tables"][0]["failures"][0]["cells"]
+        there = [(cell["at_once"] is not None, cell["traffic"] is not None) for cell in shown]
+        self.assertEqual(there, [(False, True), (True, False), (False, False), (False, False)])
+        small["cells"][0][0]["traffic"] = []
+        ran = run_here("view", DOMAIN / "net.toml", self.file("wrong.json", json.dumps(small)))
+        self.assertIn("failure 1, intent 1: `traffic` is no object", ran.err)
 
     def test_what_if_example_is_what_its_script_writes(self):
         done = subprocess.run([DOMAIN / "what-if"], capture_output=True, text=True)
-        self.assertEqual((done.returncode, done.stderr), (0, ""))
+        said = [line for line in done.stderr.splitlines() if not line.endswith(" ..")]  # progress where there is other work
+        self.assertEqual((done.returncode, said), (0, []))
         self.assertEqual(done.stdout, (DOMAIN / "what-if.json").read_text())
 
     def test_refusals_are_one_line(self):

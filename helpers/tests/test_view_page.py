@@ -8,63 +8,22 @@ import time
 import unittest
 
 from browser import Browser, needs_browser
-from srv6tools.captures import raw_capture
+from page_case import PageCase
 from srv6tools.description import read_network
-from srv6tools.packet_parts import ip6
 from srv6tools.program import run_program
-from srv6tools.routes import fill
 from srv6tools.trace import trace_of
-from support import EXAMPLES, ToolCase, needs_program, run_here, run_tool
+from support import EXAMPLES, needs_program, run_here, run_tool
 
 M2, DOMAIN = EXAMPLES / "m2.toml", EXAMPLES / "domain"
 NET = DOMAIN / "net.toml"
-BYTES = 10 * 2**20  # of the largest page
-LOADED, REACTS = 2_000, 100  # milliseconds, at most
-NODES, PACKETS = 250, 1_000
 SHOWN_BYTES = (
     "const box = [...document.querySelectorAll('.packet')].at(-1);"
     "return [...box.querySelectorAll('.byte')].map((one) => one.textContent).join('')"
 )
-REACTED = """
-const took = [];
-for (const [run, times] of [[() => step(1), 8], [() => nextPacket(1), 30], [() => zoom(0.8), 6],
-    [() => { document.getElementById("search").value = "n1"; showFound(); }, 3],
-    [() => showNode(7), 3], [() => setBox(MAP.whole), 1]]) {
-  for (let turn = 0; turn < times; turn += 1) {
-    const start = performance.now();
-    run();
-    document.body.getBoundingClientRect();
-    took.push(performance.now() - start);
-  }
-}
-return Math.max(...took);
-"""
-
 
 @needs_program
 @needs_browser
-class Page(ToolCase):
-    maxDiff = None
-
-    @classmethod
-    def setUpClass(cls) -> None:
-        super().setUpClass()
-        cls.browser = Browser()
-        cls.addClassCleanup(cls.browser.close)
-
-    def opened(self, *words) -> Browser:
-        """The page that the tool writes, opened."""
-        ran = run_tool("view", *words)
-        self.assertEqual((ran.status, ran.err), (0, ""))
-        self.browser.open(self.file("page.html", ran.raw))
-        return self.browser
-
-    def is_quiet(self) -> None:
-        """The console has no error, and nothing was asked for from elsewhere."""
-        self.assertEqual(self.browser.console(), [])
-        asked = "return performance.getEntriesByType('resource').map((one) => one.name)"
-        self.assertEqual(self.browser.run(asked), [])
-
+class Page(PageCase):
     def test_network(self):
         page = self.opened("--plan", DOMAIN / "plan.toml", NET)
         self.assertEqual(len(page.texts(".node")), 14)
@@ -242,31 +201,43 @@ class Page(ToolCase):
         table = json.loads((DOMAIN / "what-if.json").read_text())
         page = self.opened(NET, DOMAIN / "what-if.json")
         self.assertEqual(len(page.texts(".cell")), 84)
-        lost = 0
+        lost = {"at_once": 0, "traffic": 0}
         for row, cells in enumerate(table["cells"]):
             for column, cell in enumerate(cells):
-                if not cell["traffic"]["arrives"]:
-                    lost += 1
-                    page.click(f"#cell0-{row}-{column}")
+                breaks = [key for key in lost if not cell[key]["arrives"]]
+                if breaks:
+                    page.run(f"document.getElementById('cell0-{row}-{column}').click()")
                     self.assertIn(cell["answer"], page.text("#cellsaid"))
-                    self.assertEqual(page.text("#walkend")[2:], cell["traffic"]["end"])
-                    self.assertIn(cell["traffic"]["end"].split()[1], page.text("#decision"))
-                    broken = page.run(
-                        "return [...document.querySelectorAll('.link.broken')].map("
-                        "(one) => NET.links[one.dataset.link].name)"
-                    )
-                    self.assertEqual(broken, table["failures"][row]["links"])
-        self.assertEqual(lost, 3)
+                    self.breaks_as(cell[breaks[0]]["end"], table["failures"][row]["links"])
+                for key in breaks:
+                    lost[key] += 1
+        self.assertEqual(lost, {"at_once": 18, "traffic": 3})
+        self.assertEqual(page.text("#cell0-0-1"), "= 1/7\u00d7 at first")
+        page.click("#cell0-6-2")
+        self.assertEqual(page.texts(".when"), ["\u00d7 at first", "\u00d7 later"])
+        page.click(".when:last-child")
+        self.breaks_as(table["cells"][6][2]["traffic"]["end"], ["p1-p3-2", "p3-p1-2"])
         kept = page.text("#cell0-1-0")
         self.assertEqual(kept, "= 1/6arrives")
-        page.run("document.getElementById('detail').scrollTop = 0")
+        page.run("document.querySelector('.heatbox').scrollTop = 0")
         page.click("#cell0-1-0")
         self.assertEqual(len(page.texts(".link.broken")), 2)
         self.is_quiet()
 
+    def breaks_as(self, end: str, links: list[str]) -> None:
+        """The walk that is open ends so, and these links are marked as broken."""
+        page = self.browser
+        self.assertEqual(page.text("#walkend")[2:], end)
+        self.assertIn(end.split()[1], page.text("#decision"))
+        marked = (
+            "return [...document.querySelectorAll('.link.broken')].map("
+            "(one) => NET.links[one.dataset.link].name)"
+        )
+        self.assertEqual(page.run(marked), links)
+
     def test_views_by_keys(self):
         page = self.opened(NET, DOMAIN / "red.toml", DOMAIN / "customers.pcap", DOMAIN / "what-if.json")
-        selected = "return document.querySelector('[aria-selected=true]').dataset.view"
+        selected = "return document.querySelector('[aria-current=page]').dataset.view"
         for key, name in (("1", "network"), ("2", "packets"), ("3", "lists"), ("4", "whatif")):
             page.press(key)
             self.assertEqual(page.run(selected), name)
@@ -299,49 +270,6 @@ class Page(ToolCase):
         self.assertGreater(dark.run(seen), 100)
         self.assertTrue(dark.printed().startswith(b"%PDF-"))
         self.assertEqual(dark.console(), [])
-
-    def test_250_nodes_and_1000_packets(self):
-        net, capture = self.large()
-        ran = run_tool("view", net, capture, "--at", "n0", "--no-fans")
-        self.assertEqual((ran.status, ran.err.replace("view: asking srv6 ..\n", "")), (0, ""))
-        self.assertLess(len(ran.raw), BYTES)
-        path = self.file("large.html", ran.raw)
-        loads = []
-        for _ in range(3):
-            self.browser.open(path)
-            loads.append(
-                self.browser.run("return performance.timing.loadEventEnd - performance.timing.navigationStart")
-            )
-        self.assertLessEqual(min(loads), LOADED)
-        self.assertEqual(len(self.browser.texts(".node")), NODES)
-        self.assertEqual(len(self.browser.texts(".rows li")), PACKETS)
-        self.assertLessEqual(self.browser.run(REACTED), REACTS)
-        self.is_quiet()
-
-    def large(self):
-        """A grid of 250 nodes with NEXT-CSIDs, and 1,000 packets with a container of two of them."""
-        wide = 25
-        nodes = [f'{{ name = "n{i}", address = "2001:db8::{i + 1:x}" }}' for i in range(NODES)]
-        sids = [
-            f'{{ node = "n{i}", prefix = "fcbb:bb00:{i + 1:x}::/48", behaviour = "End", csid = "next" }}'
-            for i in range(NODES)
-        ]
-        block = '{ prefix = "fcbb:bb00::/32", kind = "next", csid = 16 }'
-        base = f"block = [{block}]\nnode = [{', '.join(nodes)}]\nsid = [{', '.join(sids)}]\n"
-        cables = [(i, i + 1) for i in range(NODES) if i % wide < wide - 1]
-        cables += [(i, i + wide) for i in range(NODES - wide)]
-        rows = [
-            f'{{ nodes = ["n{a}", "n{b}"], links = ["{at}a", "{at}b"] }}'
-            for at, (a, b) in enumerate(cables)
-        ]
-        plan = self.file("plan.toml", f"cable = [{', '.join(rows)}]\n")
-        net = self.file("net.toml", fill(self.file("base.toml", base), plan, compact=True).text)
-        frames = []
-        for number in range(PACKETS):
-            one, other = (number * 37) % 249 + 1, (number * 91 + 5) % 249 + 1
-            target = f"fcbb:bb00:{one + 1:x}:{other + 1:x}::"
-            frames.append((0, 0, ip6(target, source=f"2001:db8:1::{number + 1:x}")))
-        return net, self.file("large.pcap", b"".join(raw_capture(frames)))
 
 
 if __name__ == "__main__":

@@ -3,7 +3,7 @@
 
 const DATA = JSON.parse(document.getElementById("data").textContent);
 const NET = DATA.net;
-const KIND = { view: "network", walk: -1, stage: 0, playing: 0, fan: false };
+const KIND = { view: "network", walk: -1, stage: 0, playing: 0, fan: false, allStages: false };
 
 function words(number) {
   return DATA.texts[number];
@@ -35,7 +35,12 @@ function fill(element, attributes, children) {
 }
 
 function button(label, on, attributes) {
-  return make("button", { type: "button", on, ...attributes }, label);
+  return make("button", { type: "button", on, ...attributes }, ...[label].flat());
+}
+
+// A text whose parts between backticks are words of files.
+function withCode(text) {
+  return text.split("`").map((part, place) => (place % 2 ? make("code", {}, part) : part));
 }
 
 // Says something to those who listen to the page.

@@ -57,8 +57,7 @@ function listBox(list) {
   const isGood = list.containers.length > 0 && !list.refusal;
   box.append(make("p", { class: isGood ? "verdict" : "verdict no" }, make("code", { class: "check" }, list.check), " ", list.verdict,
     list.refusal ? make("span", { class: "bad" }, ` ${list.refusal}.`) : null));
-  box.append(make("p", {}, `From ${NET.nodes[list.headend] ? NET.nodes[list.headend].name : "?"}, ${list.inner} inside, ${list.mode} header: ${list.header} bytes in front, the hop limit ${list.hop_limit} is lowered ${count(list.need, "time")}.`),
-    make("ol", { class: "soft" }, ...list.steps.map((one) => make("li", {}, one))));
+  box.append(make("p", {}, `From ${NET.nodes[list.headend] ? NET.nodes[list.headend].name : "?"}, ${list.inner} inside, ${list.mode} header: ${list.header} bytes in front, the hop limit ${list.hop_limit} is lowered ${count(list.need, "time")}.`));
   list.containers.forEach((container, at) => {
     const bar = make("div", { class: "bar", role: "img", "aria-label": `container ${at + 1}: ${container.address}` });
     for (const [from, bits, what, sid, digits] of container.bits) {
@@ -74,6 +73,8 @@ function listBox(list) {
     }
     box.append(make("div", {}, make("code", { class: "address" }, container.address), bar));
   });
+  box.append(make("p", { class: "soft" }, "Steps of the intent:"),
+    make("ol", { class: "steps soft" }, ...list.steps.map((one) => make("li", {}, one))));
   if (list.sids.length) {
     box.append(sidTable(list));
   }

@@ -14,7 +14,10 @@ function showView(name) {
   KIND.view = name;
   KIND.broken = null;
   for (const tab of byId("tabs").children) {
-    tab.setAttribute("aria-selected", String(tab.dataset.view === name));
+    tab.toggleAttribute("aria-current", tab.dataset.view === name);
+    if (tab.dataset.view === name) {
+      tab.setAttribute("aria-current", "page");
+    }
   }
   clearMap();
   byId("detail").replaceChildren();
@@ -184,13 +187,14 @@ function begin() {
   byId("title").textContent = DATA.title;
   for (const [name, label, , isThere] of VIEWS) {
     if (isThere) {
-      byId("tabs").append(button(label, () => showView(name), { role: "tab", "data-view": name, id: `tab-${name}` }));
+      byId("tabs").append(button(label, () => showView(name), { "data-view": name, id: `tab-${name}` }));
     }
   }
   drawMap();
   listenToMap();
   listenToSearch();
   listenToKeys();
+  listenToPrint();
   byId("theme").addEventListener("click", turnTheme);
   byId("help").addEventListener("click", () => byId("keys").showModal());
   const first = ["whatif", "packets", "lists", "network"].find((name) => VIEWS.find((view) => view[0] === name)[3]);

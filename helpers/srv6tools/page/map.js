@@ -32,9 +32,8 @@ function shapeOf(link, turn) {
   const at = (share) => [ // a point of the curve, from 0 to 1
     (1 - share) ** 2 * ax + 2 * share * (1 - share) * mx + share ** 2 * bx,
     (1 - share) ** 2 * ay + 2 * share * (1 - share) * my + share ** 2 * by];
-  const [labelX, labelY] = at(link.to < 0 ? 0.5 : 0.64);
   const [stepX, stepY] = at(0.36);
-  return { d: `M${ax.toFixed(1)} ${ay.toFixed(1)}Q${mx.toFixed(1)} ${my.toFixed(1)} ${bx.toFixed(1)} ${by.toFixed(1)}`, labelX, labelY, stepX, stepY };
+  return { d: `M${ax.toFixed(1)} ${ay.toFixed(1)}Q${mx.toFixed(1)} ${my.toFixed(1)} ${bx.toFixed(1)} ${by.toFixed(1)}`, at, stepX, stepY };
 }
 
 function linkWords(link) {
@@ -65,7 +64,7 @@ function drawMap() {
       link.to < 0 ? draw("circle", { class: "end", cx: link.end[0], cy: link.end[1], r: 3.5 }) : null,
       draw("title", {}, linkWords(link)));
     group.addEventListener("click", () => showLink(number));
-    const label = draw("text", {}, linkLabel(link));
+    const label = draw("text", { dy: ".35em" }, linkLabel(link));
     labels.append(label);
     MAP.links.push({ group, shape, turn, label });
     links.append(group);
@@ -83,8 +82,9 @@ function drawMap() {
     draw("title", {}, `${node.name} ${node.address}${sids}`));
     group.addEventListener("click", () => showNode(number));
     group.addEventListener("keydown", (event) => {
-      if (event.key === "Enter") {
+      if (event.key === "Enter" || event.key === " ") {
         showNode(number);
+        event.preventDefault();
       }
     });
     MAP.nodes.push(group);
@@ -92,10 +92,9 @@ function drawMap() {
   });
   MAP.over = draw("g", { "aria-hidden": "true" });
   MAP.labels = labels;
-  MAP.tips = [["tip", "--link", 8], ["walktip", "--walk", 12], ["nowtip", "--now", 15]].map(([name, colour, size]) =>
-    [tip(name, colour), size]);
-  MAP.svg.append(draw("defs", {}, ...MAP.tips.map(([one]) => one)), links, labels, MAP.over, nodes);
-  placeLabels();
+  const tips = [["tip", "--link", 8], ["walktip", "--walk", 12], ["nowtip", "--now", 15], ["fantip", "--walk", 17]];
+  MAP.tips = tips.map(([name, colour, size]) => [tip(name, colour), size]);
+  MAP.svg.append(draw("defs", {}, ...MAP.tips.map(([one]) => one)), links, MAP.over, labels, nodes);
   MAP.whole = wholeBox();
   setBox(MAP.whole);
 }
@@ -116,7 +115,6 @@ function resize(size) {
     one.shape = shapeOf(link, one.turn);
     place(one.group, one.shape);
   });
-  placeLabels();
   for (const group of MAP.over.querySelectorAll("[data-link]")) {
     place(group, MAP.links[Number(group.dataset.link)].shape);
   }
@@ -132,12 +130,51 @@ function place(group, shape) {
   }
 }
 
-function placeLabels() {
-  NET.links.forEach((link, number) => {
-    const { label, shape } = MAP.links[number];
-    label.setAttribute("x", shape.labelX);
-    label.setAttribute("y", shape.labelY + (link.to < 0 ? 12 : 0));
-  });
+const LABEL_AT = [0.64, 0.54, 0.74, 0.46, 0.84]; // where a label may stand on its link, from 0 to 1
+
+// Gives each label in sight a place where it covers nothing, at a number of pixels for a unit of the map; one that has none is not
+// shown until the map is closer.
+function placeLabels(scale) {
+  const taken = new Map(); // boxes by squares of the map
+  const side = 90 / scale;
+  const squares = ([x, y, wide, high], each) => {
+    for (let column = Math.floor((x - wide) / side); column <= Math.floor((x + wide) / side); column += 1) {
+      for (let row = Math.floor((y - high) / side); row <= Math.floor((y + high) / side); row += 1) {
+        each(`${column} ${row}`);
+      }
+    }
+  };
+  const take = (box) => squares(box, (key) => taken.set(key, [...(taken.get(key) || []), box]));
+  const isFree = ([x, y, wide, high]) => {
+    let free = true;
+    squares([x, y, wide, high], (key) => {
+      free = free && !(taken.get(key) || []).some((box) =>
+        Math.abs(box[0] - x) < box[2] + wide && Math.abs(box[1] - y) < box[3] + high);
+    });
+    return free;
+  };
+  const [left, top, across, down] = MAP.box;
+  const isSeen = (...ends) => ends.some(([x, y]) => x > left - across / 2 && x < left + 1.5 * across && y > top - down && y < top + 2 * down);
+  NET.nodes.forEach((node) => take([node.x, node.y, halfWidth(node.name) * MAP.size, HALF * MAP.size]));
+  for (const group of MAP.over.querySelectorAll("[data-link]")) {
+    const { shape } = MAP.links[Number(group.dataset.link)];
+    take([shape.stepX, shape.stepY, 8 / scale, 7 / scale]);
+  }
+  for (const mark of MAP.over.querySelectorAll(".mark text")) {
+    take([Number(mark.getAttribute("x")), Number(mark.getAttribute("y")), 45 / scale, 8 / scale]);
+  }
+  for (const { label, shape } of MAP.links) {
+    const wide = (label.textContent.length * 2.8 + 2) / scale;
+    const [[ax, ay], [bx, by]] = [shape.at(0), shape.at(1)];
+    const hidden = Math.min(2 * wide / (Math.abs(bx - ax) || 1e-9), 12 / scale / (Math.abs(by - ay) || 1e-9)); // of the line
+    const spot = hidden < 0.7 && isSeen([ax, ay], [bx, by]) && LABEL_AT.map((share) => [...shape.at(share), wide, 6 / scale]).find(isFree);
+    label.style.display = spot ? "" : "none";
+    if (spot) {
+      take(spot);
+      label.setAttribute("x", spot[0]);
+      label.setAttribute("y", spot[1]);
+    }
+  }
 }
 
 // The box around all, with some room.
@@ -183,7 +220,19 @@ function scaleParts() {
     resize(size);
   }
   MAP.svg.classList.toggle("far", unit < 44);
-  MAP.svg.classList.toggle("near", unit > 145);
+  MAP.svg.classList.toggle("near", unit > 100);
+  MAP.scale = scale;
+  dressOver();
+}
+
+// What goes by the map's scale in what is drawn over it, and labels that make room for it.
+function dressOver() {
+  for (const path of MAP.over.querySelectorAll(".fan path")) {
+    path.style.strokeDasharray = `${Math.max(1, path.getTotalLength() * MAP.scale - 8)} 9999`; // its arrow goes on from there
+  }
+  if (MAP.svg.classList.contains("near")) {
+    placeLabels(MAP.scale);
+  }
 }
 
 const LINK_LENGTH = (() => {
@@ -238,7 +287,7 @@ function listenToMap() {
     from = [event.clientX, event.clientY];
   });
   window.addEventListener("pointerup", () => { from = null; });
-  window.addEventListener("resize", () => setBox(MAP.box));
+  new ResizeObserver(() => setBox(MAP.box)).observe(MAP.svg);
   byId("zoomin").addEventListener("click", () => zoom(0.8));
   byId("zoomout").addEventListener("click", () => zoom(1.25));
   byId("whole").addEventListener("click", () => setBox(MAP.whole));
@@ -265,6 +314,7 @@ function markLinks(numbers, how) {
         draw("text", { x: shape.stepX, y: shape.stepY, dy: ".35em" }, "\u2715")));
     }
   }
+  dressOver();
 }
 
 // Draws a walk up to a stage: what was sent before, what is sent now, and what comes later.
@@ -294,13 +344,38 @@ function drawWalk(walk, now) {
   }
   const stage = walk.stages[now];
   if (stage) {
-    const node = NET.nodes[stage[0]];
     MAP.nodes[stage[0]].classList.add("on");
     if (words(stage[1]) === "drop" || words(stage[1]) === "local") {
-      MAP.over.append(draw("g", { class: "mark" },
-        draw("text", { x: node.x, y: node.y - HALF * MAP.size - 5 }, words(stage[1]) === "drop" ? "\u00d7 dropped" : "\u25cf delivered")));
+      const [x, y] = freePlace(stage[0]);
+      MAP.over.append(draw("g", { class: "mark" }, draw("text", { x, y, dy: ".35em" },
+        words(stage[1]) === "drop" ? "\u00d7 dropped" : "\u25cf delivered")));
     }
   }
+  dressOver();
+}
+
+// Where a mark at a node covers least of links, numbers and other nodes: above, below, at its left or at its right.
+function freePlace(number) {
+  const node = NET.nodes[number];
+  const [wide, high] = [45 / MAP.scale, 9 / MAP.scale]; // half of the mark
+  const points = [...MAP.over.querySelectorAll("[data-link]")].map((group) => MAP.links[Number(group.dataset.link)].shape)
+    .flatMap((shape) => Array(8).fill([shape.stepX, shape.stepY])); // a number counts more than a line
+  for (const { name, x, y } of NET.nodes) {
+    if (name !== node.name) { // and so does a node
+      const across = halfWidth(name) * MAP.size;
+      points.push(...[-across, 0, across].flatMap((dx) => [-HALF, 0, HALF].flatMap((dy) => Array(8).fill([x + dx, y + dy * MAP.size]))));
+    }
+  }
+  NET.links.forEach((link, place) => {
+    if (link.from === number || link.to === number) {
+      points.push(...[0.1, 0.2, 0.3, 0.4].map((share) => MAP.links[place].shape.at(link.from === number ? share : 1 - share)));
+    }
+  });
+  const up = HALF * MAP.size + high + 3 / MAP.scale;
+  const out = halfWidth(node.name) * MAP.size + wide;
+  const covered = ([x, y]) => points.filter(([px, py]) => Math.abs(px - x) < wide && Math.abs(py - y) < high).length;
+  const places = [[node.x, node.y - up], [node.x, node.y + up], [node.x - out, node.y], [node.x + out, node.y]];
+  return places.reduce((best, one) => (covered(one) < covered(best) ? one : best));
 }
 
 // Draws all walks of a packet, as wide as many of them go over a link.
@@ -308,14 +383,15 @@ function drawFan(fan) {
   const all = Number(fan.walks);
   for (const [link, share] of fan.links) {
     const { shape } = MAP.links[link];
-    const wide = 2 + 7 * (Number(share) / all);
+    const wide = 2 + 5 * (Number(share) / all);
     MAP.over.append(draw("g", { class: "fan", "data-link": link },
-      draw("path", { d: shape.d, style: `stroke-width:${wide.toFixed(1)}px`, "marker-end": "url(#walktip)" }),
+      draw("path", { d: shape.d, style: `stroke-width:${wide.toFixed(1)}px`, "marker-end": "url(#fantip)" }),
       draw("text", { x: shape.stepX, y: shape.stepY, dy: ".35em" }, share)));
     MAP.nodes[NET.links[link].from].classList.add("met");
     if (NET.links[link].to >= 0) {
       MAP.nodes[NET.links[link].to].classList.add("met");
     }
   }
+  dressOver();
   byId("legend").textContent = "Numbers at links: how many of the walks go over it";
 }

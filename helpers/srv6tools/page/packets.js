@@ -2,6 +2,7 @@
 
 // All walks that the list has, in order; others belong to lists and tables.
 const LISTED = DATA.groups.flatMap((group) => group.walks);
+const MOST_ENDS = 12; // that are summed up by themselves
 
 function showPackets() {
   const side = make("div", {});
@@ -14,9 +15,8 @@ function showPackets() {
       const end = words(DATA.walks[number].end);
       ends.set(end, (ends.get(end) || 0) + 1);
     }
-    const summary = [...ends].sort((one, other) => other[1] - one[1]).slice(0, 8);
-    side.append(make("h3", {}, "How they end"), make("table", { class: "ends-summary" }, ...summary.map(([end, times]) => make("tr", {},
-      make("td", { class: "mono" }, String(times)), make("td", { class: endClass(end) }, `${endSign(end)} ${end}`)))));
+    const rows = make("ol", { class: "rows", "aria-label": group.label });
+    side.append(make("h3", {}, "How they end"), endsTable(ends, rows));
     if (group.left_out) {
       side.append(make("p", { class: "warn" }, `${count(group.left_out, "packet")} more aren't shown.`));
     }
@@ -24,11 +24,10 @@ function showPackets() {
       side.append(make("p", { class: "warn" }, "The walks over all choices aren't counted: there are too many."));
     }
     side.append(make("h3", {}, "One by one"));
-    const rows = make("ol", { class: "rows", "aria-label": group.label });
     for (const number of group.walks) {
       const walk = DATA.walks[number];
       const end = words(walk.end);
-      rows.append(make("li", {}, make("button", { type: "button", id: `walk${number}`, "data-walk": number },
+      rows.append(make("li", { "data-end": end }, make("button", { type: "button", id: `walk${number}`, "data-walk": number },
         make("span", { class: "number soft" }, String(walk.number)),
         make("span", { class: endClass(end) }, endSign(end)), make("span", {}, end))));
     }
@@ -46,6 +45,34 @@ function showPackets() {
   }
   if (LISTED.length) {
     showWalk(LISTED.includes(KIND.walk) ? KIND.walk : LISTED[0], KIND.stage);
+  }
+}
+
+// How many packets have each end; a click shows those alone, another one all of them.
+function endsTable(ends, rows) {
+  const sorted = [...ends].sort((one, other) => other[1] - one[1]);
+  const shown = sorted.slice(0, MOST_ENDS);
+  const table = make("table", { class: "ends-summary" }, ...shown.map(([end, times]) => make("tr", {},
+    make("td", { class: "mono" }, String(times)),
+    make("td", {}, button(`${endSign(end)} ${end}`, (event) => showEnd(event.currentTarget, end, rows),
+      { class: `end-only ${endClass(end)}`, "aria-pressed": "false", title: "Shows these packets alone, or all" })))));
+  const more = sorted.length - shown.length;
+  return more ? make("div", {}, table, make("p", { class: "soft" }, `${count(more, "other end")} below.`)) : table;
+}
+
+function showEnd(pressed, end, rows) {
+  const isOn = pressed.getAttribute("aria-pressed") !== "true";
+  for (const other of pressed.closest("table").querySelectorAll("button")) {
+    other.setAttribute("aria-pressed", String(isOn && other === pressed));
+  }
+  let first = null;
+  for (const row of rows.children) {
+    row.hidden = isOn && row.dataset.end !== end;
+    first = first || (row.hidden ? null : row.firstChild);
+  }
+  const walk = byId(`walk${KIND.walk}`);
+  if (first && (!walk || walk.parentElement.hidden)) {
+    showWalk(Number(first.dataset.walk), 0);
   }
 }
 
@@ -68,6 +95,7 @@ function showWalk(number, stage) {
   clearMap();
   if (KIND.broken) {
     markLinks(KIND.broken, "broken");
+    byId("legend").textContent = "Crossed: links that failed";
   }
   if (KIND.fan && walk.fan >= 0) {
     drawFan(DATA.fans[walk.fan]);
@@ -75,7 +103,11 @@ function showWalk(number, stage) {
     drawWalk(walk, KIND.stage);
   }
   const detail = KIND.view === "packets" ? byId("detail") : byId("walker");
+  const focused = detail.contains(document.activeElement) ? document.activeElement.id : "";
   detail.replaceChildren(...walkParts(walk));
+  if (focused && byId(focused)) {
+    byId(focused).focus({ preventScroll: true });
+  }
 }
 
 function step(by) {
@@ -85,9 +117,13 @@ function step(by) {
 }
 
 function nextPacket(by) {
-  const at = LISTED.indexOf(KIND.walk) + by;
-  if (KIND.view === "packets" && at >= 0 && at < LISTED.length) {
-    showWalk(LISTED[at], 0);
+  let at = LISTED.indexOf(KIND.walk) + by;
+  while (KIND.view === "packets" && at >= 0 && at < LISTED.length) {
+    if (!byId(`walk${LISTED[at]}`).parentElement.hidden) {
+      showWalk(LISTED[at], 0);
+      return;
+    }
+    at += by;
   }
 }
 
@@ -125,10 +161,7 @@ function walkParts(walk) {
     "aria-valuetext": `stage ${KIND.stage + 1} of ${last + 1}`,
   });
   slider.value = KIND.stage;
-  slider.addEventListener("input", () => {
-    showWalk(KIND.walk, Number(slider.value));
-    byId("slider").focus();
-  });
+  slider.addEventListener("input", () => showWalk(KIND.walk, Number(slider.value)));
   parts.push(make("div", { class: "player" },
     button("\u25c0", () => step(-1), { title: "The stage before (left arrow)", id: "before" }),
     button(KIND.playing ? "Stop" : "Play", play, { id: "play", title: "Play (Space)" }),
@@ -138,8 +171,43 @@ function walkParts(walk) {
   if (KIND.fan && walk.fan >= 0) {
     parts.push(...fanParts(DATA.fans[walk.fan]));
   }
-  parts.push(...stageParts(walk, KIND.stage));
+  parts.push(stageList(walk), ...stageParts(walk, KIND.stage));
   return parts;
+}
+
+// All stages of a walk in words, made once they are asked for; a click goes there.
+function stageList(walk) {
+  const box = make("details", { id: "stages", open: KIND.allStages },
+    make("summary", { id: "stagessaid" }, `All ${count(walk.stages.length, "stage")} in words`));
+  const fillIn = () => {
+    if (box.open && box.children.length === 1) {
+      box.append(make("ol", {}, ...walk.stages.map((_, number) => {
+        const stage = stageOf(walk, number);
+        const line = button([make("b", {}, NET.nodes[stage.node].name), " ", ...withCode(stage.said), make("span", { class: "soft" }, ` (${stage.rfc})`)],
+          () => showWalk(KIND.walk, number), { id: `stage${number}`, "aria-current": number === KIND.stage ? "step" : null });
+        return make("li", {}, line);
+      })));
+    }
+  };
+  fillIn();
+  box.addEventListener("toggle", () => {
+    KIND.allStages = box.open;
+    fillIn();
+  });
+  return box;
+}
+
+// Paper has no clicks: all stages are printed.
+function listenToPrint() {
+  let was = false;
+  const open = (isOpen) => {
+    KIND.allStages = isOpen;
+    if (KIND.walk >= 0 && byId("stages")) {
+      showWalk(KIND.walk, KIND.stage);
+    }
+  };
+  window.addEventListener("beforeprint", () => { was = KIND.allStages; open(true); });
+  window.addEventListener("afterprint", () => open(was));
 }
 
 function fanLabel(walk) {
@@ -174,7 +242,7 @@ function stageParts(walk, number) {
   const before = viewBefore(walk, number);
   const found = stage.entry ? `Found: ${stage.entry}. ` : "";
   const changed = stage.changed ? ` Changed: ${stage.changed}.` : "";
-  const said = make("p", { class: "said", id: "decision" }, make("strong", {}, node), ` ${stage.said}. `,
+  const said = make("p", { class: "said", id: "decision" }, make("strong", {}, node), " ", ...withCode(stage.said), ". ",
     make("span", { class: "soft", id: "rfc" }, `(${stage.rfc})`));
   announce(`Stage ${number + 1}: ${node} ${stage.said}`);
   const parts = [said, make("p", { class: "soft", id: "entry" }, found, changed)];
@@ -185,6 +253,16 @@ function stageParts(walk, number) {
     : headerBox(isError ? `The ICMPv6 error that ${node} sends` : "After", stage.view, mark[2], mark[3], "new");
   parts.push(make("div", { class: "pair" }, left, right));
   return parts;
+}
+
+// Scrolls a box, and nothing round it, so far that a part of it is seen.
+function bringInto(box, part) {
+  if (part) {
+    const [outer, inner] = [box.getBoundingClientRect(), part.getBoundingClientRect()];
+    if (inner.top < outer.top || inner.bottom > outer.bottom) {
+      box.scrollTop += inner.top - outer.top - outer.height / 3;
+    }
+  }
 }
 
 // The headers of a packet, field by field, and its bytes; a field under the pointer is marked in both.
@@ -215,10 +293,11 @@ function headerBox(title, view, changed, parts, how) {
     box.append(make("div", { class: parts.includes(part) ? `part ${how}` : "part" }, make("b", {}, label), list));
   });
   packet.bytes.forEach((byte, at) => {
-    bytes.append(make("span", { class: changedBytes.has(at) ? "byte changed" : "byte", "data-byte": at }, byte),
-      at % 16 === 15 ? "\n" : " ");
+    if (at % 16 === 0) {
+      bytes.append(make("span", { class: "offset" }, `${at ? "\n" : ""}${String(at).padStart(4)} `));
+    }
+    bytes.append(" ", make("span", { class: changedBytes.has(at) ? "byte changed" : "byte", "data-byte": at, title: `byte ${at}` }, byte));
   });
-  bytes.style.whiteSpace = "pre-wrap";
   box.append(bytes);
   const light = (number) => {
     for (const old of box.querySelectorAll(".lit")) {
@@ -228,6 +307,7 @@ function headerBox(title, view, changed, parts, how) {
       return;
     }
     const [at, bits] = fields[number];
+    bringInto(bytes, bytes.querySelector(`[data-byte="${at >> 3}"]`));
     box.querySelector(`[data-field="${number}"]`).classList.add("lit");
     for (let byte = at >> 3; byte < (at + bits + 7) >> 3; byte += 1) {
       const one = bytes.querySelector(`[data-byte="${byte}"]`);

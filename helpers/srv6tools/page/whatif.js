@@ -6,6 +6,7 @@ function showTables() {
   const side = byId("side");
   side.replaceChildren();
   const detail = make("div", { class: "split" });
+  const box = make("div", { class: "heatbox" });
   byId("detail").replaceChildren(detail);
   DATA.tables.forEach((table, place) => {
     const counts = {};
@@ -17,11 +18,12 @@ function showTables() {
     side.append(make("h2", {}, `${count(table.failures.length, "failure")}, ${count(table.intents.length, "intent")}`),
       make("table", { class: "heat" }, ...Object.entries(table.states).map(([state, what]) => make("tr", {},
         make("td", {}, make("button", { type: "button", class: state, tabindex: "-1", disabled: true }, `${SIGNS[state]} ${counts[state] || 0}`)),
-        make("td", {}, `\u00a0${what}`)))),
-      make("p", { class: "soft" }, "In a cell: the sign, the containers and the need of the list that is the least one then, and what becomes of a packet that still has the list from before."));
-    detail.append(heatTable(table, place));
+        make("td", { class: "what" }, what)))),
+      make("p", { class: "soft" }, "In a cell: the sign, the containers and the need of the list that is the least one then, and what becomes of a packet that still has the list from before (\u00d7 where it is lost): at first, while routes are the old ones and only next hops are left out that are gone, and later, once routes are found anew."));
+    box.append(heatTable(table, place));
   });
-  detail.append(make("div", { id: "walker" }, make("p", { class: "soft" }, "A click on a cell shows its walk here.")));
+  const said = make("p", { id: "cellsaid", class: "soft" }, "A click on a cell shows its walk here.");
+  detail.append(box, make("div", {}, said, make("div", { id: "walker" })));
   clearMap();
   byId("legend").textContent = "A click on a cell shows the failure and the walk there";
 }
@@ -37,12 +39,20 @@ function heatTable(table, place) {
 function cellButton(table, place, row, column) {
   const cell = table.failures[row].cells[column];
   const size = cell.containers === null ? "" : ` ${cell.containers}/${cell.need}`;
-  const lost = cell.arrives === false;
-  const label = `without ${table.failures[row].name}, ${table.intents[column]}: ${table.states[cell.state]}, ${cell.answer}${cell.end ? `; packet: ${cell.end}` : ""}`;
+  const [told, lost] = whatBecomes(cell);
+  const ends = [["at first", cell.at_once], ["later", cell.traffic]].filter(([, one]) => one).map(([when, one]) => `; packet ${when}: ${one.end}`);
+  const label = `without ${table.failures[row].name}, ${table.intents[column]}: ${table.states[cell.state]}, ${cell.answer}${ends.join("")}`;
   return make("button", {
     type: "button", class: `cell ${cell.state}`, id: `cell${place}-${row}-${column}`, title: label,
     "aria-label": label, on: () => showCell(place, row, column),
-  }, `${SIGNS[cell.state]}${size}`, make("small", { class: lost ? "bad" : "" }, cell.end === null ? "\u00a0" : lost ? "\u00d7 lost" : "arrives"));
+  }, `${SIGNS[cell.state]}${size}`, make("small", { class: lost ? "bad" : "" }, told));
+}
+
+// What becomes of a packet with the list from before, in two or three words, and whether it is ever lost.
+function whatBecomes({ at_once: first, traffic: later }) {
+  const isLost = [first, later].map((one) => one !== null && !one.arrives);
+  const words = isLost[0] && later && !isLost[1] ? "\u00d7 at first" : isLost[1] && first && !isLost[0] ? "\u00d7 later" : "\u00d7 lost";
+  return isLost.includes(true) ? [words, true] : [first || later ? "arrives" : "\u00a0", false];
 }
 
 function showCell(place, row, column) {
@@ -56,14 +66,30 @@ function showCell(place, row, column) {
   KIND.broken = failure.links;
   const said = `Without ${failure.name}, ${table.intents[column]}: ${table.states[cell.state]} (${cell.answer}).`;
   announce(said);
-  if (cell.walk >= 0) {
-    const walk = DATA.walks[cell.walk];
-    showWalk(cell.walk, cell.arrives ? 0 : walk.stages.length - 1);
+  byId("cellsaid").replaceChildren(said, ...whenButtons(cell));
+  byId("cellsaid").classList.remove("soft");
+  const breaks = [cell.at_once, cell.traffic].find((one) => one && !one.arrives && one.walk >= 0);
+  const shown = breaks || [cell.traffic, cell.at_once].find((one) => one && one.walk >= 0);
+  if (shown) {
+    showTraffic(shown);
   } else {
     clearMap();
     markLinks(failure.links, "broken");
     byId("walker").replaceChildren();
+    byId("legend").textContent = "Crossed: links that failed";
   }
-  byId("walker").prepend(make("p", { id: "cellsaid" }, said));
-  byId("legend").textContent = `Crossed: links that failed`;
+}
+
+// Of a cell with two walks, the one at first and the one once routes are found anew: a button for each.
+function whenButtons(cell) {
+  const both = [["at first", cell.at_once], ["later", cell.traffic]].filter(([, one]) => one && one.walk >= 0);
+  return both.length < 2 ? [] : both.flatMap(([when, one]) => [" ", button(`${endSign(one.arrives ? "left" : "")} ${when}`, () => showTraffic(one),
+    { class: "when", "data-walk": one.walk, title: `The walk ${when}: ${one.end}` })]);
+}
+
+function showTraffic(traffic) {
+  showWalk(traffic.walk, traffic.arrives ? 0 : DATA.walks[traffic.walk].stages.length - 1);
+  for (const one of byId("cellsaid").querySelectorAll(".when")) {
+    one.setAttribute("aria-pressed", String(Number(one.dataset.walk) === traffic.walk));
+  }
 }
