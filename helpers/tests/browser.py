@@ -47,7 +47,6 @@ class Browser:
     def __init__(self, width: int = 1280, height: int = 860, dark: bool = False):
         browser, driver = _found() or ("", "")
         self._folder = tempfile.TemporaryDirectory()
-        self._is_measured = False
         self._log = Path(self._folder.name, "log")
         self._driver = subprocess.Popen(
             [driver, "--port=0"], stdout=self._log.open("wb"), stderr=subprocess.STDOUT
@@ -171,16 +170,24 @@ class Browser:
         """The milliseconds that the page's thread works on a script, on what it draws then too; time in which the processor does
         other work isn't counted.
         """
-        if not self._is_measured:
-            self._command("Performance.enable", timeDomain="threadTicks")
-            self._is_measured = True
+        self._measure()
         before = self._worked()
         self.run(f"{script}; document.body.getBoundingClientRect()")
-        return (self._worked() - before) * 1000
+        return self._worked() - before
+
+    def busy_opening(self, page: Path) -> float:
+        """The milliseconds that the page's thread works until the page has drawn itself."""
+        self._measure()
+        self.open(page)
+        return self._worked()
+
+    def _measure(self) -> None:
+        self._command("Performance.disable")
+        self._command("Performance.enable", timeDomain="threadTicks")
 
     def _worked(self) -> float:
         rows = self._command("Performance.getMetrics")["metrics"]
-        return next(row["value"] for row in rows if row["name"] == "TaskDuration")
+        return next(row["value"] for row in rows if row["name"] == "TaskDuration") * 1000
 
     def settle(self) -> None:
         """Waits until the map has its sizes."""

@@ -12,14 +12,14 @@ from srv6tools.routes import fill
 from support import needs_program, run_tool
 
 BYTES = 10 * 2**20  # of the largest page
-LOADED, REACTS = 2_000, 100  # milliseconds, at most
+LOADED, REACTS = 2_000, 100  # milliseconds of the page's thread, at most: what other work there is doesn't count
 NODES, PACKETS, WIDE = 250, 1_000, 25
-TOOK = "return performance.timing.loadEventEnd - performance.timing.navigationStart"
 ACTIONS = {
     "a step": "step(1)",
     "the next packet": "nextPacket(1)",
-    "closer": "zoom(0.9)",
-    "farther": "zoom(1.1)",
+    "closer": "zoom(0.9); clearTimeout(MAP.later)",
+    "farther": "zoom(1.1); clearTimeout(MAP.later)",
+    "sizes, once the wheel rests": "scaleParts()",
     "the map moved": "pan(30, 20)",
     "a search": "document.getElementById('search').value = 'n1'; showFound()",
     "a node": "showNode(7)",
@@ -37,21 +37,14 @@ class Large(PageCase):
             ran = run_tool("view", net, capture, "--at", "n0", "--no-fans")
         self.assertEqual((ran.status, ran.err.replace(PROGRESS, "")), (0, ""))
         self.assertLess(len(ran.raw), BYTES)
-        self.opens(self.file("large.html", ran.raw))
+        page = self.file("large.html", ran.raw)
+        self.assertLessEqual(min(self.browser.busy_opening(page) for _ in range(3)), LOADED)
         self.assertEqual(len(self.browser.texts(".node")), NODES)
         self.assertEqual(len(self.browser.texts(".rows li")), PACKETS)
         for name, script in ACTIONS.items():
             took = min(self.browser.busy(script) for _ in range(5))
             self.assertLessEqual(took, REACTS, name)
         self.is_quiet()
-
-    def opens(self, page: Path) -> None:
-        """The page opens in time, at least once of some times, since other work may go on beside."""
-        loads = []
-        while len(loads) < 5 and min(loads, default=LOADED + 1) > LOADED:
-            self.browser.open(page)
-            loads.append(self.browser.run(TOOK))
-        self.assertLessEqual(min(loads), LOADED)
 
     def large(self) -> tuple[Path, Path]:
         """A grid of 250 nodes with NEXT-CSIDs, and 1,000 packets with a container of two of them."""

@@ -213,6 +213,7 @@ function scaleParts() {
     one.setAttribute("markerWidth", pixels / scale);
     one.setAttribute("markerHeight", pixels / scale);
   }
+  MAP.svg.style.setProperty("--u", `${1 / scale}px`);
   MAP.over.style.fontSize = `${11 / scale}px`;
   MAP.labels.style.fontSize = `${10 / scale}px`;
   const size = Math.round(Math.max(0.7, Math.min(2, 0.95 / scale)) * 5) / 5;
@@ -228,7 +229,7 @@ function scaleParts() {
 // What goes by the map's scale in what is drawn over it, and labels that make room for it.
 function dressOver() {
   for (const path of MAP.over.querySelectorAll(".fan path")) {
-    path.style.strokeDasharray = `${Math.max(1, path.getTotalLength() * MAP.scale - 8)} 9999`; // its arrow goes on from there
+    path.style.strokeDasharray = `${Math.max(1, path.getTotalLength() - 8 / MAP.scale)} 9999`; // its arrow goes on from there
   }
   if (MAP.svg.classList.contains("near")) {
     placeLabels(MAP.scale);
@@ -385,7 +386,7 @@ function drawFan(fan) {
     const { shape } = MAP.links[link];
     const wide = 2 + 5 * (Number(share) / all);
     MAP.over.append(draw("g", { class: "fan", "data-link": link },
-      draw("path", { d: shape.d, style: `stroke-width:${wide.toFixed(1)}px`, "marker-end": "url(#fantip)" }),
+      draw("path", { d: shape.d, style: `stroke-width:calc(${wide.toFixed(1)} * var(--u))`, "marker-end": "url(#fantip)" }),
       draw("text", { x: shape.stepX, y: shape.stepY, dy: ".35em" }, share)));
     MAP.nodes[NET.links[link].from].classList.add("met");
     if (NET.links[link].to >= 0) {
