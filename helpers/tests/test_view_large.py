@@ -20,7 +20,7 @@ ACTIONS = {
     "closer": "zoom(0.9); clearTimeout(MAP.later)",
     "farther": "zoom(1.1); clearTimeout(MAP.later)",
     "sizes, once the wheel rests": "scaleParts()",
-    "the map moved": "pan(30, 20)",
+    "the map moved": "pan(30, 20); clearTimeout(MAP.later)",
     "a search": "document.getElementById('search').value = 'n1'; showFound()",
     "a node": "showNode(7)",
     "packets of one end": "document.querySelector('.end-only').click()",

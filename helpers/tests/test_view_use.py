@@ -24,7 +24,8 @@ boxes.forEach(([name, one], at) => boxes.slice(at + 1).forEach(([other, two]) =>
 return [boxes.filter(([name]) => name).length, found];
 """
 IS_SEEN = """
-const [part, box] = [document.querySelector(arguments[0]).getBoundingClientRect(), document.getElementById('detail').getBoundingClientRect()];
+const part = document.querySelector(arguments[0]).getBoundingClientRect();
+const box = document.getElementById('detail').getBoundingClientRect();
 return part.top >= box.top - 1 && part.bottom <= box.bottom + 1;
 """
 WORDS_OF_STATES = """
