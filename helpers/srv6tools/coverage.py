@@ -123,15 +123,25 @@ class Seer:
         return Doing("unending", pairs=tuple(pairs), sids=tuple(sids))
 
     def _found(self, place: Place, family: int, packet: bytes) -> object:
-        """What the packet meets at a place; of IPv4, and of bytes that don't read, no SID and no address."""
-        if family == 6 and len(packet) >= 40 and packet[0] >> 4 == 6 and 40 + int.from_bytes(packet[4:6]) <= len(packet):
+        """What the packet meets at a place; of IPv4 no SID and no address, and of bytes that don't read nothing."""
+        if not _reads(family, packet):
+            return None
+        if family == 6:
             return self.tables.found_at(place, int(IPv6Address(packet[24:40])))
-        whole = family == 4 and len(packet) >= 20 and packet[0] >> 4 == 4
-        if whole and place.via:
+        if place.via:
             return place.via
-        if whole and any(one.table == place.table and _holds(one.prefix, packet[16:20]) for one in self.routes_4):
+        if any(one.table == place.table and _holds(one.prefix, packet[16:20]) for one in self.routes_4):
             return Via((), None)
         return None
+
+
+def _reads(family: int, packet: bytes) -> bool:
+    """Whether bytes read as a packet of a family, which comes before its look-up."""
+    if family == 6:
+        return len(packet) >= 40 and packet[0] >> 4 == 6 and 40 + int.from_bytes(packet[4:6]) <= len(packet)
+    if len(packet) < 20 or packet[0] >> 4 != 4:
+        return False
+    return 20 <= 4 * (packet[0] & 15) <= int.from_bytes(packet[2:4]) <= len(packet)
 
 
 def _holds(prefix: Prefix, address: bytes) -> bool:
@@ -265,5 +275,5 @@ _OUTCOMES = (
     GOES_ON, GIVES_6, GIVES_4, DELIVERED,
     *(f"dropped {reason}" for reason in (*CHAIN, "UpperLayer", *STEP)),
     f"then {SENT}", *(f"then dropped {reason}" for reason in LATER),
-    "then at the address delivered",
+    "then at the address delivered", "then at the address dropped",
 )  # fmt: skip

@@ -13,7 +13,7 @@ from srv6tools.node_cases import Maker
 from srv6tools.packet_parts import (
     DESTINATION, FRAGMENT, IPV4, IPV6, NOTHING, ROUTING, UDP, fragment, ip4, ip6, options, srh, udp,
 )  # fmt: skip
-from srv6tools.packets import NOT_SHOWN, covering_set
+from srv6tools.packets import NOT_SHOWN, CoveringSet, covering_set
 from srv6tools.program import run_program
 from srv6tools.say_others import REASONS
 from srv6tools.tagging import MARK, checksum, lengthened
@@ -21,10 +21,15 @@ from srv6tools.trace import trace_of
 from support import EXAMPLES, ToolCase, needs_program, run_here, run_tool
 
 EVERY = Path(__file__).resolve().parent / "data" / "every.toml"
+ROWS = EXAMPLES.parent / "crates" / "worked_rows" / "data"
+OF_NEXT, OF_REPLACE = ROWS / "certificates" / "end-twice" / "net.toml", ROWS / "loose" / "replace-sids" / "net.toml"
+"""The networks of the worked rows: with NEXT-CSIDs of 16 bits, and with REPLACE-CSIDs of 32."""
 NODES = (
     (EXAMPLES / "behaviours.toml", "N"), (EXAMPLES / "csids.toml", "N1"), (EXAMPLES / "csids.toml", "N2"),
     (EXAMPLES / "csids.toml", "N8"), (EXAMPLES / "m2.toml", "B"), (EXAMPLES / "domain" / "net.toml", "pe3"), (EVERY, "N"),
+    *((OF_NEXT, node) for node in "ABCD"), *((OF_REPLACE, node) for node in "HPQRS"),
 )  # fmt: skip
+CHANGED = 1_000  # packets with bytes changed
 UNREAD = {"ShortFrame", "NotIp", "WrongVersion"}
 
 
@@ -33,17 +38,28 @@ class Sets(ToolCase):
     def test_each_pair_is_met_or_has_a_reason(self):
         for path, node in NODES:
             with self.subTest(f"{path.name} {node}"):
-                made = covering_set(read_network(path), node, path)
+                more = covering_set(read_network(path), node, path, 3, CHANGED)
+                made = CoveringSet(more.net, node, 3, more.cases[:-CHANGED], more.doings[:-CHANGED])
                 self.assertEqual([str(pair) for pair, why in made.unmet() if why == NOT_SHOWN], [])
+                self.assertGreater(len(made.met), 10)
                 known = dict(Universe(made.net, node).pairs())
-                self.assertEqual([str(pair) for pair in made.met if known.get(pair)], [], "met, and a reason against it")
-                self.assertGreater(len(made.met), 20)
+                beside = [str(pair) for pair in more.met if pair not in known or known[pair]]
+                self.assertEqual(beside, [], "met, also by chance, and not known or with a reason against it")
 
     def test_a_reason_that_is_taken_away(self):
         net = read_network(EXAMPLES / "behaviours.toml")
         whys = dict(Universe(net, "N").pairs())
         self.assertIn("no link", whys[Pair("End", "then dropped MtuExceeded")])
         self.assertIsNone(dict(Universe(read_network(EVERY), "N").pairs())[Pair("End", "then dropped MtuExceeded")])
+
+    def test_bytes_that_do_not_read_meet_nothing(self):
+        net = read_network(EVERY)
+        whole = ip4("192.0.2.1", payload=udp())
+        cut, long_head = whole[:-1], bytes([0x4F]) + whole[1:]
+        doings = [some[0] for some in Seer(net, "N", EVERY).doings([whole, cut, long_head])]
+        self.assertEqual([doing.pairs[-1] for doing in doings], [
+            Pair("an IPv4 route", "sent"), *[Pair("no entry", "dropped Truncated")] * 2,
+        ])  # fmt: skip
 
     def test_each_reason_of_a_drop(self):
         made = covering_set(read_network(EVERY), "N", EVERY)
