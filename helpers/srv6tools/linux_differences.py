@@ -171,10 +171,11 @@ def record_of(name: str, result: Result) -> str:
 
 
 def compared(lines: Sequence[str], table: Sequence[str]) -> Iterator[str]:
-    """Where the lines differ from those of the table."""
+    """Where the lines differ from those of the table; of a packet that has several there each is right."""
     known = [line for line in table if line and not line.startswith("#")]
+    met = {line.split(" | ")[0] for line in lines if line in known}
     yield from (f"is    {line}" for line in lines if line not in known)
-    yield from (f"known {line}" for line in known if line not in lines)
+    yield from (f"known {line}" for line in known if line.split(" | ")[0] not in met)
 
 
 def summary(lines: Sequence[str]) -> Iterator[str]:

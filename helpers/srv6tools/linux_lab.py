@@ -28,6 +28,8 @@ ENTRY = "arrive"
 PACKET_LIMIT = 70_000
 SECONDS = 20.0
 """How long a packet may take; a machine that is busy is slow, and none takes so long."""
+TRIES = 400
+"""How often it is asked for an address, every 0.05 s."""
 
 
 class NotHere(Exception):
@@ -83,6 +85,12 @@ def missing_for_a_lab() -> str | None:
     return f"no network namespace with seg6local: {reason[:120]}"
 
 
+def until_taken(address: IPv6Address) -> str:
+    """Commands that wait until Linux takes packets to an address as its own, which it does a moment after it has the address."""
+    shown = f"ip -6 route show table local exact {address}/128"
+    return f'tries=0; while [ -z "$({shown})" ] && [ $tries -lt {TRIES} ]; do tries=$((tries + 1)); sleep 0.05; done'
+
+
 class Lab:
     """The node of a network as Linux in this process's namespace."""
 
@@ -96,6 +104,7 @@ class Lab:
         self._run("set -e\n" + "\n".join(script.lines))
         self._run(f"ip link set {ENTRY} up")
         self.asked = 0
+        self._run(until_taken(self.address))
         self._drain()
 
     def _run(self, text: str) -> None:

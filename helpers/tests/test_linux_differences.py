@@ -55,6 +55,9 @@ class Differences(ToolCase):
         self.assertEqual(list(compared(lines, other)), [
             "is    b | over east | 12", "known b | dropped | -", "known c | dropped | -",
         ])  # fmt: skip
+        either = ["a | dropped | -", "b | dropped | -", "b | over east | 12"]
+        self.assertEqual(list(compared(lines, either)), [])
+        self.assertEqual(len(list(compared(["a | dropped | -", "b | over west | 12"], either))), 3)
         self.assertEqual(record_of("a", Result(())), "a | dropped | -")
         self.assertTrue(record_of("a", Result((SENT,))).startswith("a | over east | 6b86b273"))
         self.assertIn("    1  both do the same", list(summary(["same | a", "no error | b"])))

@@ -9,7 +9,7 @@ from pathlib import Path
 from srv6tools.description import network_of, read_network
 from srv6tools.files import parse_toml
 from srv6tools.linux import Kernel, kernel_of
-from srv6tools.linux_lab import in_namespace, missing_for_a_lab
+from srv6tools.linux_lab import in_namespace, missing_for_a_lab, until_taken
 from srv6tools.to_linux import script_for
 from support import EXAMPLES, HELPERS, ToolCase, bad_tomls, run_here, run_tool
 
@@ -162,6 +162,7 @@ class ToLinux(ToolCase):
     def goes_round(self, path: Path, node: str) -> None:
         """A node as a namespace, and what `ip` says of that as a node again."""
         script = run_here("to-linux", "--tun", "--kernel", "6.18", path, node).out
+        script += until_taken(read_network(path).nodes[node].address) + "\n"
         script += "ip -6 -j route show table all > six; ip -4 -j route show table all > four\n"
         words = in_namespace(["sh", "-e", "-c", script])
         done = subprocess.run(words, capture_output=True, cwd=self.folder, text=True)
