@@ -97,7 +97,7 @@ _srv6() {
 declare -gA _srv6_options=(
     [all-paths]='--table --json --dot --most=any'
     [check-certificate]=''
-    [conform]='--dut=any --profile=profile --json --junit=file --keep=file --seed=any --more=any --most=any'
+    [conform]='--dut=any --profile=profile --pairs --json --junit=file --keep=file --seed=any --more=any --most=any'
     [draw-walk]='--used --new=file'
     [from-linux]='--ipv4=file --rules=file --sid-table=any --node=any --address=any --source=any --link=any'
     [largest-inner]=''

@@ -105,7 +105,6 @@ class OfCommand:
         except (NoCapture, CutCapture) as fault:
             raise Fault(f"--dut {called}: what it writes: {fault}") from None
 
-
     def _link_called(self, name: str, packet: bytes, where: str) -> str | None:
         """The link of an interface; an ICMPv6 error may be of any, and one without a name has its number."""
         if name in self.net.links:

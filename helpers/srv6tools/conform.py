@@ -133,7 +133,7 @@ def work(words: argparse.Namespace) -> int:
     if words.json:
         print(json.dumps(json_of(report), indent=1))
     else:
-        print("\n".join(table_of(report)))
+        print("\n".join(table_of(report, words.pairs)))
     return Status.REFUSED if report.failed else Status.DONE
 
 
@@ -144,6 +144,7 @@ def main(words: Sequence[str] | None = None) -> int:
     parser.add_argument("node", metavar="NODE", help="the name of a node")
     parser.add_argument("--dut", metavar="ADAPTER", required=True, help="the way to the device")
     parser.add_argument("--profile", metavar="PROFILE", default="none", help=f"a file, or {' or '.join(SHIPPED)} (none)")
+    parser.add_argument("--pairs", action="store_true", help="a row of the table for what comes of each, by reason, too")
     parser.add_argument("--json", action="store_true", help="the report as JSON")
     parser.add_argument("--junit", metavar="FILE", help="write the report as JUnit XML too")
     parser.add_argument("--keep", metavar="FOLDER", help="write of each difference the packet, and both answers side by side")

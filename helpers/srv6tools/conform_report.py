@@ -9,7 +9,7 @@ from typing import Any
 from xml.sax.saxutils import escape, quoteattr
 
 from .coverage import Doing
-from .fields import dissected
+from .fields import Part, dissected
 from .shrinking import Shown
 from .verdicts import DECLARED, DIFFERS, NOT_ASKED, SAME, Answer, Got
 
@@ -69,20 +69,22 @@ def outcome_of(one: Shown) -> str:
     return one.doings[0].pairs[-1].outcome if one.doings[0].pairs else one.doings[0].outcome
 
 
-def table_of(report: Report) -> Iterator[str]:
-    """The report as a table."""
+def table_of(report: Report, by_outcome: bool = False) -> Iterator[str]:
+    """The report as a table; by what comes of what is met too, where that is asked for."""
     yield f"node {report.node} of {report.net}, device {report.dut}, profile {report.profile}"
-    width = max([len(met) for met in report.counts()] + [20])
+    outcomes = report.outcomes() if by_outcome else {}
+    width = max([20, *map(len, report.counts()), *(2 + len(outcome) for _, outcome in outcomes)])
     yield f"{'met':{width}} {'packets':>8} {'same':>8} {'declared':>9} {'differs':>8} {'not asked':>10}"
     total: Counter[str] = Counter()
     for met, count in report.counts().items():
         yield _row(met, count, width)
+        yield from (_row(f"  {outcome}", some, width) for (kind, outcome), some in outcomes.items() if kind == met)
         total += count
     yield _row("all", total, width)
-    for rule, count in sorted(report.rules().items()):
-        yield f"declared: {rule}: {count}"
-    for why, count in sorted(report.not_asked().items()):
-        yield f"not asked: {why}: {count}"
+    for rule, times in sorted(report.rules().items()):
+        yield f"declared: {rule}: {times}"
+    for why, times in sorted(report.not_asked().items()):
+        yield f"not asked: {why}: {times}"
     for number, fault in enumerate(report.faults, 1):
         yield from difference_lines(number, fault, _packets_of(report, fault))
     if report.strays:
@@ -128,16 +130,19 @@ def decoded(fault: Shown) -> str:
     return "\n".join(lines) + "\n"
 
 
-def _fields(parts: Sequence[Any]) -> Iterator[tuple[str, str]]:
-    """The fields of a packet, each with the header that it is of."""
+def _fields(parts: Sequence[Part]) -> Iterator[tuple[str, str]]:
+    """The fields of a packet, each with the header that it is of; a further header of a kind has its number."""
+    count: Counter[str] = Counter()
     for part in parts:
+        count[part.label] += 1
+        label = part.label if count[part.label] == 1 else f"{part.label} {count[part.label]}"
         for one in part.fields:
             if one.name in ("TLVs", "options") and one.content is not None:
                 names = ITEMS if one.name == "TLVs" else OPTIONS
-                yield from ((f"{part.label}, {name}", text) for name, text in items_of(one.content, names))
+                yield from ((f"{label}, {name}", text) for name, text in items_of(one.content, names))
                 continue
             shown = f"{one.text} {one.content[:24].hex()}" if one.content is not None else one.text
-            yield f"{part.label}, {one.name}", shown
+            yield f"{label}, {one.name}", shown
 
 
 def items_of(content: bytes, names: Mapping[int, str]) -> Iterator[tuple[str, str]]:
@@ -209,7 +214,7 @@ def _answers(got: Got) -> list[dict[str, Any]]:
 
 
 def junit_of(report: Report) -> str:
-    """The report as JUnit XML: a suite for each thing that is met, a test for each packet."""
+    """The report as JUnit XML: a suite for each thing that is met, a class for what comes of it, a test for each packet."""
     by_met: dict[str, list[Shown]] = {}
     for one in report.shown:
         by_met.setdefault(met_of(one), []).append(one)
@@ -219,14 +224,14 @@ def junit_of(report: Report) -> str:
         skipped = sum(one.verdict.said == NOT_ASKED for one in shown)
         counts = f'tests="{len(shown)}" failures="{failures}" errors="0" skipped="{skipped}"'
         lines.append(f"  <testsuite name={quoteattr(met)} {counts}>")
-        lines += [line for one in shown for line in _testcase(met, one)]
+        lines += [line for one in shown for line in _testcase(one)]
         lines.append("  </testsuite>")
     return "\n".join([*lines, "</testsuites>"]) + "\n"
 
 
-def _testcase(met: str, one: Shown) -> Iterator[str]:
+def _testcase(one: Shown) -> Iterator[str]:
     name = quoteattr(f"packet {one.case.number}: {one.case.name}")
-    front = f"    <testcase classname={quoteattr(met)} name={name}"
+    front = f"    <testcase classname={quoteattr(f'{met_of(one)}: {outcome_of(one)}')} name={name}"
     if one.verdict.said == DIFFERS:
         said = escape(f"expected {' or '.join(map(str, one.doings))}; device {said_of(one.got)}; packet {one.case.packet[:400].hex()}")
         yield f"{front}><failure message={quoteattr(one.verdict.difference)}>{said}</failure></testcase>"

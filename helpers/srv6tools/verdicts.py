@@ -59,7 +59,7 @@ def sorted_answers(
     for number in expected:
         by_low.setdefault(number & 0xFFFF, []).append(number)
     found: dict[int, list[Answer]] = {}
-    strays = []
+    strays: list[Answer] = []
     for answer in answers:
         number = _number_of(answer, by_content, by_low, expected)
         if number is None:

@@ -13,14 +13,16 @@ from pathlib import Path
 
 import wrong_device
 from srv6tools.command import Fault
-from srv6tools.conform_report import ITEMS, items_of
+from srv6tools.conform_report import ITEMS, decoded, items_of
 from srv6tools.coverage import Doing, Pair
 from srv6tools.linux_lab import missing_for_a_lab
-from srv6tools.packet_parts import ICMPV6, icmp6, ip4, ip6
+from srv6tools.node_cases import Case
+from srv6tools.packet_parts import DESTINATION, ICMPV6, NOTHING, icmp6, ip4, ip6, options
 from srv6tools.profiles import SHIPPED, profile_of, read_profile
 from srv6tools.program import find_program
+from srv6tools.shrinking import Shown
 from srv6tools.trace import trace_of
-from srv6tools.verdicts import Answer, Got, difference_of, fits, sorted_answers
+from srv6tools.verdicts import DIFFERS, Answer, Got, Verdict, difference_of, fits, sorted_answers
 from support import EXAMPLES, HELPERS, Ran, ToolCase, needs_package, needs_program, run_here, run_tool
 
 HERE = Path(__file__).resolve().parent
@@ -126,11 +128,16 @@ sys.stdout.buffer.write(b"".join(raw_capture(frames[::-1])))
         self.assertEqual(ran.status, 1)
         self.assertRegex(ran.out, r"\nEnd PSP +\d+ +\d+ +0 +[1-9]\d* +0\n")
         self.assertIn("difference 1: End PSP: then sent; the device: other bytes", ran.out)
+        ran = run_here("conform", EVERY, "N", "--dut", wrong("PSP late"), "--pairs", "--most", "0")
+        rows = ran.out[ran.out.index("\nEnd PSP ") :]
+        self.assertRegex(rows, r"\n  dropped BadChain +(\d+) +\1 +0 +0 +0\n(  [^\n]*\n)*  then sent +\d+ +\d +0 +[1-9]\d +0\n")
         suites = xml.etree.ElementTree.parse(junit).getroot()
         by_name = {suite.get("name"): suite for suite in suites}
         self.assertEqual(by_name["End"].get("failures"), "0")
         self.assertEqual(int(by_name["End PSP"].get("failures")), len(by_name["End PSP"].findall("testcase/failure")))
         self.assertGreater(int(by_name["End PSP"].get("failures")), 0)
+        failed = {case.get("classname") for case in by_name["End PSP"].findall("testcase") if case.find("failure") is not None}
+        self.assertEqual(failed, {f"End PSP: then {what}" for what in ("sent", "dropped NoRoute", "dropped MtuExceeded")})
 
     def test_links_by_the_names_of_interfaces(self):
         named = program("run", EVERY, "N") + " | " + shlex.join([str(HELPERS / "name-links"), str(EVERY)])
@@ -169,6 +176,16 @@ class Reports(unittest.TestCase):
             ("item 2", f"type 5 (HMAC), 38 bytes {'00' * 24}"), ("item 3", "type 9, 9 bytes, beyond the header 01"),
         ])  # fmt: skip
         self.assertEqual(list(items_of(b"\x05", ITEMS)), [("item 0", "type 5 (HMAC), no length, beyond the header")])
+
+    @needs_program
+    def test_each_of_two_headers_of_a_kind(self):
+        sent, theirs = (
+            ip6("2001:db8:2::1", DESTINATION, options(DESTINATION, first) + options(NOTHING, "010400000000"))
+            for first in ("1e0400000000", "1e0400000001")
+        )
+        fault = Shown(Case(1, "End", "two headers", sent), (Doing("sent", "east", sent),), Got((Answer("east", theirs),)), Verdict(DIFFERS))
+        marked = [line for line in decoded(fault).splitlines() if line.startswith("*")]
+        self.assertEqual([line.split(":")[0] for line in marked], ["* destination options, item 0"])
 
 
 class Matching(unittest.TestCase):
