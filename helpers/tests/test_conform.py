@@ -2,27 +2,21 @@
 
 import json
 import os
+import resource
 import shlex
 import subprocess
 import sys
-import time
 import unittest
 import xml.etree.ElementTree
-from ipaddress import IPv6Address
 from pathlib import Path
 
 import wrong_device
 from srv6tools.command import Fault
-from srv6tools.conform_report import ITEMS, decoded, items_of
-from srv6tools.coverage import Doing, Pair
 from srv6tools.linux_lab import missing_for_a_lab
-from srv6tools.node_cases import Case
-from srv6tools.packet_parts import DESTINATION, ICMPV6, NOTHING, icmp6, ip4, ip6, options
+from srv6tools.packet_parts import ip6
 from srv6tools.profiles import SHIPPED, profile_of, read_profile
 from srv6tools.program import find_program
-from srv6tools.shrinking import Shown
 from srv6tools.trace import trace_of
-from srv6tools.verdicts import DIFFERS, Answer, Got, Verdict, difference_of, fits, sorted_answers
 from support import EXAMPLES, HELPERS, Ran, ToolCase, needs_package, needs_program, run_here, run_tool
 
 HERE = Path(__file__).resolve().parent
@@ -32,12 +26,18 @@ MISSING = missing_for_a_lab()
 if not MISSING and "SRV6_TEST_LINUX" not in os.environ:
     MISSING = "the variable SRV6_TEST_LINUX"
 LARGEST = 200  # bytes of a packet that shows a fault
-SECONDS = 20.0
+SECONDS = 10.0  # of the processor, so that other work on the machine doesn't count
 
 
 def program(*words: object) -> str:
     """A command of the program."""
     return shlex.join([str(find_program()), *map(str, words)])
+
+
+def processor() -> float:
+    """The seconds of the processor of this process and of all that it has called."""
+    used = [resource.getrusage(who) for who in (resource.RUSAGE_SELF, resource.RUSAGE_CHILDREN)]
+    return sum(one.ru_utime + one.ru_stime for one in used)
 
 
 def wrong(fault: str, net: Path = EVERY) -> str:
@@ -113,10 +113,10 @@ sys.stdout.buffer.write(b"".join(raw_capture(frames[::-1])))
             self.assertEqual(walks[0].stages[-1].packet.hex(), one["expected"][0]["bytes"])
 
     def test_ten_thousand_packets(self):
-        start = time.monotonic()
+        before = processor()
         _, told = self.report(BEHAVIOURS, "N", "--more", "9000", "--dut", "pcap:" + program("run", BEHAVIOURS, "N"))
         self.assertGreaterEqual(sum(row["packets"] for row in told["met"]), 10_000)
-        self.assertLess(time.monotonic() - start, SECONDS)
+        self.assertLess(processor() - before, SECONDS)
 
     def test_the_same_report_each_time(self):
         words = [BEHAVIOURS, "N", "--dut", wrong("hop limit not lowered", BEHAVIOURS), "--more", "100"]
@@ -166,84 +166,6 @@ sys.stdout.buffer.write(b"".join(raw_capture(frames[::-1])))
         ran, told = self.report(BEHAVIOURS, "N", "--dut", f"pcap:{command}")
         self.assertEqual((ran.status, told["differences"]), (1, []))
         self.assertEqual(told["strays"], [{"link": "east", "bytes": stray.hex()}])
-
-
-class Reports(unittest.TestCase):
-    def test_items(self):
-        area = bytes([0, 4, 2, 0, 0, 5, 38]) + bytes(38) + bytes([9, 9, 1])
-        self.assertEqual(list(items_of(area, ITEMS)), [
-            ("item 0", "type 0 (Pad1)"), ("item 1", "type 4 (PadN), 2 bytes 0000"),
-            ("item 2", f"type 5 (HMAC), 38 bytes {'00' * 24}"), ("item 3", "type 9, 9 bytes, beyond the header 01"),
-        ])  # fmt: skip
-        self.assertEqual(list(items_of(b"\x05", ITEMS)), [("item 0", "type 5 (HMAC), no length, beyond the header")])
-
-    @needs_program
-    def test_each_of_two_headers_of_a_kind(self):
-        sent, theirs = (
-            ip6("2001:db8:2::1", DESTINATION, options(DESTINATION, first) + options(NOTHING, "010400000000"))
-            for first in ("1e0400000000", "1e0400000001")
-        )
-        fault = Shown(Case(1, "End", "two headers", sent), (Doing("sent", "east", sent),), Got((Answer("east", theirs),)), Verdict(DIFFERS))
-        marked = [line for line in decoded(fault).splitlines() if line.startswith("*")]
-        self.assertEqual([line.split(":")[0] for line in marked], ["* destination options, item 0"])
-
-
-class Matching(unittest.TestCase):
-    def test_by_content_and_by_tag(self):
-        sent = ip6("2001:db8:2::1", hop_limit=63, flow=5)
-        other = ip6("2001:db8:2::1", hop_limit=60, flow=6)
-        error = ip6("2001:db8:1::1", ICMPV6, icmp6(1, 0, ip6("2001:db8:2::1", flow=6)), source="2001:db8::1")
-        expected = {5: [Doing("sent", "east", sent)], 6: [Doing("sent", "east", ip6("2001:db8:2::1", flow=6))]}
-        address = IPv6Address("2001:db8::1")
-        answers = [Answer(None, error), Answer("west", other), Answer("east", sent), Answer("east", b"\x60")]
-        got, strays = sorted_answers(expected, answers, address)
-        self.assertEqual(got[5], Got((answers[2],)))
-        self.assertEqual(got[6], Got((answers[1],), (error,)))
-        self.assertEqual(strays, [answers[3]])
-
-    def test_by_what_an_ipv4_header_has_of_a_tag(self):
-        number = 500_007
-        expected = {number: [Doing("sent", "east", ip4("192.0.2.1", identification=number & 0xFFFF))]}
-        answer = Answer("east", ip4("192.0.2.1", ttl=9, identification=number & 0xFFFF))
-        got, strays = sorted_answers(expected, [answer, Answer("east", ip4("192.0.2.1", identification=9))], IPv6Address("::1"))
-        self.assertEqual((got, len(strays)), ({number: Got((answer,))}, 1))
-
-    def test_an_error_of_another_address(self):
-        quoted = ip6("2001:db8:2::1", flow=6)
-        error = ip6("2001:db8:1::1", ICMPV6, icmp6(1, 0, quoted), source="2001:db8:77::1")
-        dropped = {6: [Doing("dropped", None, b"another", "NoRoute")]}
-        got, _ = sorted_answers(dropped, [Answer("east", error)], IPv6Address("2001:db8::1"))
-        self.assertEqual(got[6], Got((), (error,)))
-        passed = {6: [Doing("sent", "east", error)]}
-        got, _ = sorted_answers(passed, [Answer("east", error)], IPv6Address("2001:db8::1"))
-        self.assertEqual(got[6], Got((Answer("east", error),)))
-
-    def test_differences(self):
-        address = IPv6Address("2001:db8::1")
-        sent, error = ip6("::1"), ip6("::2", ICMPV6, icmp6(1, 0), source="2001:db8::1")
-        over = Doing("sent", "east", sent)
-        dropped, silent = Doing("dropped", None, error, "NoRoute"), Doing("dropped", None, None, "BadChain")
-        delivered = Doing("delivered", pairs=(Pair("End", "delivered"),))
-        for doing, got, said in (
-            (over, Got(), "dropped"),
-            (over, Got((Answer("west", sent),)), "another link"),
-            (over, Got((Answer("east", ip6("::3")),)), "other bytes"),
-            (over, Got((), (error,)), "an error"),
-            (over, Got((Answer("east", sent), Answer("east", sent))), "more than one answer"),
-            (dropped, Got(), "no error"),
-            (dropped, Got((Answer("east", sent),)), "sent on"),
-            (dropped, Got((), (ip6("::9", ICMPV6, icmp6(3, 0)),)), "another error"),
-            (silent, Got((), (error,)), "an error"),
-            (delivered, Got((Answer("east", sent),)), "delivered, and sent on"),
-        ):
-            with self.subTest(said):
-                self.assertFalse(fits(doing, got, address))
-                self.assertEqual(difference_of([doing], got), said)
-        for doing, got in (
-            (over, Got((Answer("east", sent),))), (over, Got((Answer(None, sent),))), (dropped, Got((), (error,))),
-            (silent, Got()), (delivered, Got()), (delivered, Got((), (ip6("::2", ICMPV6, icmp6(1, 4)),))),
-        ):  # fmt: skip
-            self.assertTrue(fits(doing, got, address))
 
 
 @needs_program
