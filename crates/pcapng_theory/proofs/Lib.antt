@@ -1,0 +1,13 @@
+pub mod Fronts
+pub mod BlockCases
+pub mod FrontCases
+pub mod FilesBehind
+pub mod SameBlocks
+pub mod FrontsRead
+pub mod BlocksRead
+pub mod PacketsRead
+pub mod StepsRead
+pub mod EndsRead
+pub mod FilesRead
+pub mod Unique
+pub mod Refusals

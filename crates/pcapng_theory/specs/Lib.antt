@@ -1,0 +1,4 @@
+pub mod NgBlocks
+pub mod NgEndings
+pub mod NgFiles
+pub mod NgFrames
