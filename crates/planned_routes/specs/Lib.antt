@@ -1,0 +1,5 @@
+pub mod PlannedRoutes
+pub mod Owners
+pub mod Destinations
+pub mod Entering
+pub mod RouteKeys
