@@ -1,3 +1,4 @@
+-- Need not be believed: no program stands on it yet.
 -- The lines of an input.
 use Rattle.std.specs.Prelude.{ℕ, List, [], ◌∷◌, ◌++◌, ◌==◌, if◌then◌else◌}
 

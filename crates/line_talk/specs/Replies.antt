@@ -1,3 +1,4 @@
+-- Need not be believed: no program stands on it yet.
 -- Lines that are answered one after another, by replies that depend on a state.
 use Rattle.std.specs.Prelude.{◌≡◌, ℕ, ◌<◌, ◌≤◌, List, [], ◌∷◌, ◌++◌, length, Result, Ok, Err}
 use Rattle.std.specs.Global.{Vec}
