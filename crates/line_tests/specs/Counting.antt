@@ -1,3 +1,4 @@
+-- Need not be believed: helps proofs and other laws.
 -- An engine that counts lines.
 use Rattle.std.specs.Prelude.{◌≡◌, ℕ, ◌+◌, ◌%◌, List, [], ◌∷◌}
 use Rattle.srx_edge.specs.Edge.{next_count}
