@@ -6,4 +6,6 @@
 #[cfg(test)]
 mod net_without_tests;
 #[cfg(test)]
+mod planned_routes_tests;
+#[cfg(test)]
 mod shortest_paths_tests;
