@@ -1,8 +1,11 @@
 //! Planned routes of a small network that was worked by hand.
 
+ghost use Rattle.std.specs.Prelude.{◌≡◌};
+
 use net_reader::read_net;
 use planned_routes::{Owner, planned_routes};
 use srv6_rules::Family;
+use std::process::Abort;
 use v6_addr::parse_prefix;
 
 /// A triangle of A, B and C with a link out of it, and a route of A to B over C.
@@ -25,33 +28,32 @@ route = [{ node = "A", prefix = "fc00:0:b::/48", via = ["ac"] }]
 /// The metrics of the links; the link from C to B is down.
 const METRICS: &[Option<u32>] = &[Some(10), Some(20), Some(1), Some(10), None];
 
+/// That a node has a prefix, which routes of table 0 lead to.
+fn owner(rt: &impl Abort, prefix: &str, node: u32) -> Owner
+    ensures { result.node ≡ node }
+{
+    let prefix = parse_prefix(prefix.as_bytes()).ok().expect(rt, "a prefix");
+    Owner {
+        table: 0,
+        family: Family::V6,
+        prefix,
+        node,
+    }
+}
+
 #[test]
 fn routes_that_are_missing_are_planned(rt: HostRuntime) {
     let alloc = rt.alloc();
     let net = read_net(alloc, TEXT.as_bytes())
         .ok()
         .expect(&rt, "a network");
-    let mut owners = Vec::new(alloc);
-    for (prefix, node) in [("fc00:0:b::/48", 1), ("fc00:0:c::/48", 2)] {
-        let prefix = parse_prefix(prefix.as_bytes()).ok().expect(&rt, "a prefix");
-        let owner = Owner {
-            table: 0,
-            family: Family::V6,
-            prefix,
-            node,
-        };
-        owners.push(owner).ok().expect(&rt, "memory");
-    }
-    assert_eq!(rt; net.nodes(), 3);
-    let routes = planned_routes(
-        alloc,
-        &net,
-        METRICS,
-        owners.as_slice(),
-        net.parts().routes.as_slice(),
-    )
-    .ok()
-    .expect(&rt, "memory");
+    let b = owner(&rt, "fc00:0:b::/48", 1);
+    let c = owner(&rt, "fc00:0:c::/48", 2);
+    assert!(rt; b.node < net.nodes() && c.node < net.nodes());
+    let there = net.parts().routes.as_slice();
+    let routes = planned_routes(alloc, &net, METRICS, &[b, c], there)
+        .ok()
+        .expect(&rt, "memory");
     assert_eq!(rt; routes.len(), 2);
     assert!(rt; routes[0].node == 0 && matches!(routes[0].via.as_slice(), [0, 1]));
     assert!(rt; routes[1].node == 1 && matches!(routes[1].via.as_slice(), [3]));
