@@ -24,7 +24,7 @@ use Rattle.leg_table.specs.Realizes.{headend_place}
 use Rattle.leg_table.specs.PositionSids.{is_sid_at, node_at}
 use Rattle.leg_table.specs.WalkTrace.{TraceEvent}
 use Rattle.leg_table.proofs.TransitFacts.{OriginFacts, origin_from, sid_at, stand_after_append}
-use Rattle.leg_table.proofs.StrictArrivals.{drop-drop}
+use Rattle.leg_table.proofs.StrictArrivals.{drop_drop}
 use Rattle.binding_spec.specs.OwnHands.{most_stages}
 use Rattle.binding_spec.specs.Machines.{End, left_by, end_with}
 use Rattle.tunnel_walks_theory.specs.MachinesTerms.{Got, got_after}
@@ -158,7 +158,7 @@ module _ (net : Network) (keeps : Keeps net) (intent : Intent) (is_intent : IsIn
             started = origin_from net keeps intent is_intent origin.done e.result (omega (arith, done, within, few, a))
                 (subst (λ (n : ℕ). node_at net intent n ≡ Some e.result.node) done stands) behind.place.1 behind.family;
             after = omega (arith, done);
-            left = behind.left ∙ drop-drop position behind.done intent.steps ∙ ap (λ (n : ℕ). drop n intent.steps) done;
+            left = behind.left ∙ drop_drop position behind.done intent.steps ∙ ap (λ (n : ℕ). drop n intent.steps) done;
           }
 
       begins_behind : (p : Packet) → onward_of net intent (Some v) p ≡ Some (pushed_at (place_behind v s) new p)

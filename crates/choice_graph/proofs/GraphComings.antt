@@ -8,7 +8,7 @@ use Rattle.choice_graph.specs.declared.vertices.Found.{Found}
 use Rattle.choice_graph.specs.GraphWalks.{vertex_at}
 use Rattle.choice_graph.specs.GraphWalksTerms.{Picks, later, member_of, End, over, goes, nowhere, walk, walk_first, walk_from, answer_of, AlwaysComes, AlwaysComesFrom, picks_of}
 use Rattle.choice_graph.specs.FoundInGraphs.{found_at, found_from}
-use Rattle.choice_graph.proofs.GraphOptions.{none-some, found_same}
+use Rattle.choice_graph.proofs.GraphOptions.{none_some, found_same}
 use Rattle.choice_graph.proofs.GraphDepths.{found_fixed}
 use Rattle.choice_graph.proofs.GraphWalking.{walk_is, Reaches, sound_first, sound_at, Tight, tight_first, tight_at, Behind, IsComplete, complete_first, complete_at}
 
@@ -44,7 +44,7 @@ module _ (vertices : List Vertex) (start : FirstMove) where
       by_order (inr l) = l
       by_order (inl l) =
           let t = tight_from f e (λ k. 0) in
-          absurd (none-some answer (ap answer_of (sym (t.lost hops_left l)) ∙ always t.picks))
+          absurd (none_some answer (ap answer_of (sym (t.lost hops_left l)) ∙ always t.picks))
 
   abbrev pub IsMost : Found → Type 0
   IsMost f = (hops_left : ℕ) → (f.most ≤ hops_left) ↔ AlwaysComesFrom vertices hops_left start f.answer
@@ -71,7 +71,7 @@ module _ (vertices : List Vertex) (start : FirstMove) where
     where
       there : found_from vertices start ≡ None → (hops_left answer : ℕ) → ¬ AlwaysComesFrom vertices hops_left start answer
       there e hops_left answer always =
-          let c = complete_from hops_left answer always in none-some c.0 (sym e ∙ c.1)
+          let c = complete_from hops_left answer always in none_some c.0 (sym e ∙ c.1)
 
       back : ((hops_left answer : ℕ) → ¬ AlwaysComesFrom vertices hops_left start answer) → (o : Option Found) → found_from vertices start ≡ o
           → found_from vertices start ≡ None

@@ -8,7 +8,7 @@ use Rattle.choice_graph.specs.declared.vertices.Found.{Found}
 use Rattle.choice_graph.specs.GraphWalks.{vertex_of, vertex_at}
 use Rattle.choice_graph.specs.FoundInGraphs.{Finds, found_over, found_by, found_in, found_at, lowered}
 use Rattle.choice_graph.specs.FoundInGraphsTerms.{found_under, StandsOver}
-use Rattle.choice_graph.proofs.GraphOptions.{map_some, some_same, none-some, option_same}
+use Rattle.choice_graph.proofs.GraphOptions.{map_some, some_same, none_some, option_same}
 use Rattle.choice_graph.proofs.GraphJoins.{over_taken, by_grows, by_under}
 
 -- ---- counting what is known
@@ -81,7 +81,7 @@ known_same finds more all (suc k) h v l f e =
 
 module _ (vertices : List Vertex) where
   pub grows : (depth : ℕ) → Grows (found_in vertices depth) (found_in vertices (suc depth))
-  grows zero v f e = absurd (none-some f e)
+  grows zero v f e = absurd (none_some f e)
   grows (suc depth) v f e = by_grows (found_in vertices depth) (found_in vertices (suc depth)) (grows depth) true (vertex_at vertices v) f e
 
   pub grows_to : (high low : ℕ) → low ≤ high → Grows (found_in vertices low) (found_in vertices high)
@@ -117,10 +117,10 @@ module _ (vertices : List Vertex) where
 
   -- nothing is found at a number that the graph doesn't have
   past : (depth v : ℕ) (f : Found) → length vertices ≤ v → found_in vertices depth v ≡ Some f → ⊥
-  past zero v f h e = none-some f e
+  past zero v f h e = none_some f e
   past (suc depth) v f h e =
       let lost : vertex_at vertices v ≡ Lost = ap vertex_of (slice_get_past vertices v h) in
-      none-some f (ap (found_by true (found_in vertices depth)) (sym lost) ∙ e)
+      none_some f (ap (found_by true (found_in vertices depth)) (sym lost) ∙ e)
 
   -- each look that is deeper by one finds one vertex more, or none for ever
   deepens : (depth : ℕ) → (depth ≤ known (found_in vertices depth) (length vertices)) ⊎ IsStable depth
@@ -176,12 +176,12 @@ module _ (vertices : List Vertex) where
   deeper_same depth v h = option_same (found_in vertices depth v) (found_at vertices v) (found_deep depth v) (grows_to depth (length vertices) h v)
 
   pub fewer : (depth v : ℕ) (f : Found) → found_in vertices depth v ≡ Some f → f.most < depth
-  fewer zero v f e = absurd (none-some f e)
+  fewer zero v f e = absurd (none_some f e)
   fewer (suc depth) v f e = by_vertex (fewer depth) (vertex_at vertices v) e
     where
       by_vertex : ((w : ℕ) (g : Found) → found_in vertices depth w ≡ Some g → g.most < depth) → (vertex : Vertex)
           → found_by true (found_in vertices depth) vertex ≡ Some f → f.most < suc depth
-      by_vertex below Lost e = absurd (none-some f e)
+      by_vertex below Lost e = absurd (none_some f e)
       by_vertex below (Stop answer) e =
           let m : 0 ≡ f.most = ap (λ (x : Found). x.most) (some_same (record { most = 0; answer = answer }) f e) in omega arith
       by_vertex below (Over set) e =
@@ -200,7 +200,7 @@ found_lost vertices (suc depth) w lost = ap (found_by true (found_in vertices de
 module _ (under answer_under : ℕ → ℕ) (vertices nodes : List Vertex) (stands : StandsOver under answer_under vertices nodes) where
   under_in : (depth v : ℕ) (f : Found) → found_in vertices depth v ≡ Some f
       → found_in nodes depth (under v) ≡ Some (found_under answer_under f)
-  under_in zero v f e = absurd (none-some f e)
+  under_in zero v f e = absurd (none_some f e)
   under_in (suc depth) v f e =
       by_under vertices under answer_under (found_in vertices depth) (found_in nodes depth) (under_in depth) (found_lost vertices depth) true
       (vertex_at vertices v) (vertex_at nodes (under v)) f (stands v) e

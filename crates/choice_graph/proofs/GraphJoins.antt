@@ -9,7 +9,7 @@ use Rattle.choice_graph.specs.declared.vertices.Found.{Found}
 use Rattle.choice_graph.specs.GraphWalks.{vertex_at}
 use Rattle.choice_graph.specs.FoundInGraphs.{Finds, joined, found_over, found_by, lowered}
 use Rattle.choice_graph.specs.FoundInGraphsTerms.{found_under, IsOver}
-use Rattle.choice_graph.proofs.GraphOptions.{map_some, then_some, if_some, some_same, none-some, found_same}
+use Rattle.choice_graph.proofs.GraphOptions.{map_some, then_some, if_some, some_same, none_some, found_same}
 
 -- at a vertex something is found that has an answer, and isn't above a number
 pub record AgreesAt (finds : Finds) (answer most w : ℕ) : Type 0 where
@@ -50,7 +50,7 @@ joined_agrees finds f (w ∷ ws) h e =
 
 pub over_agrees : (finds : Finds) (set : List ℕ) (h : Found) → found_over finds set ≡ Some h
     → (i : ℕ) → i < length set → AgreesAt finds h.answer h.most (slice_index set i)
-over_agrees finds [] h e i l = absurd (none-some h e)
+over_agrees finds [] h e i l = absurd (none_some h e)
 over_agrees finds (w ∷ ws) h e i l =
     let first = then_some (λ (f : Found). joined finds f ws) (finds w) h e in
     let all = joined_agrees finds first.0 ws h first.2 in
@@ -85,7 +85,7 @@ joined_taken finds f (w ∷ ws) h e =
         inl (e ∙ found_same (record { most = max f.most g.most; answer = f.answer }) f m refl)
 
 pub over_taken : (finds : Finds) (set : List ℕ) (h : Found) → found_over finds set ≡ Some h → TakenAt finds h set
-over_taken finds [] h e = absurd (none-some h e)
+over_taken finds [] h e = absurd (none_some h e)
 over_taken finds (w ∷ ws) h e =
     let first = then_some (λ (f : Found). joined finds f ws) (finds w) h e in
     by_rest first.0 first.1 (joined_taken finds first.0 ws h first.2)
@@ -148,7 +148,7 @@ joined_under under au finds below all f (w ∷ ws) h e =
 
 over_under : (under answer_under : ℕ → ℕ) (finds below : Finds) → IsUnder under answer_under finds below
     → (set : List ℕ) (h : Found) → found_over finds set ≡ Some h → found_over below (map under set) ≡ Some (found_under answer_under h)
-over_under under au finds below all [] h e = absurd (none-some h e)
+over_under under au finds below all [] h e = absurd (none_some h e)
 over_under under au finds below all (w ∷ ws) h e =
     let first = then_some (λ (f : Found). joined finds f ws) (finds w) h e in
     let open_one : found_over below (under w ∷ map under ws) ≡ joined below (found_under au first.0) (map under ws)
@@ -159,13 +159,13 @@ pub by_under : (graph : List Vertex) (under answer_under : ℕ → ℕ) (finds b
     → ((w : ℕ) → vertex_at graph w ≡ Lost → finds w ≡ None)
     → (lowers : Bool) (vertex under_vertex : Vertex) (f : Found) → IsOver graph under answer_under vertex under_vertex
     → found_by lowers finds vertex ≡ Some f → found_by lowers below under_vertex ≡ Some (found_under answer_under f)
-by_under graph under au finds below all none lowers Lost us f is e = absurd (none-some f e)
+by_under graph under au finds below all none lowers Lost us f is e = absurd (none_some f e)
 by_under graph under au finds below all none lowers (Stop answer) us f is e =
     ap (found_by lowers below) is ∙ ap (option_map (found_under au)) e
 by_under graph under au finds below all none lowers (Over set) us f (inl lost) e =
     let m = map_some (lowered lowers) (found_over finds set) f e in
     let at = over_agrees finds set m.0 m.1 lost.0 lost.1 in
-    absurd (none-some at.found (sym (none (slice_index set lost.0) lost.2) ∙ at.here))
+    absurd (none_some at.found (sym (none (slice_index set lost.0) lost.2) ∙ at.here))
 by_under graph under au finds below all none lowers (Over set) us f (inr is) e =
     let m = map_some (lowered lowers) (found_over finds set) f e in
     let one = over_under under au finds below all set m.0 m.1 in

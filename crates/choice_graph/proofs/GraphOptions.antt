@@ -19,8 +19,8 @@ if_some false o y h = absurd (cc)
 pub some_same : {X : Type 0} (x y : X) → Path (Option X) (Some x) (Some y) → x ≡ y
 some_same x y h = cc
 
-pub none-some : {X : Type 0} (x : X) → Path (Option X) None (Some x) → ⊥
-none-some x h = absurd (cc)
+pub none_some : {X : Type 0} (x : X) → Path (Option X) None (Some x) → ⊥
+none_some x h = absurd (cc)
 
 -- two options with the same values are the same
 pub option_same : {X : Type 0} (o p : Option X) → ((x : X) → o ≡ Some x → p ≡ Some x) → ((x : X) → p ≡ Some x → o ≡ Some x) → o ≡ p

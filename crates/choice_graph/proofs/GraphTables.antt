@@ -8,7 +8,7 @@ use Rattle.choice_graph.specs.declared.vertices.Found.{Found}
 use Rattle.choice_graph.specs.GraphWalks.{vertex_of, vertex_at}
 use Rattle.choice_graph.specs.FoundInGraphs.{found_over, found_by, found_in, found_at, found_from}
 use Rattle.choice_graph.specs.VertexTables.{known_at, IsSound, AreFound, AreLow, IsSettledAt, unknown, Adds}
-use Rattle.choice_graph.proofs.GraphOptions.{some_same, none-some, option_same}
+use Rattle.choice_graph.proofs.GraphOptions.{some_same, none_some, option_same}
 use Rattle.choice_graph.proofs.GraphJoins.{over_taken, by_grows}
 use Rattle.choice_graph.proofs.GraphDepths.{fewer, found_deep, found_fixed}
 
@@ -30,13 +30,13 @@ unknown_set : (table : List (Option Found)) (v : ℕ) (f : Found) → v < length
     → unknown table ≡ suc (unknown (set table v (Some f)))
 unknown_set [] v f l e = absurd (omega arith)
 unknown_set (None ∷ table) zero f l e = refl
-unknown_set (Some g ∷ table) zero f l e = absurd (none-some g (sym e))
+unknown_set (Some g ∷ table) zero f l e = absurd (none_some g (sym e))
 unknown_set (None ∷ table) (suc v) f l e = ap (λ (k : ℕ). suc k) (unknown_set table v f (omega arith) e)
 unknown_set (Some g ∷ table) (suc v) f l e = unknown_set table v f (omega arith) e
 
 known_none : (n v : ℕ) (f : Found) → known_at (replicate n None) v ≡ Some f → ⊥
-known_none zero v f e = none-some f e
-known_none (suc n) zero f e = none-some f e
+known_none zero v f e = none_some f e
+known_none (suc n) zero f e = none_some f e
 known_none (suc n) (suc v) f e = known_none n v f e
 
 -- ---- tables of a graph
@@ -98,10 +98,10 @@ module _ (vertices : List Vertex) where
           let same : g ≡ f = some_same g f (sym (sound v g is) ∙ found_deep vertices (suc depth) v f e) in
           is ∙ ap (λ (x : Found). Some x) same
       by_known depth v f less e None is =
-          absurd (none-some f (sym (settled_at v is) ∙ by_grows (found_in vertices depth) (known_at table) less true (vertex_at vertices v) f e))
+          absurd (none_some f (sym (settled_at v is) ∙ by_grows (found_in vertices depth) (known_at table) less true (vertex_at vertices v) f e))
 
       known : (depth v : ℕ) (f : Found) → found_in vertices depth v ≡ Some f → known_at table v ≡ Some f
-      known zero v f e = absurd (none-some f e)
+      known zero v f e = absurd (none_some f e)
       known (suc depth) v f e = by_known depth v f (known depth) e (known_at table v) refl
 
   pub start_found : (table : List (Option Found)) (start : FirstMove) → AreFound vertices table

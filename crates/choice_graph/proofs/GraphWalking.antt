@@ -7,7 +7,7 @@ use Rattle.choice_graph.specs.declared.vertices.Found.{Found}
 use Rattle.choice_graph.specs.GraphWalks.{vertex_at}
 use Rattle.choice_graph.specs.GraphWalksTerms.{Picks, later, End, over, nowhere, walk, walk_first, answer_of, AlwaysComes}
 use Rattle.choice_graph.specs.FoundInGraphs.{Finds, found_over, found_by, found_in, found_at, lowered}
-use Rattle.choice_graph.proofs.GraphOptions.{map_some, some_same, none-some}
+use Rattle.choice_graph.proofs.GraphOptions.{map_some, some_same, none_some}
 use Rattle.choice_graph.proofs.GraphJoins.{over_agrees, over_taken, over_complete, FoundAt}
 use Rattle.choice_graph.proofs.GraphDepths.{found_deep}
 
@@ -48,7 +48,7 @@ pub record Reaches (f : Found) (hops_left : ℕ) (o : Option End) : Type 0 where
 sound_over : (finds : Finds) (on : Picks → ℕ → Option End) (hops_left : ℕ)
     → ((w : ℕ) (g : Found) → finds w ≡ Some g → g.most ≤ hops_left → (picks : Picks) → Reaches g hops_left (on picks w))
     → (set : List ℕ) (h : Found) → found_over finds set ≡ Some h → h.most ≤ hops_left → (picks : Picks) → Reaches h hops_left (over on picks set)
-sound_over finds on hops_left all [] h e l picks = absurd (none-some h e)
+sound_over finds on hops_left all [] h e l picks = absurd (none_some h e)
 sound_over finds on hops_left all (w ∷ ws) h e l picks =
     let i : ℕ = picks 0 % length (w ∷ ws) in
     let inside : i < length (w ∷ ws) = mod-lt (picks 0) (omega arith) in
@@ -65,7 +65,7 @@ module _ (vertices : List Vertex) where
 
   pub sound_first : (lowers : Bool) (finds : Finds) → IsSound finds → (vertex : Vertex) (f : Found) → found_by lowers finds vertex ≡ Some f
       → (hops_left : ℕ) → f.most ≤ hops_left → (picks : Picks) → Reaches f hops_left (walk_first vertices lowers hops_left picks vertex)
-  sound_first lowers finds all Lost f e hops_left l picks = absurd (none-some f e)
+  sound_first lowers finds all Lost f e hops_left l picks = absurd (none_some f e)
   sound_first lowers finds all (Stop answer) f e hops_left l picks =
       record {
         end = record { answer = answer; hops_left = hops_left; picks = picks };
@@ -92,7 +92,7 @@ module _ (vertices : List Vertex) where
           record { end = r.end; here = r.here; same = r.same ∙ ap (λ (x : Found). x.answer) same; spent = omega arith }
 
   sound_in : (depth : ℕ) → IsSound (found_in vertices depth)
-  sound_in zero v f e hops_left l picks = absurd (none-some f e)
+  sound_in zero v f e hops_left l picks = absurd (none_some f e)
   sound_in (suc depth) v f e hops_left l picks =
       subst (Reaches f hops_left) (sym (walk_is vertices hops_left picks v))
       (sound_first true (found_in vertices depth) (sound_in depth) (vertex_at vertices v) f e hops_left l picks)
@@ -123,7 +123,7 @@ module _ (vertices : List Vertex) where
 
   pub tight_first : (lowers : Bool) (finds : Finds) → IsTight finds → (vertex : Vertex) (f : Found) → found_by lowers finds vertex ≡ Some f
       → (rest : Picks) → Tight f (λ hops_left picks. walk_first vertices lowers hops_left picks vertex) rest
-  tight_first lowers finds all Lost f e rest = absurd (none-some f e)
+  tight_first lowers finds all Lost f e rest = absurd (none_some f e)
   tight_first lowers finds all (Stop answer) f e rest =
       let stop : Found = record { most = 0; answer = answer } in
       let here : Tight stop (λ hops_left picks. walk_first vertices lowers hops_left picks (Stop answer)) rest
@@ -161,7 +161,7 @@ module _ (vertices : List Vertex) where
           fails (suc hops_left) l = t.lost hops_left (omega arith)
 
   tight_in : (depth : ℕ) → IsTight (found_in vertices depth)
-  tight_in zero v f e rest = absurd (none-some f e)
+  tight_in zero v f e rest = absurd (none_some f e)
   tight_in (suc depth) v f e rest =
       let t = tight_first true (found_in vertices depth) (tight_in depth) (vertex_at vertices v) f e rest in
       record {
@@ -179,7 +179,7 @@ complete_over : (finds : Finds) (on : Picks → ℕ → Option End) (answer : �
     → ((w : ℕ) → ((picks : Picks) → answer_of (on picks w) ≡ Some answer) → FoundAt finds answer w)
     → ((picks : Picks) → answer_of (over on picks set) ≡ Some answer)
     → (h : Found) × (found_over finds set ≡ Some h) × (h.answer ≡ answer)
-complete_over finds on answer [] all always = absurd (none-some answer (always (λ k. 0)))
+complete_over finds on answer [] all always = absurd (none_some answer (always (λ k. 0)))
 complete_over finds on answer (w ∷ ws) all always =
     over_complete finds (w ∷ ws) answer (omega arith)
     (λ i l. all (slice_index (w ∷ ws) i)
@@ -198,9 +198,9 @@ module _ (vertices : List Vertex) where
   pub complete_first : (lowers : Bool) (hops_left : ℕ) (finds : Finds) (vertex : Vertex) (answer : ℕ) → Behind lowers hops_left (IsComplete finds)
       → ((picks : Picks) → answer_of (walk_first vertices lowers hops_left picks vertex) ≡ Some answer)
       → (f : Found) × (found_by lowers finds vertex ≡ Some f) × (f.answer ≡ answer)
-  complete_first false hops_left finds Lost answer all always = absurd (none-some answer (always (λ k. 0)))
-  complete_first true zero finds Lost answer all always = absurd (none-some answer (always (λ k. 0)))
-  complete_first true (suc hops_left) finds Lost answer all always = absurd (none-some answer (always (λ k. 0)))
+  complete_first false hops_left finds Lost answer all always = absurd (none_some answer (always (λ k. 0)))
+  complete_first true zero finds Lost answer all always = absurd (none_some answer (always (λ k. 0)))
+  complete_first true (suc hops_left) finds Lost answer all always = absurd (none_some answer (always (λ k. 0)))
   complete_first false hops_left finds (Stop a) answer all always =
       (record { most = 0; answer = a }, refl, some_same a answer (always (λ k. 0)))
   complete_first true zero finds (Stop a) answer all always =
@@ -211,7 +211,7 @@ module _ (vertices : List Vertex) where
       let c = complete_over finds (walk vertices hops_left) answer set (λ w. all w answer) always in
       (lowered false c.0, ap (option_map (lowered false)) c.1, c.2)
   complete_first true zero finds (Over set) answer all always =
-      absurd (none-some answer (ap answer_of (sym (over_nowhere (λ k. 0) set)) ∙ always (λ k. 0)))
+      absurd (none_some answer (ap answer_of (sym (over_nowhere (λ k. 0) set)) ∙ always (λ k. 0)))
   complete_first true (suc hops_left) finds (Over set) answer all always =
       let c = complete_over finds (walk vertices hops_left) answer set (λ w. all w answer) always in
       (lowered true c.0, ap (option_map (lowered true)) c.1, c.2)

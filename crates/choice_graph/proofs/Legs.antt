@@ -5,7 +5,7 @@ use Rattle.choice_graph.specs.declared.vertices.Found.{Found}
 use Rattle.choice_graph.specs.GraphWalksTerms.{Picks, End, walk_from, answer_of, AlwaysComesFrom}
 use Rattle.choice_graph.specs.FoundInGraphs.{found_from}
 use Rattle.choice_graph.specs.GraphLegs.{Leg, executed, done_behind, goes_through, AlwaysGoesThrough, leg_need, need_of, need}
-use Rattle.choice_graph.proofs.GraphOptions.{map_some, then_some, if_some, some_same, none-some, both_true, true_both}
+use Rattle.choice_graph.proofs.GraphOptions.{map_some, then_some, if_some, some_same, none_some, both_true, true_both}
 use Rattle.choice_graph.proofs.GraphComings.{sound_from, tight_from, complete_from, needed_from}
 
 -- ---- the lowerings of an execution
@@ -140,7 +140,7 @@ pub need_none : (legs : List Leg) → (need legs ≡ None) ↔ ((hops_left : ℕ
 need_none legs = (there, λ never. back never (need legs) refl)
   where
     there : need legs ≡ None → (hops_left : ℕ) → ¬ AlwaysGoesThrough legs hops_left
-    there e hops_left always = let c = through_needed legs hops_left always in none-some c.0 (sym e ∙ c.1)
+    there e hops_left always = let c = through_needed legs hops_left always in none_some c.0 (sym e ∙ c.1)
 
     back : ((hops_left : ℕ) → ¬ AlwaysGoesThrough legs hops_left) → (o : Option ℕ) → need legs ≡ o → need legs ≡ None
     back never None e = e

@@ -6,7 +6,7 @@ use Rattle.choice_graph.specs.declared.vertices.FirstMove.{FirstMove}
 use Rattle.choice_graph.specs.declared.vertices.Found.{Found}
 use Rattle.choice_graph.specs.FoundInGraphs.{found_at, found_by, found_from, found_over, lowered}
 use Rattle.choice_graph.specs.FoundInGraphsTerms.{IsOver, StandsOver, found_under}
-use Rattle.choice_graph.proofs.GraphOptions.{map_some, some_same, none-some}
+use Rattle.choice_graph.proofs.GraphOptions.{map_some, some_same, none_some}
 use Rattle.choice_graph.proofs.GraphJoins.{by_under, over_taken}
 use Rattle.choice_graph.proofs.GraphDepths.{fewer, found_lost, under_at, under_few}
 
@@ -26,7 +26,7 @@ module _ (under answer_under : ℕ → ℕ) (vertices nodes : List Vertex) (stan
   few_from_law start f e = by_vertex start.lowers start.vertex e
     where
       by_vertex : (lowers : Bool) (vertex : Vertex) → found_by lowers (found_at vertices) vertex ≡ Some f → f.most ≤ length nodes
-      by_vertex lowers Lost e = absurd (none-some f e)
+      by_vertex lowers Lost e = absurd (none_some f e)
       by_vertex lowers (Stop answer) e =
           let m : 0 ≡ f.most = ap (λ (x : Found). x.most) (some_same (record { most = 0; answer = answer }) f e) in omega arith
       by_vertex lowers (Over set) e =

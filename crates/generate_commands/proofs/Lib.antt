@@ -1,4 +1,4 @@
-pub mod Counting
+pub mod WalksCounted
 pub mod Generating
 pub mod GenerateOneOutput
 pub mod PublicLaws

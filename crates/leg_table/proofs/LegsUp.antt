@@ -45,7 +45,7 @@ use Rattle.leg_table.proofs.TransitFacts.{TransitFacts, transit_facts_law, Origi
 use Rattle.leg_table.proofs.NextTransits.{NextTransit, leg_transit, finish_transit, middle_sid, last_sid}
 use Rattle.leg_table.proofs.ListPlaces.{address_at}
 use Rattle.leg_table.proofs.PathNames.{shape_prefix}
-use Rattle.leg_table.proofs.StrictArrivals.{drop-drop}
+use Rattle.leg_table.proofs.StrictArrivals.{drop_drop}
 use Rattle.leg_table.proofs.StrictHanding.{handed_stage, handed_behind, transit_walk}
 use Rattle.leg_table.proofs.StrictExecutions.{step_parts}
 use Rattle.leg_table.proofs.Segments.{behind_again, mid_onward, last_exposes, left_behind, behind_alone}
@@ -59,8 +59,8 @@ rest_is steps ts us position count left e f g h p few =
     let b = length-drop count (drop position steps) in
     let c = length-drop position steps in
     let d : position + count + (length ts - length us) ≡ length steps - left = omega arith in
-    f ∙ ap (drop (length ts - length us)) (e ∙ drop-drop position count steps)
-    ∙ drop-drop (position + count) (length ts - length us) steps
+    f ∙ ap (drop (length ts - length us)) (e ∙ drop_drop position count steps)
+    ∙ drop_drop (position + count) (length ts - length us) steps
     ∙ ap (λ (k : ℕ). drop k steps) d
 
 -- ---- a SID that exposes a packet binds no policy

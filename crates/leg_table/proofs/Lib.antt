@@ -1,4 +1,4 @@
-pub mod Units
+pub mod NextUnits
 pub mod OwnPlaces
 pub mod FlatNets
 pub mod StrictChoices
@@ -40,5 +40,5 @@ pub mod ListShapes
 pub mod PathNames
 pub mod Meanings
 pub mod StrictMeanings
-pub mod Traces
+pub mod TraceMeetings
 pub mod PublicLaws

@@ -25,7 +25,7 @@ use Rattle.list_pack.specs.declared.types.Container.TheVariants as kinds
 use Rattle.list_pack.specs.SidLists.{IsSidPrefix, IsLegalList, FollowOn, KeepsNests, container_in, kind_csid, list_in, list_sid, prefixes_in, prefixes_of, sid_block}
 use Rattle.leg_table.specs.NestLegsTerms.{IsListSid, ContainerKeeps, ListKeeps, PlaceKeeps}
 use Rattle.leg_table.proofs.StrictOptions.{some_same}
-use Rattle.leg_table.proofs.Units.{held_unit, unit_after, unit_last}
+use Rattle.leg_table.proofs.NextUnits.{held_unit, unit_after, unit_last}
 
 -- ---- along the places of a list
 

@@ -13,7 +13,7 @@ pub use Rattle.leg_table.proofs.StrictArrivals.{Arrives, AtEnd, transit_arrives,
 pub use Rattle.leg_table.proofs.StrictLaws.{shape_middle, shape_address, comes_by, strict_laws}
 pub use Rattle.leg_table.proofs.Meanings.{realized, hands_realizes, means_as, kind_means}
 pub use Rattle.leg_table.proofs.StrictMeanings.{strict_leg_laws, strict_kind_laws, legs_mean, path_realizes, list_path}
-pub use Rattle.leg_table.proofs.Traces.{matches_by, left_parts, handed_trace}
+pub use Rattle.leg_table.proofs.TraceMeetings.{matches_by, left_parts, handed_trace}
 pub use Rattle.leg_table.proofs.StrictPaths.{Names, PathFrom, path_hands, path_over, path_down}
 pub use Rattle.leg_table.proofs.ListPlaces.{active_is, next_none, next_some, before_from, before_last_law, before_next, before_first, own_here_law, address_at, sids_list}
 pub use Rattle.leg_table.proofs.OwnPlaces.{first_keeps, next_keeps, list_keeps, own_at, first_own}

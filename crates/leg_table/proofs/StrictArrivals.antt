@@ -25,11 +25,11 @@ use Rattle.leg_table.proofs.StrictOptions.{drop_first, some_same, if_some}
 use Rattle.leg_table.proofs.TransitFacts.{OriginFacts, transit_facts_law, intent_stands, stand_after_append}
 use Rattle.leg_table.proofs.Placing.{step_lands}
 
-pub drop-drop : {X : Type 0} (n m : ℕ) (xs : List X) → drop m (drop n xs) ≡ drop (n + m) xs
-drop-drop zero m xs = let e : 0 + m ≡ m = omega arith in rw e refl
-drop-drop (suc n) zero [] = let e : suc n + 0 ≡ suc n = omega arith in rw e refl
-drop-drop {X} (suc n) (suc m) [] = let e : suc n + suc m ≡ suc (n + suc m) = omega arith in rw e refl
-drop-drop {X} (suc n) m (x ∷ xs) = let e : suc n + m ≡ suc (n + m) = omega arith in rw e (drop-drop n m xs)
+pub drop_drop : {X : Type 0} (n m : ℕ) (xs : List X) → drop m (drop n xs) ≡ drop (n + m) xs
+drop_drop zero m xs = let e : 0 + m ≡ m = omega arith in rw e refl
+drop_drop (suc n) zero [] = let e : suc n + 0 ≡ suc n = omega arith in rw e refl
+drop_drop {X} (suc n) (suc m) [] = let e : suc n + suc m ≡ suc (n + suc m) = omega arith in rw e refl
+drop_drop {X} (suc n) m (x ∷ xs) = let e : suc n + m ≡ suc (n + m) = omega arith in rw e (drop_drop n m xs)
 
 module _ (net : Network) (keeps : Keeps net) (intent : Intent) (is_intent : IsIntent net intent) where
   -- where a transit ends: the SID stands there, and so many steps are done
@@ -68,7 +68,7 @@ module _ (net : Network) (keeps : Keeps net) (intent : Intent) (is_intent : IsIn
             ∙ ap (option_and_then (λ k. stand_after net k (take f.count (drop position intent.steps)))) s.stands
             ∙ f.stands ∙ ap Some (sym sid.2);
         rest = r.left;
-        rest_is = sym (drop-drop position f.count intent.steps) ∙ sym f.left;
+        rest_is = sym (drop_drop position f.count intent.steps) ∙ sym f.left;
         left_is = left_is;
       }
 

@@ -63,20 +63,20 @@ taken_more bytes taken more at asks most passes ended read_failed write_failed w
 
 -- what a read does, by its beginning and what it gives
 
-begins-ok : (bytes taken : List ℕ) (at : ℕ) (asks : List Asked) (a : Asked) (most passes : ℕ) (ended read_failed write_failed : Bool) (ok : Bool)
+begins_ok : (bytes taken : List ℕ) (at : ℕ) (asks : List Asked) (a : Asked) (most passes : ℕ) (ended read_failed write_failed : Bool) (ok : Bool)
     → a.given ≡ at → a.taken ≡ length taken → 0 < passes
     → BeginsRead ok (seen_of bytes at taken asks most passes ended read_failed write_failed)
     (seen_of bytes at taken (if ok then asks ++ a ∷ [] else asks) most (passes - 1) ended read_failed write_failed)
-begins-ok bytes taken at asks a most passes ended read_failed write_failed true here all some =
+begins_ok bytes taken at asks a most passes ended read_failed write_failed true here all some =
     (some, begun_read bytes taken at asks a most passes ended read_failed write_failed here all)
-begins-ok bytes taken at asks a most passes ended read_failed write_failed false here all some = refl
+begins_ok bytes taken at asks a most passes ended read_failed write_failed false here all some = refl
 
 pub begins : (bytes taken : List ℕ) (at : ℕ) (asks asks_new : List Asked) (a : Asked) (most passes : ℕ) (ended read_failed write_failed : Bool) (ok result : Bool) (old : MemTalk)
     → seen_of bytes at taken asks most passes ended read_failed write_failed ≡ old → asks_new ≡ (if ok then asks ++ a ∷ [] else asks)
     → a.given ≡ at → a.taken ≡ length taken → 0 < passes → result ≡ ok
     → BeginsRead result old (seen_of bytes at taken asks_new most (passes - 1) ended read_failed write_failed)
 begins bytes taken at asks asks_new a most passes ended read_failed write_failed ok result old view new here all some same =
-    let first = begins-ok bytes taken at asks a most passes ended read_failed write_failed ok here all some in
+    let first = begins_ok bytes taken at asks a most passes ended read_failed write_failed ok here all some in
     let second : BeginsRead ok (seen_of bytes at taken asks most passes ended read_failed write_failed) (seen_of bytes at taken asks_new most (passes - 1) ended read_failed write_failed) =
     subst (λ (l : List Asked). BeginsRead ok (seen_of bytes at taken asks most passes ended read_failed write_failed) (seen_of bytes at taken l most (passes - 1) ended read_failed write_failed)) (sym new) first in
     let third : BeginsRead result (seen_of bytes at taken asks most passes ended read_failed write_failed) (seen_of bytes at taken asks_new most (passes - 1) ended read_failed write_failed) =

@@ -1,5 +1,5 @@
 pub mod Asks
 pub mod Ends
-pub mod Feeding
+pub mod PiecesFed
 pub mod Steps
 pub mod Talking

@@ -13,12 +13,12 @@ use Rattle.line_talk.specs.declared.desk.Turn.TheVariants as turns
 
 -- ---- bytes that are said in parts
 
-said_more-nil : (t : Talk) → said_more [] t ≡ t
-said_more-nil t = ap (λ (s : List ℕ). record t { said = s }) (append-nil t.said)
+said_more_nil : (t : Talk) → said_more [] t ≡ t
+said_more_nil t = ap (λ (s : List ℕ). record t { said = s }) (append-nil t.said)
 
 pub said_none_of : (talk : Option Talk) → talk ≡ option_map (said_more []) talk
 said_none_of None = refl
-said_none_of (Some t) = ap Some (sym (said_more-nil t))
+said_none_of (Some t) = ap Some (sym (said_more_nil t))
 
 said_both : (bytes more : List ℕ) (talk : Option Talk) → option_map (said_more more) (option_map (said_more bytes) talk) ≡ option_map (said_more (bytes ++ more)) talk
 said_both bytes more None = refl

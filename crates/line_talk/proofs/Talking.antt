@@ -74,53 +74,53 @@ talks_none r s old b = (
 
 -- ---- replies that are more answer the asks before
 
-prompt-longer : (replies more : List (List ℕ)) (ask : Ask) → IsPrompt replies ask → IsPrompt (replies ++ more) ask
-prompt-longer replies more ask p =
+prompt_longer : (replies more : List (List ℕ)) (ask : Ask) → IsPrompt replies ask → IsPrompt (replies ++ more) ask
+prompt_longer replies more ask p =
     let count = length (whole_lines ask.heard) in (
       omega (arith, p.0, length-append replies more),
       p.1 ∙ ap text_of (sym (take-append-le count replies more p.0)),
     )
 
-prompt_longer : (replies more : List (List ℕ)) (asks : List Ask) → AllByRecursion (IsPrompt replies) asks → AllByRecursion (IsPrompt (replies ++ more)) asks
-prompt_longer replies more [] all = tt
-prompt_longer replies more (ask ∷ asks) all = (prompt-longer replies more ask all.0, prompt_longer replies more asks all.1)
+prompts_longer : (replies more : List (List ℕ)) (asks : List Ask) → AllByRecursion (IsPrompt replies) asks → AllByRecursion (IsPrompt (replies ++ more)) asks
+prompts_longer replies more [] all = tt
+prompts_longer replies more (ask ∷ asks) all = (prompt_longer replies more ask all.0, prompts_longer replies more asks all.1)
 
-all-snoc : (P : Ask → Type 0) (asks : List Ask) (ask : Ask) → AllByRecursion P asks → P ask → AllByRecursion P (asks ++ ask ∷ [])
-all-snoc P [] ask all last = (last, tt)
-all-snoc P (a ∷ asks) ask all last = (all.0, all-snoc P asks ask all.1 last)
+all_snoc : (P : Ask → Type 0) (asks : List Ask) (ask : Ask) → AllByRecursion P asks → P ask → AllByRecursion P (asks ++ ask ∷ [])
+all_snoc P [] ask all last = (last, tt)
+all_snoc P (a ∷ asks) ask all last = (all.0, all_snoc P asks ask all.1 last)
 
-ask-prompt : (heard said : List ℕ) (replies : List (List ℕ)) → length replies ≡ length (whole_lines heard) → said ≡ text_of replies
+ask_prompt : (heard said : List ℕ) (replies : List (List ℕ)) → length replies ≡ length (whole_lines heard) → said ≡ text_of replies
     → IsPrompt replies (record { heard = heard; said = said })
-ask-prompt heard said replies size e =
+ask_prompt heard said replies size e =
     (omega (arith, size), e ∙ ap text_of (sym (take_all (length (whole_lines heard)) replies (omega (arith, size)))))
 
 -- the next ask finds all answered, and so do those before, whatever replies come
-asks-prompt : {State : Type 0} (r : Rules State) (first : State) (count : ℕ) (kept : Option (List ℕ)) (waiting : List ℕ) (s : State) (t : Talk) (more : List (List ℕ)) (piece : List ℕ)
+asks_prompt : {State : Type 0} (r : Rules State) (first : State) (count : ℕ) (kept : Option (List ℕ)) (waiting : List ℕ) (s : State) (t : Talk) (more : List (List ℕ)) (piece : List ℕ)
     → (st : Stands r first count kept waiting s t) → AllByRecursion (IsPrompt (st.replies ++ more)) (heard_more piece t).asks
-asks-prompt r first count kept waiting s t more piece st =
-    prompt_longer st.replies more (t.asks ++ record { heard = t.heard; said = t.said } ∷ [])
-    (all-snoc (IsPrompt st.replies) t.asks (record { heard = t.heard; said = t.said }) st.prompt
-    (ask-prompt t.heard t.said st.replies (all_reply_length r first s (whole_lines t.heard) st.replies st.threaded) st.said))
+asks_prompt r first count kept waiting s t more piece st =
+    prompts_longer st.replies more (t.asks ++ record { heard = t.heard; said = t.said } ∷ [])
+    (all_snoc (IsPrompt st.replies) t.asks (record { heard = t.heard; said = t.said }) st.prompt
+    (ask_prompt t.heard t.said st.replies (all_reply_length r first s (whole_lines t.heard) st.replies st.threaded) st.said))
 
 -- ---- which lines were heard
 
-not-end : (piece : List ℕ) → 0 < length piece → (length piece == 0) ≡ false
-not-end [] some = absurd (omega (arith, some))
-not-end (byte ∷ piece) some = search rules
+not_end : (piece : List ℕ) → 0 < length piece → (length piece == 0) ≡ false
+not_end [] some = absurd (omega (arith, some))
+not_end (byte ∷ piece) some = search rules
 
-heard-whole : (t : Talk) → t.ended ≡ false → heard_lines t ≡ whole_lines t.heard
-heard-whole t e = ap (λ (b : Bool). if b then lines t.heard else whole_lines t.heard) e
+heard_whole : (t : Talk) → t.ended ≡ false → heard_lines t ≡ whole_lines t.heard
+heard_whole t e = ap (λ (b : Bool). if b then lines t.heard else whole_lines t.heard) e
 
-heard-piece : (piece : List ℕ) (t : Talk) → 0 < length piece → heard_lines (heard_more piece t) ≡ whole_lines t.heard ++ whole_lines_from (last_line t.heard) piece
-heard-piece piece t some = heard-whole (heard_more piece t) (not-end piece some) ∙ whole_append [] t.heard piece
+heard_piece : (piece : List ℕ) (t : Talk) → 0 < length piece → heard_lines (heard_more piece t) ≡ whole_lines t.heard ++ whole_lines_from (last_line t.heard) piece
+heard_piece piece t some = heard_whole (heard_more piece t) (not_end piece some) ∙ whole_append [] t.heard piece
 
-heard-all : (t : Talk) → heard_lines (heard_more [] t) ≡ whole_lines t.heard ++ line_unless_empty (last_line t.heard)
-heard-all t = ap lines (append-nil t.heard)
+heard_all : (t : Talk) → heard_lines (heard_more [] t) ≡ whole_lines t.heard ++ line_unless_empty (last_line t.heard)
+heard_all t = ap lines (append-nil t.heard)
 
 -- ---- what was said
 
-said-two : (said out unsaid text more : List ℕ) → said ≡ text → out ++ unsaid ≡ [] ++ more → (said ++ out) ++ unsaid ≡ text ++ more
-said-two said out unsaid text more e split =
+said_two : (said out unsaid text more : List ℕ) → said ≡ text → out ++ unsaid ≡ [] ++ more → (said ++ out) ++ unsaid ≡ text ++ more
+said_two said out unsaid text more e split =
     append_assoc said out unsaid ∙ ap (λ (l : List ℕ). said ++ l) split ∙ ap (λ (l : List ℕ). l ++ more) e
 
 -- ---- the turns
@@ -142,12 +142,12 @@ holds_more r first count k1 k2 w1 w2 s1 s2 old mid new holds turn b =
         replies = st.replies ++ goes.replies;
         threaded = subst (λ (l : List (List ℕ)). AllReply r first l (st.replies ++ goes.replies) s2) (sym (whole_append [] t.heard piece))
             (all_reply_append r first s1 s2 (whole_lines t.heard) (whole_lines_from (last_line t.heard) piece) st.replies goes.replies st.threaded goes.threaded);
-        said = sym (append-nil (t.said ++ goes.out)) ∙ said-two t.said goes.out [] (text_of st.replies) (text_of goes.replies) st.said goes.split
+        said = sym (append-nil (t.said ++ goes.out)) ∙ said_two t.said goes.out [] (text_of st.replies) (text_of goes.replies) st.said goes.split
             ∙ sym (text_append st.replies goes.replies);
-        prompt = asks-prompt r first count k1 w1 s1 t goes.replies piece st;
+        prompt = asks_prompt r first count k1 w1 s1 t goes.replies piece st;
         keeps = subst (λ (l : List ℕ). Keeps l k2) (sym (last_append [] t.heard piece)) turned.2;
         poured = turned.3;
-        goes_on = not-end piece turned.1;
+        goes_on = not_end piece turned.1;
         reads = st.reads;
         writes = st.writes;
         long = omega (arith, st.long, turned.1, length-append t.heard piece);
@@ -168,7 +168,7 @@ talks_failed r first count k1 k2 w1 w2 s1 s2 old mid new holds turn b =
       record {
         answered = whole_lines t.heard;
         unanswered = [];
-        heard = append-nil (whole_lines t.heard) ∙ sym (heard-whole (heard_none t) st.goes_on);
+        heard = append-nil (whole_lines t.heard) ∙ sym (heard_whole (heard_none t) st.goes_on);
         replies = st.replies;
         behind = s1;
         threaded = st.threaded;
@@ -190,7 +190,7 @@ talks_endless r first count kept waiting s old now holds all b =
       record {
         answered = whole_lines t.heard;
         unanswered = [];
-        heard = append-nil (whole_lines t.heard) ∙ sym (heard-whole t st.goes_on);
+        heard = append-nil (whole_lines t.heard) ∙ sym (heard_whole t st.goes_on);
         replies = st.replies;
         behind = s;
         threaded = st.threaded;
@@ -202,11 +202,11 @@ talks_endless r first count kept waiting s old now holds all b =
     )
 
 -- a talk that stopped, behind what was heard of it
-stopped-talk : {State : Type 0} (r : Rules State) (first behind left : State) (stop : Stop) (t : Talk) (answered unanswered replies : List (List ℕ)) (out unsaid : List ℕ)
+stopped_talk : {State : Type 0} (r : Rules State) (first behind left : State) (stop : Stop) (t : Talk) (answered unanswered replies : List (List ℕ)) (out unsaid : List ℕ)
     → answered ++ unanswered ≡ heard_lines t → AllReply r first answered replies behind → (t.said ++ out) ++ unsaid ≡ text_of replies
     → AllByRecursion (IsPrompt replies) t.asks → t.read_failed ≡ false → t.write_failed ≡ false → LeftBy r stop behind left
     → Talked r first (status_by stop) (stopped_by stop (said_more out t)) left
-stopped-talk r first behind left WriteFailed t answered unanswered replies out unsaid heard threaded said prompt reads writes leaves = record {
+stopped_talk r first behind left WriteFailed t answered unanswered replies out unsaid heard threaded said prompt reads writes leaves = record {
   answered = answered;
   unanswered = unanswered;
   heard = heard;
@@ -218,7 +218,7 @@ stopped-talk r first behind left WriteFailed t answered unanswered replies out u
   prompt = prompt;
   ended = (reads, refl, leaves);
 }
-stopped-talk r first behind left NoMemory t answered unanswered replies out unsaid heard threaded said prompt reads writes leaves = record {
+stopped_talk r first behind left NoMemory t answered unanswered replies out unsaid heard threaded said prompt reads writes leaves = record {
   answered = answered;
   unanswered = unanswered;
   heard = heard;
@@ -231,19 +231,19 @@ stopped-talk r first behind left NoMemory t answered unanswered replies out unsa
   ended = (reads, writes, leaves);
 }
 
-stands-stops : {State : Type 0} (r : Rules State) (first : State) (count : ℕ) (kept : Option (List ℕ)) (waiting : List ℕ) (s left : State) (stop : Stop) (t : Talk)
+stands_stops : {State : Type 0} (r : Rules State) (first : State) (count : ℕ) (kept : Option (List ℕ)) (waiting : List ℕ) (s left : State) (stop : Stop) (t : Talk)
     (piece : List ℕ) (ys : List (List ℕ)) (mid new : Option Talk)
     → Stands r first count kept waiting s t → mid ≡ Some t → heard_lines (heard_more piece t) ≡ whole_lines t.heard ++ ys
     → Stops r stop ys s left [] (option_map (heard_more piece) mid) new
     → (t1 : Talk) × (new ≡ Some t1) × Talked r first (status_by stop) t1 left
-stands-stops r first count kept waiting s left stop t piece ys mid new st e all stops = (
+stands_stops r first count kept waiting s left stop t piece ys mid new st e all stops = (
   stopped_by stop (said_more stops.out (heard_more piece t)),
   stops.told ∙ ap (λ (o : Option Talk). option_map (λ t. stopped_by stop (said_more stops.out t)) (option_map (heard_more piece) o)) e,
-  stopped-talk r first stops.behind left stop (heard_more piece t) (whole_lines t.heard ++ stops.answered) stops.unanswered (st.replies ++ stops.replies) stops.out stops.unsaid
+  stopped_talk r first stops.behind left stop (heard_more piece t) (whole_lines t.heard ++ stops.answered) stops.unanswered (st.replies ++ stops.replies) stops.out stops.unsaid
       (append_assoc (whole_lines t.heard) stops.answered stops.unanswered ∙ ap (λ (l : List (List ℕ)). whole_lines t.heard ++ l) stops.whole ∙ sym all)
       (all_reply_append r first s stops.behind (whole_lines t.heard) stops.answered st.replies stops.replies st.threaded stops.threaded)
-      (said-two t.said stops.out stops.unsaid (text_of st.replies) (text_of stops.replies) st.said stops.split ∙ sym (text_append st.replies stops.replies))
-      (asks-prompt r first count kept waiting s t stops.replies piece st)
+      (said_two t.said stops.out stops.unsaid (text_of st.replies) (text_of stops.replies) st.said stops.split ∙ sym (text_append st.replies stops.replies))
+      (asks_prompt r first count kept waiting s t stops.replies piece st)
       st.reads
       st.writes
       stops.leaves,
@@ -257,7 +257,7 @@ talks_stopped r first count stop k1 k2 w1 w2 s1 s2 old mid new holds turn b =
     let h = holds b in
     let t = h.0 in
     let turned = turn (last_line t.heard) h.2.keeps h.2.poured in
-    stands-stops r first count k1 w1 s1 s2 stop t turned.0 (whole_lines_from (last_line t.heard) turned.0) mid new h.2 h.1 (heard-piece turned.0 t turned.1) turned.2
+    stands_stops r first count k1 w1 s1 s2 stop t turned.0 (whole_lines_from (last_line t.heard) turned.0) mid new h.2 h.1 (heard_piece turned.0 t turned.1) turned.2
 
 -- ---- the end
 
@@ -277,7 +277,7 @@ talks_last {State} r first count stop k1 k2 w1 w2 w3 s1 s2 s3 old mid new last h
     subst (λ (s : State). Stops r stop (line_unless_empty line) s s3 [] new last) turned.2 stops1 in
     let stops3 : Stops r stop (line_unless_empty line) s1 s3 [] (option_map (heard_more []) mid) last =
     subst (λ (o : Option Talk). Stops r stop (line_unless_empty line) s1 s3 [] o last) turned.3 stops2 in
-    stands-stops r first count k1 w1 s1 s3 stop t [] (line_unless_empty line) mid last h.2 h.1 (heard-all t) stops3
+    stands_stops r first count k1 w1 s1 s3 stop t [] (line_unless_empty line) mid last h.2 h.1 (heard_all t) stops3
 
 pub talks_done : {State : Type 0} (r : Rules State) (first : State) (count : ℕ) (k1 k2 : Option (List ℕ)) (w1 w2 w3 : List ℕ) (s1 s2 s3 : State)
     (old mid new last : Option Talk) → Holds r first count k1 w1 s1 old mid
@@ -301,13 +301,13 @@ talks_done {State} r first count k1 k2 w1 w2 w3 s1 s2 s3 old mid new last holds 
       record {
         answered = whole_lines t.heard ++ line_unless_empty line;
         unanswered = [];
-        heard = append-nil (whole_lines t.heard ++ line_unless_empty line) ∙ sym (heard-all t);
+        heard = append-nil (whole_lines t.heard ++ line_unless_empty line) ∙ sym (heard_all t);
         replies = st.replies ++ goes.replies;
         behind = s3;
         threaded = all_reply_append r first s1 s3 (whole_lines t.heard) (line_unless_empty line) st.replies goes.replies st.threaded threaded;
         unsaid = [];
-        said = said-two t.said goes.out [] (text_of st.replies) (text_of goes.replies) st.said split ∙ sym (text_append st.replies goes.replies);
-        prompt = asks-prompt r first count k1 w1 s1 t goes.replies [] st;
+        said = said_two t.said goes.out [] (text_of st.replies) (text_of goes.replies) st.said split ∙ sym (text_append st.replies goes.replies);
+        prompt = asks_prompt r first count k1 w1 s1 t goes.replies [] st;
         ended = (refl, st.reads, st.writes, refl, refl, refl);
       },
     )

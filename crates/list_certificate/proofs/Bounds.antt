@@ -18,7 +18,7 @@ use Rattle.list_pack.specs.Least.{state_key, IsBefore, IsLeast, IsListing}
 use Rattle.list_pack.proofs.PublicLaws.{at_most_both, edge_parts, last_parts}
 use Rattle.list_pack.proofs.Costing.{edge_state}
 use Rattle.list_pack.proofs.ListOrders.{lex_itself}
-use Rattle.list_certificate.proofs.Passing.{place_in}
+use Rattle.list_certificate.proofs.MovesPassing.{place_in}
 use Rattle.list_certificate.proofs.States.{state_made}
 use Rattle.list_certificate.proofs.LineWords.{room_few, position_few}
 use Rattle.list_certificate.proofs.OneVerdict.{Onward, onward}

@@ -12,7 +12,7 @@ use Rattle.list_certificate.specs.declared.certificate_types.PotentialLine.{Pote
 use Rattle.list_certificate.specs.declared.potential_cells.Cell.{Cell}
 use Rattle.list_certificate.specs.Certs.{potential_at}
 use Rattle.list_certificate.specs.Tests.{Assures, state_in, PassesMove, PassesLast, move_of, PassLegs, PassEnds, CellPassesLegs, CellPassesEnds, PassAmong, OfSid, OfPosition}
-use Rattle.list_certificate.proofs.Passing.{LegsBelow, SomeLegsTo, SomeEnds}
+use Rattle.list_certificate.proofs.MovesPassing.{LegsBelow, SomeLegsTo, SomeEnds}
 use Rattle.list_certificate.proofs.States.{state_made}
 
 -- a state passes where its moves by legs do and those to the end

@@ -18,7 +18,7 @@ use Rattle.list_certificate.specs.declared.path_lines.Reached.{Reached}
 use Rattle.list_certificate.specs.declared.path_lines.Spent.{Spent}
 use Rattle.list_certificate.specs.Verdicts.{GoesAlong, Leads, IsAstray, steps_of, BreaksAt, PathCosts}
 use Rattle.list_certificate.specs.Tests.{edge_value, IsEdgeOf, IsEdgeTo, IsEdgeBy, IsLastBy, IsLastOf, Run, spent_value, Adds, move_of}
-use Rattle.list_certificate.proofs.Passing.{place_in}
+use Rattle.list_certificate.proofs.MovesPassing.{place_in}
 
 cost_one : (stays : Bool) (hops : ℕ) → (move_cost stays hops).containers ≤ 1
 cost_one true hops = omega arith

@@ -1,5 +1,5 @@
 pub mod Listed
-pub mod Passing
+pub mod MovesPassing
 pub mod Ranges
 pub mod CertificatePathing
 pub mod CertificateCelling
@@ -7,12 +7,12 @@ pub mod CertificateJudging
 pub mod States
 pub mod OneVerdict
 pub mod Showing
-pub mod Networks
+pub mod LegNetworks
 pub mod Marks
 pub mod PrefixWords
 pub mod SidWords
 pub mod LineWords
-pub mod Readings
+pub mod OneReading
 pub mod Bounds
 pub mod PrintedRead
 pub mod PublicLaws

@@ -35,7 +35,7 @@ use Rattle.list_certificate.proofs.SidWords.{entry}
 use Rattle.list_certificate.proofs.LineWords.{HasNumbers, plain_lacks, words_of, potential_read, words_feed, item_potential, turn_text, step_read, item_step, potential_line, step_line, step_feed, potential_feed}
 use Rattle.list_certificate.proofs.OneVerdict.{onward}
 use Rattle.list_certificate.proofs.Bounds.{containers_few, hops_few}
-use Rattle.list_certificate.proofs.Readings.{reads_go}
+use Rattle.list_certificate.proofs.OneReading.{reads_go}
 
 -- ---- one line more
 

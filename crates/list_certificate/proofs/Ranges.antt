@@ -13,7 +13,7 @@ use Rattle.list_certificate.specs.declared.certificate_types.PotentialLine.{Pote
 use Rattle.list_certificate.specs.Certs.{potential_at}
 use Rattle.list_certificate.specs.Tests.{PassesUnlisted, FirstFailing, FirstFailure, LinesPass, OfSid, OfPosition, OfAll}
 use Rattle.list_pack.proofs.ListOrders.{head_less, head_same, lex_longer, lex_not_both, lex_trans}
-use Rattle.list_certificate.proofs.Passing.{place_in}
+use Rattle.list_certificate.proofs.MovesPassing.{place_in}
 
 -- SIDs in order
 ascends_head : (v : LegsValue) (n : ℕ) (ms : List ℕ) → ascends v (n ∷ ms) ≡ true → (j m : ℕ) → slice_get ms j ≡ Some m

@@ -21,7 +21,7 @@ use Rattle.list_pack.specs.LegsValueTerms.{KeepsLaws, IsSid, sid_key}
 use Rattle.list_certificate.specs.Spelling.{is_shared, name_by, sid_text_by, sid_text}
 use Rattle.list_certificate.specs.CertificateReading.{cut_at, node_of, has_name, is_unnamed, is_named, sid_by, sid_in}
 use Rattle.list_certificate.specs.CertificateReadingTerms.{IsSidOf, IsNetworkOf}
-use Rattle.list_certificate.proofs.Passing.{place_in, item_in}
+use Rattle.list_certificate.proofs.MovesPassing.{place_in, item_in}
 use Rattle.list_certificate.proofs.States.{sid_same}
 use Rattle.list_certificate.proofs.Marks.{IsWord, no_mark, Lacks, word_at, lacks_joined, lacks_mark, cut_first, cut_none}
 use Rattle.list_certificate.proofs.PrefixWords.{prefix_word, prefix_read, prefix_no_dash}

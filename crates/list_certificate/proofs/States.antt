@@ -9,7 +9,7 @@ use Rattle.list_pack.specs.LegsValueTerms.{KeepsLaws, sid_before, sid_key, ascen
 use Rattle.list_pack.specs.Costs.{IsState, IsStateBy}
 use Rattle.list_pack.specs.Least.{state_key, state_key_by}
 use Rattle.list_pack.proofs.ListOrders.{lex_itself, lex_trans, lex_same}
-use Rattle.list_certificate.proofs.Passing.{place_in}
+use Rattle.list_certificate.proofs.MovesPassing.{place_in}
 
 -- a SID of a position is before those that are listed after it
 rises : (v : LegsValue) (n : ℕ) (xs : List ℕ) (j m : ℕ) → ascends v (n ∷ xs) ≡ true → slice_get xs j ≡ Some m → sid_before v n m ≡ true

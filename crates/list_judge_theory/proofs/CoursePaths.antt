@@ -11,7 +11,7 @@ use Rattle.list_pack.specs.PathsTerms.{hops_of, with_hops}
 use Rattle.leg_table.specs.OneLegLaws.{KindLaws, LegKind, prefix_in}
 use Rattle.leg_table.specs.PositionSids.{prefix_at, prefix_by}
 use Rattle.leg_table.proofs.StrictPaths.{with_hops_some}
-use Rattle.list_judge_theory.specs.Courses.{Course, is_early, may_end}
+use Rattle.list_judge_theory.specs.ListCourses.{Course, is_early, may_end}
 use Rattle.net_model.specs.Network.{Network}
 
 -- where a list may end

@@ -23,7 +23,7 @@ use Rattle.leg_table.proofs.Inners.{some_inner, some_inner_is}
 use Rattle.leg_table.proofs.StrictPaths.{path_marks}
 use Rattle.leg_table.proofs.StrictRealizing as any
 use Rattle.leg_table.proofs.StrictRealizing.{by_list, first_place, list_path, one, packet, tunnel}
-use Rattle.list_judge_theory.specs.Courses.{Course, in_last}
+use Rattle.list_judge_theory.specs.ListCourses.{Course, in_last}
 use Rattle.list_judge_theory.proofs.LastPlaces.{first_tail, in_last_some}
 use Rattle.list_judge_theory.proofs.CoursePaths.{EndWell, PathTo, course_path, path_course, well_whole, whole_well}
 use Rattle.list_judge_theory.proofs.EarlyPaths.{EarlyLaws, Stands, ends_hands, ends_over, ends_shown}

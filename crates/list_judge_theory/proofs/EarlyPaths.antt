@@ -15,7 +15,7 @@ use Rattle.leg_table.specs.WalkTrace.{Handed}
 use Rattle.leg_table.proofs.ListPlaces.{active_is, next_none, next_some}
 use Rattle.leg_table.proofs.OwnPlaces.{next_keeps}
 use Rattle.leg_table.proofs.StrictPaths.{marks_with, path_marks, with_hops_some}
-use Rattle.list_judge_theory.specs.Courses.{is_early}
+use Rattle.list_judge_theory.specs.ListCourses.{is_early}
 use Rattle.list_judge_theory.proofs.LastPlaces.{InTail, last_tail, next_tail, tail_last}
 use Rattle.list_judge_theory.proofs.CoursePaths.{EndWell, may_early, may_last, may_parts}
 

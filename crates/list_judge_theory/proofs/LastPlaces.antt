@@ -10,7 +10,7 @@ use Rattle.list_pack.specs.declared.types.Container.{Container}
 use Rattle.list_pack.specs.declared.types.Container.TheVariants.{Full, Packed}
 use Rattle.list_pack.specs.SidLists.{container_in, list_in, list_sid}
 use Rattle.leg_table.proofs.StrictOptions.{some_same}
-use Rattle.list_judge_theory.specs.Courses.{in_last}
+use Rattle.list_judge_theory.specs.ListCourses.{in_last}
 
 -- how many SIDs the last container has
 abbrev pub last_in : List lists.Container → ℕ

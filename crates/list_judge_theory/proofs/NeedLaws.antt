@@ -31,7 +31,7 @@ use Rattle.loose_meaning_theory.proofs.LooseListMeaning.{loose_realizes}
 use Rattle.loose_meaning_theory.proofs.OneLegLaws.{loose_kind_laws, loose_leg_laws}
 use Rattle.intent_compiler.specs.IntentLegs.{ListRealizesFor, RealizesIf, intent_legs_value, legs_if}
 use Rattle.intent_compiler.proofs.IntentAnswering.{few_sids}
-use Rattle.list_judge_theory.specs.Courses.{Course, tail_of}
+use Rattle.list_judge_theory.specs.ListCourses.{Course, tail_of}
 use Rattle.list_judge_theory.proofs.CourseRealizing.{early_down, early_up, whole_down, whole_up}
 use Rattle.list_judge_theory.proofs.EarlyPaths.{EarlyLaws}
 use Rattle.list_judge_theory.proofs.OwnEarly.{own_early}

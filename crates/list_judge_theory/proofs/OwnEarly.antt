@@ -49,7 +49,7 @@ use Rattle.binding_legs_theory.proofs.BindingMeaningUp.{active_is}
 use Rattle.binding_legs_theory.proofs.BindingMeaningWays.{Comes, comes_to, there}
 use Rattle.binding_legs_theory.proofs.Leading.{led}
 use Rattle.binding_legs_theory.proofs.OriginWays.{FinishParts, finish_parts}
-use Rattle.list_judge_theory.specs.Courses.{is_early, sid_takes_early, takes_early}
+use Rattle.list_judge_theory.specs.ListCourses.{is_early, sid_takes_early, takes_early}
 use Rattle.list_judge_theory.proofs.EarlyPaths.{EarlyLaws}
 
 -- ---- some SID is executed of a packet that is handed over

@@ -1,2 +1,2 @@
 pub mod Readings
-pub mod Courses
+pub mod ListCourses

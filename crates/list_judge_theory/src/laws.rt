@@ -10,7 +10,7 @@ ghost use Rattle.intent_reader.specs.declared.intent.Intent.{Intent};
 ghost use Rattle.list_pack.specs.declared.types.Container.{Container};
 ghost use Rattle.list_pack.specs.SidLists.{IsLegalList, list_values, prefixes_in};
 ghost use Rattle.intent_compiler.specs.IntentLegs.{ListRealizesFor, intent_legs_value};
-ghost use Rattle.list_judge_theory.specs.Courses.{Course, tail_of};
+ghost use Rattle.list_judge_theory.specs.ListCourses.{Course, tail_of};
 
 /// In a flat network no two legal lists are spelled alike: with the same values, in order, they have
 /// the same containers and SIDs (RFC 9800 sections 4.1 and 4.2, and own rules).

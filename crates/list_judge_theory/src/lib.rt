@@ -2,7 +2,7 @@
 //! laws and their proofs alone.
 //!
 //! `specs/Readings.antt` says how a list is read back from its values, container by container, and
-//! `specs/Courses.antt` what a course of legs along a list's SIDs is. The functions of `laws` do
+//! `specs/ListCourses.antt` what a course of legs along a list's SIDs is. The functions of `laws` do
 //! nothing: their contracts are the laws.
 #![tactic(auto)]
 

@@ -9,7 +9,7 @@ use Rattle.list_pack.specs.declared.types.Leg.{Leg}
 use Rattle.list_pack.specs.LegsValue.{LegsValue}
 use Rattle.list_pack.specs.LegsValueTerms.{KeepsLaws, IsSid}
 use Rattle.list_pack.specs.PathsTerms.{with_hops, hops_of, with_room, SuitsLists}
-use Rattle.list_pack.proofs.Standings.{Pair}
+use Rattle.list_pack.proofs.StepContainers.{Pair}
 
 -- the hops of SIDs are there, if there are SIDs
 abbrev pub HopsFrom : LegsValue → ℕ → Option ℕ → List ℕ → Type 0

@@ -5,8 +5,8 @@ pub mod Costing
 pub mod Leasts
 pub mod CostSplits
 pub mod ListContainers
-pub mod Standings
-pub mod Moving
+pub mod StepContainers
+pub mod OpeningMoves
 pub mod Hops
 pub mod PathsToLists
 pub mod ListsToPaths

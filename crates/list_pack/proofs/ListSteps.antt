@@ -59,9 +59,9 @@ list_length sid_on v (m ∷ ms) k = length_step sid_on v ms (λ j. list_length s
 abbrev prefix_in : PathStep → PrefixValue
 prefix_in p = p.prefix
 
-map-append : (xs ys : List PathStep) → map prefix_in (xs ++ ys) ≡ map prefix_in xs ++ map prefix_in ys
-map-append [] ys = refl
-map-append (x ∷ xs) ys = ap (λ (ps : List PrefixValue). x.prefix ∷ ps) (map-append xs ys)
+map_append : (xs ys : List PathStep) → map prefix_in (xs ++ ys) ≡ map prefix_in xs ++ map prefix_in ys
+map_append [] ys = refl
+map_append (x ∷ xs) ys = ap (λ (ps : List PrefixValue). x.prefix ∷ ps) (map_append xs ys)
 
 stay_prefixes : (ps : List PrefixValue) → map prefix_in (map stays ps) ≡ ps
 stay_prefixes [] = refl
@@ -74,7 +74,7 @@ container_prefixes (Packed p ps) = ap (λ (qs : List PrefixValue). p ∷ qs) (st
 pub steps_prefixes : (cs : List Container) → map (λ (p : PathStep). p.prefix) (steps_in cs) ≡ prefixes_in cs
 steps_prefixes [] = refl
 steps_prefixes (c ∷ cs) =
-    map-append (steps_of c) (steps_in cs) ∙ ap (λ (ps : List PrefixValue). ps ++ map prefix_in (steps_in cs)) (container_prefixes c)
+    map_append (steps_of c) (steps_in cs) ∙ ap (λ (ps : List PrefixValue). ps ++ map prefix_in (steps_in cs)) (container_prefixes c)
     ∙ ap (λ (ps : List PrefixValue). prefixes_of c ++ ps) (steps_prefixes cs)
 
 pub moves_sids : (v : LegsValue) (ns : List ℕ) (ps : List PathStep)

@@ -16,8 +16,8 @@ use Rattle.list_pack.specs.PathLists.{container_by, moves_by}
 use Rattle.list_pack.specs.SidLists.{prefixes_in, steps_in, stays, FollowOn, FollowIn}
 use Rattle.list_pack.specs.OpenContainers.{taken, first_taken, asked_at, StaysIn, Open, first_in, more_in}
 use Rattle.list_pack.proofs.ListContainers.{Opened, opened_full, opened_packed}
-use Rattle.list_pack.proofs.Standings.{Stands, stayed}
-use Rattle.list_pack.proofs.Moving.{entered, entered_full, may_stay, may_open}
+use Rattle.list_pack.proofs.StepContainers.{Stands, stayed}
+use Rattle.list_pack.proofs.OpeningMoves.{entered, entered_full, may_stay, may_open}
 use Rattle.list_pack.proofs.Barring.{room_stays}
 use Rattle.list_pack.proofs.Hops.{HopsFrom, hops_here, hops_first, hops_next, pair_of, room_made}
 

@@ -13,8 +13,8 @@ use Rattle.list_pack.specs.PathsTerms.{hops_of, sids_of_moves, may_move, SuitsLi
 use Rattle.list_pack.specs.PathLists.{container_by, container_as, staying, asked_after, list_from}
 use Rattle.list_pack.specs.OpenContainers.{taken, first_taken, asked_at, Open, Opens}
 use Rattle.list_pack.proofs.ListContainers.{follow_made, asked_end, asked_end_law}
-use Rattle.list_pack.proofs.Standings.{Stands, stayed}
-use Rattle.list_pack.proofs.Moving.{Entered, entered, entered_full}
+use Rattle.list_pack.proofs.StepContainers.{Stands, stayed}
+use Rattle.list_pack.proofs.OpeningMoves.{Entered, entered, entered_full}
 use Rattle.list_pack.proofs.Barring.{room_kept}
 use Rattle.list_pack.proofs.Hops.{HopsFrom, hops_here, hops_first, hops_next, pair_of, room_parts}
 

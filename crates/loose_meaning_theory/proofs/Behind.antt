@@ -13,7 +13,7 @@ use Rattle.choice_graph.specs.FoundInGraphs.{Finds, found_by, found_in, found_ov
 use Rattle.choice_graph.specs.FoundInGraphsTerms.{found_under}
 use Rattle.choice_graph.proofs.GraphDepths.{found_deep, found_lost}
 use Rattle.choice_graph.proofs.GraphJoins.{joined_with}
-use Rattle.choice_graph.proofs.GraphOptions.{if_some, map_some, none-some, then_some}
+use Rattle.choice_graph.proofs.GraphOptions.{if_some, map_some, none_some, then_some}
 use Rattle.loose_walks.specs.WalkStops.{ends_in}
 use Rattle.loose_walks.specs.WayGraphs.{Numbers, arrived, graph_in, next_vertex, numbers_of, vertex_behind, vertex_by}
 use Rattle.loose_walks.specs.WayGraphsTerms.{IsLeft, node_behind, node_or, node_vertex_by, nodes_in}
@@ -40,7 +40,7 @@ module _ (finds below : Finds) (one other : ℕ → ℕ)
       ap (option_and_then (joined_with below (flat f) (map other links))) (all link g first.1) ∙ more
 
   over_both : (links : List ℕ) (h : Found) → found_over finds (map one links) ≡ Some h → found_over below (map other links) ≡ Some (flat h)
-  over_both [] h e = absurd (none-some h e)
+  over_both [] h e = absurd (none_some h e)
   over_both (link ∷ links) h e =
       let first = then_some (λ (f : Found). joined finds f (map one links)) (finds (one link)) h e in
       ap (option_and_then (λ (f : Found). joined below f (map other links))) (all link first.0 first.1)
@@ -74,8 +74,8 @@ module _ (net : Network) (keeps : Keeps net) (a : ℕ) (steps : List TraceStep) 
 
       by_parts : (o : Option (List TraceStep)) → left_behind (ends_in net) ts (Crossed link) ≡ o → (e : Option ℕ) → ends_in net link ≡ e
           → found_in graph depth (vertex_behind numbers o e) ≡ Some g → IsBehind depth ts link g
-      by_parts None o_is e e_is h = absurd (none-some g (sym lost ∙ h))
-      by_parts (Some us) o_is None e_is h = absurd (none-some g (sym lost ∙ h))
+      by_parts None o_is e e_is h = absurd (none_some g (sym lost ∙ h))
+      by_parts (Some us) o_is None e_is h = absurd (none_some g (sym lost ∙ h))
       by_parts (Some us) o_is (Some node) e_is h =
           record { left = us; crossed = o_is; node = node; ends = e_is; there = end_there net keeps link node e_is; found = h }
 
@@ -85,8 +85,8 @@ module _ (net : Network) (keeps : Keeps net) (a : ℕ) (steps : List TraceStep) 
       → found_in nodes depth (node_behind net link) ≡ Some (flat g))
       → (w : Way) (f : Found) → found_by true (found_in graph depth) (vertex_by net numbers ts w) ≡ Some f
       → found_by true (found_in nodes depth) (node_vertex_by net w) ≡ Some (flat f)
-  way_node depth ts all (NoWay reason) f e = absurd (none-some f e)
-  way_node depth ts all Own f e = absurd (none-some f e)
+  way_node depth ts all (NoWay reason) f e = absurd (none_some f e)
+  way_node depth ts all Own f e = absurd (none_some f e)
   way_node depth ts all (Into n) f e = ap (option_map flat) e
   way_node depth ts all (Over set lower) f e =
       let m = map_some (lowered true) (found_over (found_in graph depth) (map (next_vertex net numbers ts) set)) f e in
@@ -97,7 +97,7 @@ module _ (net : Network) (keeps : Keeps net) (a : ℕ) (steps : List TraceStep) 
   -- what is found behind a link is so in the graph of the nodes
   pub link_node : (depth : ℕ) (ts : List TraceStep) → IsLeft steps ts → (link : ℕ) (g : Found)
       → found_in graph depth (next_vertex net numbers ts link) ≡ Some g → found_in nodes depth (node_behind net link) ≡ Some (flat g)
-  link_node zero ts left link g h = absurd (none-some g h)
+  link_node zero ts left link g h = absurd (none_some g h)
   link_node (suc depth) ts left link g h =
       let b = link_parts (suc depth) ts link g h in
       let us = b.left in

@@ -21,7 +21,7 @@ use Rattle.choice_graph.specs.declared.vertices.Vertex.{Vertex}
 use Rattle.choice_graph.specs.declared.vertices.Found.{Found}
 use Rattle.choice_graph.specs.FoundInGraphs as finding
 use Rattle.choice_graph.specs.FoundInGraphs.{found_by, found_in, found_over}
-use Rattle.choice_graph.proofs.GraphOptions.{map_some, none-some, some_same}
+use Rattle.choice_graph.proofs.GraphOptions.{map_some, none_some, some_same}
 use Rattle.loose_walks.specs.WayGraphs as graphs
 use Rattle.loose_walks.specs.WayGraphs.{Numbers, arrived, graph_in, lowers_by, next_vertex, numbers_of, vertex_by}
 use Rattle.loose_walks.specs.WayGraphsTerms.{IsLeft}
@@ -48,7 +48,7 @@ limit_of (Unreadable bytes reason) = 0
 -- where a packet is that came over a link
 arrival_parts : (o : Option ℕ) (place next : Place) → place.family ≡ families.V6 → arrival o place ≡ Some next
     → (node : ℕ) × (o ≡ Some node) × (next ≡ arrived node)
-arrival_parts None place next v6 e = absurd (none-some next e)
+arrival_parts None place next v6 e = absurd (none_some next e)
 arrival_parts (Some node) place next v6 e = (
   node,
   refl,
@@ -122,7 +122,7 @@ module _ (net : Network) (keeps : Keeps net) (d : ℕ) (steps : List TraceStep) 
   -- what is found at a node to which a packet came over a link is found by the way from there
   way_behind : (depth : ℕ) (us : List TraceStep) (next : Place) (node : ℕ) → node < length net.nodes → (x : Found) → next ≡ arrived node
       → IsLeft steps us → found_in graph depth (numbers.vertex node (length us)) ≡ Some x → (less : ℕ) × (by_way next less us ≡ Some x)
-  way_behind zero us next node there x at us_left found = absurd (none-some x found)
+  way_behind zero us next node there x at us_left found = absurd (none_some x found)
   way_behind (suc depth) us next node there x at us_left found =
       let w = way_of net (arrived node) d in (
         depth,

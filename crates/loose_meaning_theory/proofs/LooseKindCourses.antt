@@ -25,7 +25,7 @@ use Rattle.choice_graph.specs.declared.vertices.Found.{Found}
 use Rattle.choice_graph.specs.FoundInGraphs.{found_by, found_from, found_in, found_over}
 use Rattle.choice_graph.specs.FoundInGraphs as finding
 use Rattle.choice_graph.proofs.GraphJoins.{over_agrees, over_taken}
-use Rattle.choice_graph.proofs.GraphOptions.{map_some, none-some, some_same}
+use Rattle.choice_graph.proofs.GraphOptions.{map_some, none_some, some_same}
 use Rattle.loose_walks.specs.WalkStops.{ends_in}
 use Rattle.loose_walks.specs.WayGraphs.{Numbers, arrived, graph_in, lowers_by, next_vertex, numbers_of, vertex_by, start_at}
 use Rattle.loose_walks.specs.WayGraphsTerms.{IsLeft}
@@ -330,8 +330,8 @@ module _ (net : Network) (keeps : Keeps net) (a : ℕ) (steps : List TraceStep) 
       → (p : Packet) → p.destination ≡ a → (pick : ℕ → ℕ) (taken : ℕ) (f : Found) (w : Way) → way_of net place a ≡ w
       → found_by (lowers_by w) (found_in graph depth) (vertex_by net numbers ts w) ≡ Some f → Passes net place p pick taken f
       → Course net a steps ts place p pick taken f
-  way_course depth holds ts left place v6 p to_a pick taken f (NoWay reason) way e passes = absurd (none-some f e)
-  way_course depth holds ts left place v6 p to_a pick taken f Own way e passes = absurd (none-some f e)
+  way_course depth holds ts left place v6 p to_a pick taken f (NoWay reason) way e passes = absurd (none_some f e)
+  way_course depth holds ts left place v6 p to_a pick taken f Own way e passes = absurd (none_some f e)
   way_course depth holds ts left place v6 p to_a pick taken f (Into n) way e passes =
       (here_course ts left place v6 p pick taken n f way (some_same (record { most = 0; answer = n * 64 + length ts }) f e)).0
   way_course depth holds ts left place v6 p to_a pick taken f (Over set lower) way e passes =
@@ -343,7 +343,7 @@ module _ (net : Network) (keeps : Keeps net) (a : ℕ) (steps : List TraceStep) 
       (passes_on place p lower pick taken (member_of set (pick taken)) (arrived m.node) f m.found sends.1 m.leads m.most passes))).0
 
   arrived_course : (depth : ℕ) → Holds depth
-  arrived_course zero us left node there q to_a pick taken g found passes = absurd (none-some g found)
+  arrived_course zero us left node there q to_a pick taken g found passes = absurd (none_some g found)
   arrived_course (suc depth) us left node there q to_a pick taken g found passes =
       let way = way_of net (arrived node) a in
       way_course depth (arrived_course depth) us left (arrived node) refl q to_a pick taken g way refl

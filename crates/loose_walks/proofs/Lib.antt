@@ -2,7 +2,7 @@ pub mod Quiet
 pub mod Simulating
 pub mod Bridge
 pub mod Making
-pub mod Numbering
+pub mod VertexNumbers
 pub mod Nodes
 pub mod WayStarting
 pub mod WayRows

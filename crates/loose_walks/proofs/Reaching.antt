@@ -20,7 +20,7 @@ use Rattle.choice_graph.specs.declared.vertices.Found.{Found}
 use Rattle.choice_graph.specs.GraphWalksTerms.{Picks, End, walk_from}
 use Rattle.choice_graph.specs.FoundInGraphs.{found_from}
 use Rattle.choice_graph.specs.GraphLegs.{Leg, executed, done_behind, goes_through, AlwaysGoesThrough, need_of, need}
-use Rattle.choice_graph.proofs.GraphOptions.{then_some, some_same, none-some, both_true, true_both}
+use Rattle.choice_graph.proofs.GraphOptions.{then_some, some_same, none_some, both_true, true_both}
 use Rattle.choice_graph.proofs.Legs.{leg_need_law, need_leg, through_enough, through_needed}
 use Rattle.loose_walks.specs.WalkStops.{ends_in}
 use Rattle.loose_walks.specs.WalkStopsTerms.{Stop, stop_by, first_stop, hops_left_of, Coming, coming_by, coming_at, coming, coming_of, ComesTo}
@@ -172,7 +172,7 @@ module _ (net : Network) (keeps : Keeps net) (steps ts : List TraceStep) (few : 
         by_end : (o : Option End) → walk_from graph (p.hop_limit - 1) pick start ≡ o
             → done_behind (goes_through []) (leg_to n rest lowers) (walk_from graph (p.hop_limit - 1) pick start) ≡ true
         by_end None is =
-            absurd (none-some (record { answer = n * 64 + length c.stop.left; hops_left = hops_left_of c.stop.stage.before })
+            absurd (none_some (record { answer = n * 64 + length c.stop.left; hops_left = hops_left_of c.stop.stage.before })
             (sym (ap (option_map coming_of) is) ∙ walk_is pick ∙ there))
         by_end (Some e) is =
             let same = some_same (coming_of e) (record { answer = n * 64 + length c.stop.left; hops_left = hops_left_of c.stop.stage.before })

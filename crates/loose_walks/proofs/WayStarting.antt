@@ -13,7 +13,7 @@ use Rattle.choice_graph.proofs.GraphTables.{found_low, start_found}
 use Rattle.loose_walks.specs.WayGraphs.{Numbers, arrived, found_in, graph_in, lowers_by, numbers_of, rows_of, vertex_by, start_at}
 use Rattle.loose_walks.specs.WayGraphsTerms.{node_vertex_by, nodes_in}
 use Rattle.loose_walks.proofs.Making.{row_length, rows_length}
-use Rattle.loose_walks.proofs.Numbering.{small_product}
+use Rattle.loose_walks.proofs.VertexNumbers.{small_product}
 
 -- so many vertices that their numbers fit 32 bits, in an order of arguments by which a tactic finds them
 pub few_rows : (net : Network) (numbers : Numbers) (a : ℕ) (ts : List TraceStep) → Keeps net → length ts ≤ 48

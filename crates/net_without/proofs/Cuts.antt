@@ -80,12 +80,12 @@ pushed_one xs ys zs ws x y same e h =
 
 -- ---- a set that is empty, or isn't
 
-is-some : (n : ℕ) (set : List ℕ) → (length (n ∷ set) == 0) ≡ false
-is-some n set = ne_eqb (length (n ∷ set)) 0 (λ e. omega (arith, e))
+is_some : (n : ℕ) (set : List ℕ) → (length (n ∷ set) == 0) ≡ false
+is_some n set = ne_eqb (length (n ∷ set)) 0 (λ e. omega (arith, e))
 
 pub left_empty : (up : ℕ → Bool) (set : List ℕ) (b : Bool) → b ≡ (length set == 0) → b ≡ true → true ≡ is_left up set
 left_empty up [] b e there = refl
-left_empty up (n ∷ set) b e there = absurd (both_ways b (e ∙ is-some n set) there)
+left_empty up (n ∷ set) b e there = absurd (both_ways b (e ∙ is_some n set) there)
 
 pub left_some : (up : ℕ → Bool) (set : List ℕ) (b : Bool) → b ≡ (length set == 0) → b ≡ false → list_any up set ≡ is_left up set
 left_some up [] b e there = absurd (both_ways b there e)

@@ -1,4 +1,4 @@
 pub mod Cuts
 pub mod Flags
 pub mod Keeping
-pub mod Lookups
+pub mod LookupsLeft

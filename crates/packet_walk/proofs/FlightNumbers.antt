@@ -46,14 +46,14 @@ pub packet_behind : (packets more : List InFlight) (number : ℕ) (p : InFlight)
 packet_behind packets more zero p there = cc
 packet_behind packets more (suc before) p there = get_append packets more before p there
 
-length-set : {X : Type 0} (xs : List X) (i : ℕ) (y : X) → length (slice_set xs i y) ≡ length xs
-length-set [] i y = refl
-length-set (x ∷ xs) zero y = refl
-length-set (x ∷ xs) (suc i) y = ap suc (length-set xs i y)
+length_set : {X : Type 0} (xs : List X) (i : ℕ) (y : X) → length (slice_set xs i y) ≡ length xs
+length_set [] i y = refl
+length_set (x ∷ xs) zero y = refl
+length_set (x ∷ xs) (suc i) y = ap suc (length_set xs i y)
 
 pub length_with : (packets : List InFlight) (number : ℕ) (q : InFlight) → length (with_packet packets number q) ≡ length packets
 length_with packets zero q = refl
-length_with packets (suc before) q = length-set packets before q
+length_with packets (suc before) q = length_set packets before q
 
 -- a turn, by whether the packet is there and has ended
 

@@ -78,13 +78,13 @@ made number f p = record { net = f.net; error = f.error; packets = with_packet f
 none≢some : (end : Ended) → Some end ≡ None → ⊥
 none≢some end e = cc
 
-none-some : (e : Option Ended) → e ≡ None → IsSome e → ⊥
-none-some None going some = absurd (false≢true some)
-none-some (Some end) going some = absurd (none≢some end going)
+none_some : (e : Option Ended) → e ≡ None → IsSome e → ⊥
+none_some None going some = absurd (false≢true some)
+none_some (Some end) going some = absurd (none≢some end going)
 
 turns_made : (number : ℕ) (f h : Flight) (p : InFlight) (event : Option Event) → p.ended ≡ None
     → Turns number (made number f p) (with_room p) (Ok event) h → Turns number f p (Ok event) h
-turns_made number f h p None going turns = absurd (none-some p.ended going turns.0)
+turns_made number f h p None going turns = absurd (none_some p.ended going turns.0)
 turns_made number f h p (Some event) going turns =
     let left : List InFlight → Flight =
     λ packets. record { net = f.net; error = error_bytes (stage_in f.net p).gave.error; packets = packets } in (

@@ -20,7 +20,7 @@ use Rattle.list_pack.specs.SidLists.{IsLegalList, steps_in}
 use Rattle.path_compiler.specs.declared.compiled.Compiled.{Compiled}
 use Rattle.path_compiler.specs.Compiled.{IsWhole, IsChosen, IsFound, IsNoList}
 use Rattle.path_compiler.specs.CompiledTerms.{IsListIn}
-use Rattle.path_compiler.proofs.Costs.{is_path_law, cost_read}
+use Rattle.path_compiler.proofs.FirstCosts.{is_path_law, cost_read}
 
 nil_by : (path : List PathStep) → (length path == 0) ≡ true → path ≡ []
 nil_by [] h = refl

@@ -1,4 +1,4 @@
-pub mod Costs
+pub mod FirstCosts
 pub mod CompilerAnswering
 pub mod CompilerChecking
 pub mod CompilerHanding

@@ -4,7 +4,7 @@ pub mod NgPassed
 pub mod RunLemmas
 pub mod SpelledBlocks
 pub mod SpelledLemmas
-pub mod Numbered
+pub mod FrameNumbers
 pub mod NgPieceLemmas
 pub mod PublicLaws
 pub mod EachFrame

@@ -9,7 +9,7 @@ use Rattle.pcapng_io.specs.NgReading.{NgReading, end_at, ended}
 use Rattle.pcapng_io.specs.NgReadingTerms.{AreFrom}
 use Rattle.pcapng_io.specs.Taking.{Given, IsDone, NgSeen, coming, coming_with}
 use Rattle.pcapng_io.specs.NgPieces.{GivesFrame, NgComing, coming_of}
-use Rattle.pcapng_io.proofs.Numbered.{numbered_coming}
+use Rattle.pcapng_io.proofs.FrameNumbers.{numbered_coming}
 use Rattle.pcapng_io.proofs.NgSteps.{reading_ends}
 
 -- a frame that was taken is the next of a file

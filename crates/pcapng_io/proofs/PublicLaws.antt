@@ -1,3 +1,3 @@
 -- The lemmas that crates above may cite.
 pub use Rattle.pcapng_io.proofs.EachFrame.{each_held}
-pub use Rattle.pcapng_io.proofs.Numbered.{numbered_file}
+pub use Rattle.pcapng_io.proofs.FrameNumbers.{numbered_file}

@@ -8,6 +8,6 @@ pub mod BlocksRead
 pub mod PacketsRead
 pub mod StepsRead
 pub mod EndsRead
-pub mod FilesRead
+pub mod FilesReadBack
 pub mod Unique
 pub mod Refusals

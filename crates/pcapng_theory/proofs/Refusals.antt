@@ -9,7 +9,7 @@ use Rattle.pcapng_theory.specs.NgFiles.{Section, File, ending_block, Spells, End
 use Rattle.pcapng_theory.specs.NgFrames.{end_in, file_reading}
 use Rattle.pcapng_theory.proofs.Fronts.{AreBytes, block_spelled}
 use Rattle.pcapng_theory.proofs.FilesBehind.{file_of, file_spelled, spelled_behind, fit_head, later_bytes}
-use Rattle.pcapng_theory.proofs.FilesRead.{file_read}
+use Rattle.pcapng_theory.proofs.FilesReadBack.{file_read}
 use Rattle.pcapng_theory.proofs.SameBlocks.{kind_of, body_of, block_is, block_fits, no_section}
 use Rattle.pcapng_theory.proofs.Unique.{ending_of, told_back, block_of}
 

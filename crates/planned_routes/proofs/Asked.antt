@@ -18,7 +18,7 @@ use Rattle.planned_routes.specs.declared.destination.Destination.{Destination}
 use Rattle.planned_routes.specs.declared.owners.Owner.{Owner}
 use Rattle.planned_routes.specs.PlannedRoutes.{IsMetric, metric_at, weighed, weighed_from, weighed_links}
 use Rattle.planned_routes.specs.Owners.{same_key, nodes_with, grouped}
-use Rattle.planned_routes.proofs.Grouping.{are_nodes_with, group_means}
+use Rattle.planned_routes.proofs.OwnersByPrefix.{are_nodes_with, group_means}
 
 none_some : (n : ℕ) → Path (Option ℕ) None (Some n) → ⊥
 none_some n e = absurd (cc)

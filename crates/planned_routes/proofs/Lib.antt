@@ -1,8 +1,8 @@
-pub mod Keys
+pub mod KeySets
 pub mod SameRoutes
-pub mod Entries
-pub mod Planning
-pub mod Grouping
+pub mod RoutesEntered
+pub mod DestinationsReached
+pub mod OwnersByPrefix
 pub mod OwnersPlanned
-pub mod Loops
+pub mod LoopLists
 pub mod Asked

@@ -11,7 +11,7 @@ use Rattle.planned_routes.specs.declared.owners.Owner.{Owner}
 use Rattle.planned_routes.specs.PlannedRoutes.{Has, AreNodesWith, IsPlanned, HasRoute, ArePlanned}
 use Rattle.planned_routes.specs.Destinations.{LeadsTo, LeadsLeast, LeadToAll}
 use Rattle.planned_routes.specs.Owners.{nodes_with, destination_of, grouped}
-use Rattle.planned_routes.proofs.Grouping.{are_nodes_with, group_means, all_grouped}
+use Rattle.planned_routes.proofs.OwnersByPrefix.{are_nodes_with, group_means, all_grouped}
 
 -- ---- the same targets
 

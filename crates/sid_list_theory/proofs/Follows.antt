@@ -11,7 +11,7 @@ use Rattle.sid_list_spec.specs.SegmentLists.{SidBlock, ListSid, Container, Full,
 use Rattle.sid_list_theory.specs.SegmentListsTerms.{IsFlatSid, IsFlatContainer, IsFlatList}
 use Rattle.sid_list_theory.specs.ListPlaces.{ListPlace, InFull, InPacked, entered, next_of, may_lack, stays_routed, IsPlace, IsListed}
 use Rattle.sid_list_theory.proofs.Sids.{all_right, block_of, full_rest}
-use Rattle.sid_list_theory.proofs.Entries.{listed_behind}
+use Rattle.sid_list_theory.proofs.SegmentEntries.{listed_behind}
 use Rattle.sid_list_theory.proofs.Packs.{flat_own}
 
 -- ---- what has to follow

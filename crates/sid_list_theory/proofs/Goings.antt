@@ -23,7 +23,7 @@ use Rattle.sid_list_theory.specs.ListPlaces.{InFull, InPacked, Tunnel, header_wi
 use Rattle.sid_list_theory.proofs.Sids.{full_container, full_first, full_block, full_value_law, full_one, len_in, width_in, replace_sid, packed_entry_law, count_positive}
 use Rattle.sid_list_theory.proofs.SidListSteps.{at_shifts}
 use Rattle.sid_list_theory.proofs.Advances.{entry_is, onward_whole, onward_packed, tired_packed}
-use Rattle.sid_list_theory.proofs.Entries.{listed_behind, length_behind, long_enough, left_one, left_packed}
+use Rattle.sid_list_theory.proofs.SegmentEntries.{listed_behind, length_behind, long_enough, left_one, left_packed}
 
 abbrev pub list_of : Tunnel → List ℕ
 list_of t = segment_list t.encapsulation

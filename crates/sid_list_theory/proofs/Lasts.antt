@@ -17,7 +17,7 @@ use Rattle.sid_list_spec.specs.SegmentLists.{ListSid, Container, full_value, pac
 use Rattle.sid_list_theory.specs.SegmentListsTerms.{compression, IsFlatSid}
 use Rattle.sid_list_theory.specs.ListPlaces.{ListPlace, InFull, InPacked, Tunnel, header_with, on_way, form, active, behind_of, next_of, entered, destination_of, may_lack, inner_at, at_the_end, StandsOn, IsPlace, IsInPacked, IsListed}
 use Rattle.sid_list_theory.proofs.Advances.{there}
-use Rattle.sid_list_theory.proofs.Entries.{long_enough}
+use Rattle.sid_list_theory.proofs.SegmentEntries.{long_enough}
 use Rattle.sid_list_theory.proofs.Goings.{list_of, still_one, still_plain}
 use Rattle.sid_list_theory.proofs.Packs.{ended_packed}
 use Rattle.sid_list_theory.proofs.Nexts.{Leads, leads_next}

@@ -1,5 +1,5 @@
 pub mod Sids
-pub mod Entries
+pub mod SegmentEntries
 pub mod SidListSteps
 pub mod Advances
 pub mod Goings

@@ -21,7 +21,7 @@ use Rattle.sid_list_theory.specs.SegmentListsTerms.{compression, IsFlatSid}
 use Rattle.sid_list_theory.specs.ListPlaces.{InFull, InPacked, Tunnel, header_with, on_way, form, destination_of, may_lack, IsInPacked}
 use Rattle.sid_list_theory.proofs.Sids.{all_right, width_in, replace_sid, packed_entry_law}
 use Rattle.sid_list_theory.proofs.Advances.{entry_is, onward_packed, tired_packed}
-use Rattle.sid_list_theory.proofs.Entries.{listed_behind, length_behind, long_enough, left_none, left_packed}
+use Rattle.sid_list_theory.proofs.SegmentEntries.{listed_behind, length_behind, long_enough, left_none, left_packed}
 use Rattle.sid_list_theory.proofs.Goings.{list_of, AreAddresses, still_replace}
 
 -- ---- its SIDs

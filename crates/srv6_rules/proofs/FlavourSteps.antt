@@ -11,7 +11,7 @@ use Rattle.srv6_rules.specs.ChainTerms.{LiesIn}
 use Rattle.srv6_rules.specs.Endpoint.{Endpoint, Onward, Exposed, Delivered, Refused, as_in, outcome_without, advanced}
 use Rattle.srv6_rules.proofs.Bytes.{byte_below}
 use Rattle.srv6_rules.proofs.Chains.{lies_bytes}
-use Rattle.srv6_rules.proofs.Without.{without_others, without_room, without_bytes}
+use Rattle.srv6_rules.proofs.HeaderTakenOut.{without_others, without_room, without_bytes}
 use Rattle.srv6_rules.proofs.EndpointSteps.{entry_of_below}
 
 -- ---- what is kept of a packet that goes on or is handed over: what stands in front of a place is there still, it is no longer, the

@@ -20,7 +20,7 @@ pub mod Encapsulations
 pub mod EncapsulatedSteps
 pub mod EncapsulationForms
 pub mod CutPackets
-pub mod Without
+pub mod HeaderTakenOut
 pub mod Checksums
 pub mod ErrorLaws
 pub mod PacketContainers

@@ -8,7 +8,7 @@ pub use Rattle.srv6_rules.proofs.PacketEdits.{spelling_behind, spelled_payload, 
 pub use Rattle.srv6_rules.proofs.Headers.{srh_of_spelling, srh_of_spellable, srh_spelling_srh_of, entry_at, length_entries}
 pub use Rattle.srv6_rules.proofs.Chains.{chain_of_start, chain_at_goes_on, chain_at_upper, chain_at_cut, chain_at_header, chain_at_lies, chain_at_follow, chain_at_stand, chain_at_ends, chain_at_upper_stands, chain_at_spelled, follow_ascends, follow_chain, start_stands, behind_stands, extension_bytes_least, header_in_lies, lies_at, lies_spelled, lies_bytes, lies_stated}
 pub use Rattle.srv6_rules.proofs.CutPackets.{without_first_chain, chain_at_split, chain_at_lowered}
-pub use Rattle.srv6_rules.proofs.Without.{without_others, without_bytes, without_length, without_behind, without_front, without_spellable, without_later_chain}
+pub use Rattle.srv6_rules.proofs.HeaderTakenOut.{without_others, without_bytes, without_length, without_behind, without_front, without_spellable, without_later_chain}
 pub use Rattle.srv6_rules.proofs.AreaItems.{area_fault_empty, area_fault_item, area_fault_within, options_fault_within, tlvs_fault_within, pad1_skipped, option_skipped, option_discarded, option_told, option_bad, tlv_hmac, tlv_bad, tlv_pad1, tlv_skipped}
 pub use Rattle.srv6_rules.proofs.PacketReached.{over_goes_on, over_passed, over_all_passed, over_decides, reached_contained, reached_lies, reached_stands, first_there}
 pub use Rattle.srv6_rules.proofs.Treatments.{first_passed, late_refused, options_judged, options_passed, options_refused, fragment_refused, routing_by, unknown_passed, unknown_refused, sid_known, known_whole, known_packed, whole_last, whole_steps, whole_refuses, packed_steps, packed_last, packed_refuses, last_stays, last_out}

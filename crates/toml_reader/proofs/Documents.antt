@@ -9,8 +9,8 @@ test_fails : (text : List ℕ) (b : Bool) → is_utf8 text ≡ b → ¬ IsUtf8 t
 test_fails text true e other = absurd (other (IsUtf8-from_is_utf8 text e))
 test_fails text false e other = e
 
-pub document_of-no_text : (text : List ℕ) → ¬ IsUtf8 text → document_of text ≡ None
-document_of-no_text text other = rw (test_fails text (is_utf8 text) refl other)
+pub document_of_no_text : (text : List ℕ) → ¬ IsUtf8 text → document_of text ≡ None
+document_of_no_text text other = rw (test_fails text (is_utf8 text) refl other)
 
-pub document_of-text : (text : List ℕ) → IsUtf8 text → document_of text ≡ parse_document text
-document_of-text text is = rw (is_utf8-from_IsUtf8 text is)
+pub document_of_text : (text : List ℕ) → IsUtf8 text → document_of text ≡ parse_document text
+document_of_text text is = rw (is_utf8-from_IsUtf8 text is)

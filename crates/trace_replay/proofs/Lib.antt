@@ -5,7 +5,7 @@ pub mod ReplayGoing
 pub mod ReplayNumberLemmas
 pub mod PacketLines
 pub mod Pieces
-pub mod Printed
+pub mod WalkLinesRight
 pub mod ReplayPrinting
 pub mod PublicLaws
 pub mod Splitting

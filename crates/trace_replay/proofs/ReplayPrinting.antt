@@ -16,7 +16,7 @@ use Rattle.trace_replay.specs.TraceLaws.{walk_lines}
 use Rattle.trace_replay.specs.TraceLawsTerms.{state_behind, state_by}
 use Rattle.trace_replay.specs.TraceLines.{stages_text}
 use Rattle.trace_replay.specs.Replays.{Wrong, going, line_judged, wrong_by, wrong_from}
-use Rattle.trace_replay.proofs.Printed.{line_leads}
+use Rattle.trace_replay.proofs.WalkLinesRight.{line_leads}
 
 -- after a packet that used all its stages the line that says so is right
 stopped_ends : (net : Network) → state_behind net states.Stopped (stages_text ∷ []) ≡ Some states.Ended

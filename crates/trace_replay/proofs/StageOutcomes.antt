@@ -23,7 +23,7 @@ use Rattle.walk_rules.specs.declared.place.How.TheVariants.{Arrived, Submitted, 
 use Rattle.walk_rules.specs.declared.place.Place.{Place}
 use Rattle.walk_rules.specs.Treatment.{Gave, allow_of, dropped, error_by, error_from, error_of, exposed_from, free_step_of, mtu_at, onward_from, step_of, treated_at_address, treated_at_sid, way_on}
 use Rattle.walk_rules.specs.Way.{way_of}
-use Rattle.walk_rules.proofs.Outcomes.{treated_each, treated4_each}
+use Rattle.walk_rules.proofs.OutcomeFacts.{treated_each, treated4_each}
 use Rattle.walk_rules.proofs.PublicLaws.{onward_each, step_each}
 
 -- ---- the bytes of an error

@@ -6,5 +6,5 @@ pub mod Meetings
 pub mod TransitWalks
 pub mod NetworkStarts
 pub mod Forms
-pub mod Intents
+pub mod HeadendPaths
 pub mod PublicLaws

@@ -1,10 +1,10 @@
 pub mod WholeLists
 pub mod Tracking
 pub mod Entered
-pub mod Waiting
+pub mod PacketsToCome
 pub mod Owning
 pub mod Telling
-pub mod Frames
+pub mod SameFrames
 pub mod WholeTaking
 pub mod Hands
 pub mod WholeComing

@@ -17,7 +17,7 @@ use Rattle.update_driver.specs.Moving.{Happening, Moving, Sides, after_entering,
 use Rattle.update_commands.specs.WholeUpdate.{comes_early, happened_to}
 use Rattle.update_commands.proofs.Entered.{times}
 use Rattle.update_commands.proofs.Tracking.{IsThrough}
-use Rattle.update_commands.proofs.Waiting.{StaysPut, ToldBy, early_stay, early_turn, edit_before, edit_behind, entry_by, mine_early, mine_told, put_event, told_later}
+use Rattle.update_commands.proofs.PacketsToCome.{StaysPut, ToldBy, early_stay, early_turn, edit_before, edit_behind, entry_by, mine_early, mine_told, put_event, told_later}
 
 module _ (old new : Network) (pass : PassOver (tables_between old new) (added_entries old new) (removed_entries old new)) (sides : Sides)
     (at : ℕ) (body : Body) where

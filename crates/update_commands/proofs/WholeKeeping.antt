@@ -51,7 +51,7 @@ use Rattle.update_commands.proofs.Hands.{hand_front, hand_routes}
 use Rattle.update_commands.proofs.Owning.{IsOwn, early_own}
 use Rattle.update_commands.proofs.WholeTaking.{TellsFront, takes_walk}
 use Rattle.update_commands.proofs.Tracking.{IsThrough}
-use Rattle.update_commands.proofs.Waiting.{ToldBy, own_tables}
+use Rattle.update_commands.proofs.PacketsToCome.{ToldBy, own_tables}
 
 -- ---- each packet has as many turns as a walk has stages
 

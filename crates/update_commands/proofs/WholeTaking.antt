@@ -25,7 +25,7 @@ use Rattle.update_driver.specs.Events.{pieces_of}
 use Rattle.update_driver.specs.Moving.{Happening, as_in_flight, first_member}
 use Rattle.update_commands.specs.WholeUpdate.{TakesWalk, stages_happened}
 use Rattle.update_commands.proofs.Entered.{tellings}
-use Rattle.update_commands.proofs.Frames.{frames_same, line_same, stages_tellings}
+use Rattle.update_commands.proofs.SameFrames.{frames_same, line_same, stages_tellings}
 use Rattle.update_commands.proofs.Telling.{frames_told, lines_told_law}
 
 -- what is told begins with the stages of a front of the packet's walk

@@ -3,10 +3,10 @@ pub mod EventFronts
 pub mod Seats
 pub mod EventTurning
 pub mod EventEnds
-pub mod Editing
+pub mod EditLines
 pub mod EventComing
 pub mod EventStarting
-pub mod Loops
+pub mod EventsInTurn
 pub mod EventPackets
 pub mod Driving
 pub mod Tracks

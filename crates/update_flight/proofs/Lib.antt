@@ -5,6 +5,6 @@ pub mod PassingKept
 pub mod Whole
 pub mod PassingPassed
 pub mod PassingEntering
-pub mod Named
+pub mod EditNames
 pub mod Planned
 pub mod PublicLaws

@@ -27,7 +27,7 @@ use Rattle.update_flight.specs.Planned.{added_entries, removed_entries}
 use Rattle.update_flight.specs.PlannedTerms.{ShowsEdits, is_shown_after, names}
 use Rattle.update_flight.specs.MomentTablesTerms.{KeepsOwn}
 use Rattle.update_flight.specs.Transition.{edits}
-use Rattle.update_flight.proofs.Named.{added_none, added_route, added_sid, named_in, none_dropped, none_taken, removed_none, removed_some}
+use Rattle.update_flight.proofs.EditNames.{added_none, added_route, added_sid, named_in, none_dropped, none_taken, removed_none, removed_some}
 use Rattle.update_flight.proofs.PassingEditLemmas.{length_edits}
 
 -- entries that pass one test are those that pass another, where both tests say the same of each entry that is there

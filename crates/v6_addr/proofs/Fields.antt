@@ -6,7 +6,7 @@ use Rattle.std.proofs.Math.Pow.{mod-mod-pow}
 use Rattle.std.proofs.Math.Nat.{pow-le-pow_right}
 use Rattle.v6_addr.specs.Address.{PrefixValue, Holds, field_of, with_field_of}
 use Rattle.v6_addr.specs.Bits.{cut, put}
-use Rattle.v6_addr.proofs.Prefixes.{same_above}
+use Rattle.v6_addr.proofs.PrefixFacts.{same_above}
 
 -- the number that is put, over what stands after it, is below the bits above
 low_part : (a rest width v : ℕ) → v < 2 ^ width → v * 2 ^ rest + a % 2 ^ rest < 2 ^ (rest + width)

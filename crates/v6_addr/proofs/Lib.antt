@@ -14,7 +14,7 @@ pub mod PrefixFaults4
 pub mod PrefixFaults6
 pub mod PrefixGrammar
 pub mod PrefixGrammar4
-pub mod Prefixes
+pub mod PrefixFacts
 pub mod PublicLaws
 pub mod AddressReading
 pub mod RoundTrip

@@ -22,7 +22,7 @@ use Rattle.walk_rules.specs.declared.place.Outcome.TheVariants as outcomes
 use Rattle.walk_rules.specs.Treatment.{Gave, allow_of, free_step_of, lowered, mtu_at, own_len, step_of, treated_at_address, treated_at_sid}
 use Rattle.walk_rules.specs.Way.{way_of}
 use Rattle.walk_rules.specs.Walk.{free_walk_of, walk_of, next_place, decisions}
-use Rattle.walk_rules.proofs.Outcomes.{treated_each}
+use Rattle.walk_rules.proofs.OutcomeFacts.{treated_each}
 use Rattle.walk_rules.proofs.PublicLaws.{onward_each, step_fits, step_other, walk_by_suc, walk_by_zero, walk_by_none}
 use Rattle.leg_table.specs.PositionSids.{sid_binds, is_binding}
 use Rattle.leg_table.specs.StepMatching.{has_link}

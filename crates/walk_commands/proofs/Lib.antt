@@ -6,7 +6,7 @@ pub mod HeadendSteps
 pub mod HeadendSteps4
 pub mod NoList
 pub mod PublicLaws
-pub mod WalkEnds
+pub mod WalkLeaves
 pub mod WalkKeeping
 pub mod WalkStarts
 pub mod WalkOneOutput

@@ -22,7 +22,7 @@ use Rattle.walk_rules.specs.WalkLawsTerms.{Executes, IsDeliveredBehindUsp, IsLow
 use Rattle.walk_rules.proofs.Sending.{given, drops_gave}
 use Rattle.walk_rules.proofs.WalkStages.{free_choice}
 use Rattle.walk_rules.proofs.WalkChoices.{free_unique, free_named}
-use Rattle.walk_rules.proofs.Outcomes.{free_member, free_each, free_names, free_drop, free_local, free_tells}
+use Rattle.walk_rules.proofs.OutcomeFacts.{free_member, free_each, free_names, free_drop, free_local, free_tells}
 use Rattle.walk_rules.proofs.WalkExecutions.{free_again, free_hand, free_less, free_pushes}
 use Rattle.walk_rules.proofs.WalkContents.{free_content, free_back}
 

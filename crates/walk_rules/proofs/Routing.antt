@@ -17,7 +17,7 @@ use Rattle.walk_rules.specs.declared.place.Place.{Place}
 use Rattle.walk_rules.specs.Way.{Way, NoWay, Over, Own, Into, is_multicast_of, route_links, sid_links, way_by_hit, way_by_table, way_by, way_of}
 use Rattle.walk_rules.specs.WayTerms.{StandsAt, IsRouteOf, IsThere, IsWayFrom}
 use Rattle.walk_rules.specs.Relation.{IsThrough, IsHow}
-use Rattle.walk_rules.proofs.Lookups.{lookup_there}
+use Rattle.walk_rules.proofs.LookupHits.{lookup_there}
 
 -- the SID that a way leads into stands at the node, whether the network keeps the rules or not
 abbrev pub IntoStands : Network → ℕ → Way → Type 0

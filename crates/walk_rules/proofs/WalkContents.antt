@@ -22,7 +22,7 @@ use Rattle.walk_rules.specs.Walk.{far_end, arrival, next_place}
 use Rattle.walk_rules.specs.WalkLawsTerms.{family_after}
 use Rattle.walk_rules.proofs.Binding.{outer_of, onward_each}
 use Rattle.walk_rules.proofs.Outers.{outer_spellable}
-use Rattle.walk_rules.proofs.Outcomes.{treated_each, treated4_each}
+use Rattle.walk_rules.proofs.OutcomeFacts.{treated_each, treated4_each}
 
 -- a content that can be spelled and, if something is so, reads again from its bytes as a packet of a family
 abbrev IsBack : Type 0 → Family → Content → Type 0

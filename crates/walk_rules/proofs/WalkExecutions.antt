@@ -19,7 +19,7 @@ use Rattle.walk_rules.specs.WayTerms.{StandsAt}
 use Rattle.walk_rules.specs.Treatment.{Gave, goes, onward_from, exposed_from, treated_at_address, treated_at_sid, free_step_of, allow_of}
 use Rattle.walk_rules.specs.WalkLawsTerms.{IsLoweredByOne, PushesOne, Executes}
 use Rattle.walk_rules.proofs.Binding.{outer_of, onward_each}
-use Rattle.walk_rules.proofs.Outcomes.{at_entry, treated_each, treated4_each}
+use Rattle.walk_rules.proofs.OutcomeFacts.{at_entry, treated_each, treated4_each}
 use Rattle.walk_rules.proofs.Routing.{way_into}
 
 -- what a stage gave is an execution where its outcome says so

@@ -1,6 +1,6 @@
 use Rattle.std.proofs.Common.{sym, ◌∙◌}
 use Rattle.walk_commands.specs.WalkCommand.{admission_at_headend}
-use Rattle.generate_commands.proofs.Counting.{comes_placed}
+use Rattle.generate_commands.proofs.WalksCounted.{comes_placed}
 use Rattle.generate_commands.proofs.summing.count_packet.Goals as goal
 
 pub count_walk-requires-clause-place : goal.count_walk-requires-clause-place

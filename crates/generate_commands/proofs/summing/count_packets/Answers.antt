@@ -1,6 +1,6 @@
 use Rattle.std.proofs.Common.{◌≡◌, suc, ◌+◌, ◌-◌, arith}
 use Rattle.generate_commands.specs.Summary.{frames_in, left_in, walks_of, walks_of_packet}
-use Rattle.generate_commands.proofs.Counting.{frames_add, left_add, summed_on}
+use Rattle.generate_commands.proofs.WalksCounted.{frames_add, left_add, summed_on}
 use Rattle.generate_commands.proofs.summing.count_packets.Goals as goal
 
 pub loop-before-preserved : goal.loop-before-preserved

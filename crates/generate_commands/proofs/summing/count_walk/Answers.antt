@@ -4,7 +4,7 @@ use Rattle.walk_rules.specs.Relation.{IsPlace}
 use Rattle.walk_rules.specs.Treatment.{Gave, step_of}
 use Rattle.walk_rules.specs.Walk.{Stage, walk_of, choice_at, decisions}
 use Rattle.walk_rules.specs.declared.limits.TheConstants.{MAX_STAGES}
-use Rattle.generate_commands.proofs.Counting.{Counted, counted_on, counted_end, counted_over, frames_of_one, left_of_one}
+use Rattle.generate_commands.proofs.WalksCounted.{Counted, counted_on, counted_end, counted_over, frames_of_one, left_of_one}
 use Rattle.run_commands.proofs.PublicLaws.{walk_is_over}
 use Rattle.generate_commands.proofs.summing.count_walk.Goals as goal
 

@@ -2,7 +2,7 @@ use Rattle.std.proofs.Common.{◌-◌, ◌≤◌, Some}
 use Rattle.walk_rules.specs.Relation.{IsPlace}
 use Rattle.walk_rules.specs.Walk.{walk_of, choice_at}
 use Rattle.walk_rules.specs.declared.limits.TheConstants.{MAX_STAGES}
-use Rattle.generate_commands.proofs.Counting.{Counted}
+use Rattle.generate_commands.proofs.WalksCounted.{Counted}
 use Rattle.generate_commands.proofs.summing.count_walk.Given as goal
 
 abbrev pub invariant-loop-used : goal.invariant-loop-used

@@ -1,4 +1,4 @@
-use Rattle.leg_table.proofs.Traces.{matches_by, left_parts}
+use Rattle.leg_table.proofs.TraceMeetings.{matches_by, left_parts}
 use Rattle.leg_table.proofs.laws.a_trace_is_matched_event_by_event.Goals as goal
 
 pub returns-clause-matched : goal.returns-clause-matched

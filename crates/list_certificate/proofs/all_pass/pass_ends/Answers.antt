@@ -1,7 +1,7 @@
 use Rattle.std.proofs.Common.{get_or, sym, ◌∙◌, subst}
 use Rattle.std.proofs.lemmas.Option.{slice_get-get_or}
 use Rattle.list_certificate.specs.Tests.{state_in, Assures, CellPassesFinish}
-use Rattle.list_certificate.proofs.Passing.{ends_more, ends_by, ends_all}
+use Rattle.list_certificate.proofs.MovesPassing.{ends_more, ends_by, ends_all}
 use Rattle.list_certificate.proofs.all_pass.pass_ends.Goals as goal
 use Rattle.list_certificate.proofs.all_pass.pass_ends.Goals.{in-Some+else-not-pass_finish, in_default}
 

@@ -1,7 +1,7 @@
 use Rattle.std.proofs.Common.{Bool, true, false, subst}
 use Rattle.list_pack.specs.declared.types.State.{State}
 use Rattle.list_certificate.specs.Tests.{PassesLast, move_of, state_in, Tells}
-use Rattle.list_certificate.proofs.Passing.{both_stays}
+use Rattle.list_certificate.proofs.MovesPassing.{both_stays}
 use Rattle.list_certificate.proofs.CertificateCelling.{rooms_last}
 use Rattle.list_certificate.proofs.all_pass.pass_finish.Goals as goal
 

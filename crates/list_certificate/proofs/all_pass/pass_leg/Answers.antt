@@ -1,7 +1,7 @@
 use Rattle.std.proofs.Common.{Bool, true, false, subst}
 use Rattle.list_pack.specs.declared.types.State.{State}
 use Rattle.list_certificate.specs.Tests.{PassesMove, move_of, state_in, Tells}
-use Rattle.list_certificate.proofs.Passing.{both_stays}
+use Rattle.list_certificate.proofs.MovesPassing.{both_stays}
 use Rattle.list_certificate.proofs.CertificateCelling.{rooms_move}
 use Rattle.list_certificate.proofs.all_pass.pass_leg.Goals as goal
 

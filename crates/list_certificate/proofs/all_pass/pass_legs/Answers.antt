@@ -1,6 +1,6 @@
 use Rattle.std.proofs.Common.{arith}
 use Rattle.list_certificate.specs.Tests.{state_in}
-use Rattle.list_certificate.proofs.Passing.{below_all}
+use Rattle.list_certificate.proofs.MovesPassing.{below_all}
 use Rattle.list_certificate.proofs.all_pass.pass_legs.Goals as goal
 
 pub returns : goal.returns

@@ -2,7 +2,7 @@ use Rattle.std.proofs.Common.{◌≡◌, ℕ, get_or, sym, ◌∙◌, ap, subst}
 use Rattle.std.proofs.lemmas.Option.{slice_get-get_or, same_Some, none-some}
 use Rattle.list_pack.specs.declared.types.Leg.{Leg}
 use Rattle.list_certificate.specs.Tests.{PassesMove, move_of, state_in, Assures, CellPassesLeg}
-use Rattle.list_certificate.proofs.Passing.{legs_more, legs_all_to}
+use Rattle.list_certificate.proofs.MovesPassing.{legs_more, legs_all_to}
 use Rattle.list_certificate.proofs.all_pass.pass_legs_to.Goals as goal
 use Rattle.list_certificate.proofs.all_pass.pass_legs_to.Goals.{in-Some+then-leg-to+else-not-pass_leg, in-Some+else-leg-to, in_default}
 

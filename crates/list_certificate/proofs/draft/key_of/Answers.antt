@@ -1,6 +1,6 @@
 use Rattle.std.proofs.Common.{◌∙◌, ap}
 use Rattle.list_pack.specs.declared.types.Shape.{Shape}
-use Rattle.list_certificate.proofs.Networks.{known, state_sid, key_is, node_is}
+use Rattle.list_certificate.proofs.LegNetworks.{known, state_sid, key_is, node_is}
 use Rattle.list_certificate.proofs.draft.key_of.Goals as goal
 
 pub sid-requires : goal.sid-requires

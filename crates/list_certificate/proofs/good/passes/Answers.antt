@@ -1,6 +1,6 @@
 use Rattle.std.proofs.Common.{subst}
 use Rattle.list_certificate.specs.Tests.{ShowsLegs}
-use Rattle.list_certificate.proofs.Passing.{good_legs}
+use Rattle.list_certificate.proofs.MovesPassing.{good_legs}
 use Rattle.list_certificate.proofs.good.passes.Goals as goal
 
 pub returns-then-not-passes_legs : goal.returns-then-not-passes_legs

@@ -1,7 +1,7 @@
 use Rattle.std.proofs.Common.{Bool, true, false, get_or, sym, ◌∙◌, subst}
 use Rattle.std.proofs.lemmas.Option.{slice_get-get_or}
 use Rattle.list_certificate.specs.Tests.{PassesLast, move_of, Tells}
-use Rattle.list_certificate.proofs.Passing.{both_stays, ends_more, ends_by, ends_all}
+use Rattle.list_certificate.proofs.MovesPassing.{both_stays, ends_more, ends_by, ends_all}
 use Rattle.list_certificate.proofs.good.passes_ends.Goals as goal
 use Rattle.list_certificate.proofs.good.passes_ends.Goals.{in-Some+else-not-passes_last+else-not-passes_last-2, in_default}
 

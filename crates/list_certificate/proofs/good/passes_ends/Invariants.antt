@@ -1,4 +1,4 @@
-use Rattle.list_certificate.proofs.Passing.{SomeEnds}
+use Rattle.list_certificate.proofs.MovesPassing.{SomeEnds}
 use Rattle.list_certificate.proofs.good.passes_ends.Given as goal
 
 abbrev pub invariant-loop-n : goal.invariant-loop-n

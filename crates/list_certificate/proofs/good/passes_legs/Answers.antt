@@ -1,5 +1,5 @@
 use Rattle.std.proofs.Common.{arith}
-use Rattle.list_certificate.proofs.Passing.{below_all}
+use Rattle.list_certificate.proofs.MovesPassing.{below_all}
 use Rattle.list_certificate.proofs.good.passes_legs.Goals as goal
 
 pub returns : goal.returns

@@ -1,4 +1,4 @@
-use Rattle.list_certificate.proofs.Passing.{LegsBelow}
+use Rattle.list_certificate.proofs.MovesPassing.{LegsBelow}
 use Rattle.list_certificate.proofs.good.passes_legs.Given as goal
 
 abbrev pub invariant-loop-to : goal.invariant-loop-to

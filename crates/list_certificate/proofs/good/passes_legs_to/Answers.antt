@@ -2,7 +2,7 @@ use Rattle.std.proofs.Common.{◌≡◌, ℕ, Bool, true, false, get_or, sym, �
 use Rattle.std.proofs.lemmas.Option.{slice_get-get_or, same_Some, none-some}
 use Rattle.list_pack.specs.declared.types.Leg.{Leg}
 use Rattle.list_certificate.specs.Tests.{PassesMove, move_of, Tells}
-use Rattle.list_certificate.proofs.Passing.{both_stays, legs_more, legs_all_to}
+use Rattle.list_certificate.proofs.MovesPassing.{both_stays, legs_more, legs_all_to}
 use Rattle.list_certificate.proofs.good.passes_legs_to.Goals as goal
 use Rattle.list_certificate.proofs.good.passes_legs_to.Goals.{in-Some+then-leg-to+else-not-passes_move+else-not-passes_move-2, in-Some+else-leg-to, in_default}
 

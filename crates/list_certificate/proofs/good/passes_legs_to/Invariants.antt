@@ -1,4 +1,4 @@
-use Rattle.list_certificate.proofs.Passing.{SomeLegsTo}
+use Rattle.list_certificate.proofs.MovesPassing.{SomeLegsTo}
 use Rattle.list_certificate.proofs.good.passes_legs_to.Given as goal
 
 abbrev pub invariant-loop-n : goal.invariant-loop-n

@@ -1,5 +1,5 @@
 use Rattle.std.proofs.Common.{get_or}
-use Rattle.list_certificate.proofs.Networks.{known, sid_at}
+use Rattle.list_certificate.proofs.LegNetworks.{known, sid_at}
 use Rattle.list_certificate.proofs.item.named_sid.Goals as goal
 
 pub has_name-requires : goal.has_name-requires

@@ -1,7 +1,7 @@
 use Rattle.std.proofs.Common.{◌≡◌, sym, ◌∙◌, ap, subst, arith}
 use Rattle.list_pack.specs.LegsValueTerms.{IsShape}
 use Rattle.list_pack.specs.Rooms.{top_room}
-use Rattle.list_certificate.proofs.Networks.{sid_middle}
+use Rattle.list_certificate.proofs.LegNetworks.{sid_middle}
 use Rattle.list_certificate.proofs.item.placed_of.Goals as goal
 
 pub shape-requires : goal.shape-requires

@@ -1,7 +1,7 @@
 use Rattle.std.proofs.Common.{◌≡◌, [], sym, ◌∙◌, ap, subst, Some}
 use Rattle.list_pack.specs.declared.types.Shape.{Shape}
 use Rattle.list_certificate.specs.Tests.{Tells}
-use Rattle.list_certificate.proofs.Passing.{room_is}
+use Rattle.list_certificate.proofs.MovesPassing.{room_is}
 use Rattle.list_certificate.proofs.CertificatePathing.{last_stands}
 use Rattle.list_certificate.proofs.path_lines.last_by.Goals as goal
 

@@ -6,7 +6,7 @@ use Rattle.list_certificate.specs.declared.line_words.Parts.{Parts}
 use Rattle.list_certificate.specs.declared.draft.Draft.{Draft}
 use Rattle.list_certificate.specs.CertificateReading.{Read, with_line, reads, read_of}
 use Rattle.list_certificate.specs.CertificateReadingTerms.{GivesCertificate, read_value, read_values, cut_value}
-use Rattle.list_certificate.proofs.Readings.{IsRead, nothing_is_read, line_read, given_cert, reads_last, reads_line}
+use Rattle.list_certificate.proofs.OneReading.{IsRead, nothing_is_read, line_read, given_cert, reads_last, reads_line}
 use Rattle.list_certificate.proofs.reader.read.Goals as goal
 
 pub loop-parts-init : goal.loop-parts-init

@@ -2,7 +2,7 @@ use Rattle.std.proofs.Common.{◌≡◌, ◌≤◌, ◌+◌, ◌==◌, length}
 use Rattle.std.specs.List.{slice_split}
 use Rattle.list_certificate.specs.CertificateReading.{reads, read_of}
 use Rattle.list_certificate.specs.CertificateReadingTerms.{read_value}
-use Rattle.list_certificate.proofs.Readings.{IsRead}
+use Rattle.list_certificate.proofs.OneReading.{IsRead}
 use Rattle.list_certificate.proofs.reader.read.Given as goal
 
 abbrev pub invariant-loop-parts : goal.invariant-loop-parts

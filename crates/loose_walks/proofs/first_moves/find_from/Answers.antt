@@ -1,7 +1,7 @@
 use Rattle.std.proofs.Common.{◌-◌, length, refl}
 use Rattle.std.proofs.lemmas.List.{take_rest}
 use Rattle.walk_rules.specs.WayTerms.{way_in}
-use Rattle.loose_walks.proofs.Numbering.{into_there}
+use Rattle.loose_walks.proofs.VertexNumbers.{into_there}
 use Rattle.loose_walks.proofs.WayStarting.{from_place, graph_low}
 use Rattle.loose_walks.proofs.first_moves.find_from.Goals as goal
 

@@ -4,7 +4,7 @@ use Rattle.walk_rules.specs.WayTerms.{way_in}
 use Rattle.choice_graph.specs.VertexTables.{known_at}
 use Rattle.choice_graph.proofs.GraphTables.{adds_one, none_is}
 use Rattle.loose_walks.specs.WayGraphs.{arrived, graph_in}
-use Rattle.loose_walks.proofs.Numbering.{into_there}
+use Rattle.loose_walks.proofs.VertexNumbers.{into_there}
 use Rattle.loose_walks.proofs.Filling.{filled_is, low_table, some_settled, vertex_in, way_read}
 use Rattle.loose_walks.proofs.graph_tables.fill.Goals as goal
 

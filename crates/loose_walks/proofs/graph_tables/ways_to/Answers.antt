@@ -1,5 +1,5 @@
 use Rattle.walk_rules.specs.WayTerms.{way_in}
-use Rattle.loose_walks.proofs.Numbering.{way_arrived}
+use Rattle.loose_walks.proofs.VertexNumbers.{way_arrived}
 use Rattle.loose_walks.proofs.WayRows.{way_more}
 use Rattle.loose_walks.proofs.graph_tables.ways_to.Goals as goal
 

@@ -1,6 +1,6 @@
 use Rattle.std.proofs.Common.{◌≤◌, length, refl, sym, arith}
 use Rattle.loose_walks.specs.WalkStops.{ends_in}
-use Rattle.loose_walks.proofs.Numbering.{next_is, behind_few, end_few}
+use Rattle.loose_walks.proofs.VertexNumbers.{next_is, behind_few, end_few}
 use Rattle.loose_walks.proofs.way_finding.next_vertex.Goals as goal
 
 pub number_behind-requires-clause-few : goal.number_behind-requires-clause-few

@@ -1,4 +1,4 @@
-use Rattle.pcapng_io.proofs.Numbered.{numbered_file}
+use Rattle.pcapng_io.proofs.FrameNumbers.{numbered_file}
 use Rattle.pcapng_io.proofs.laws.frames_are_numbered.Goals as goal
 
 pub returns : goal.returns

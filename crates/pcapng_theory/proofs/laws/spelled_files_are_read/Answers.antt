@@ -1,4 +1,4 @@
-use Rattle.pcapng_theory.proofs.FilesRead.{file_read}
+use Rattle.pcapng_theory.proofs.FilesReadBack.{file_read}
 use Rattle.pcapng_theory.proofs.laws.spelled_files_are_read.Goals as goal
 
 pub returns : goal.returns

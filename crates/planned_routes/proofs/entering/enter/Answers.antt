@@ -10,7 +10,7 @@ use Rattle.planned_routes.specs.declared.destination.Destination.{Destination}
 use Rattle.planned_routes.specs.Entering.{entering, entries}
 use Rattle.planned_routes.specs.RouteKeys.{HasKeys}
 use Rattle.planned_routes.proofs.SameRoutes.{keys_stay}
-use Rattle.planned_routes.proofs.Loops.{entries_more, enters_new, enters_not}
+use Rattle.planned_routes.proofs.LoopLists.{entries_more, enters_new, enters_not}
 use Rattle.planned_routes.proofs.entering.enter.Goals as goal
 use Rattle.planned_routes.proofs.entering.enter.Goals.{then-branch+in_ok-push, else-branch}
 

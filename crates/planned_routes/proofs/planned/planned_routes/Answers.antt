@@ -11,7 +11,7 @@ use Rattle.planned_routes.specs.PlannedRoutes.{ArePlanned, weighed_links}
 use Rattle.planned_routes.specs.Owners.{grouped}
 use Rattle.planned_routes.specs.Entering.{entering, entries}
 use Rattle.planned_routes.proofs.Asked.{network_is, originators_in, originators_few, routes_within}
-use Rattle.planned_routes.proofs.Planning.{lead_to_all}
+use Rattle.planned_routes.proofs.DestinationsReached.{lead_to_all}
 use Rattle.planned_routes.proofs.OwnersPlanned.{are_planned}
 use Rattle.planned_routes.proofs.planned.planned_routes.Goals as goal
 

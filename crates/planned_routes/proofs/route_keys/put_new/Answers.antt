@@ -1,7 +1,7 @@
 use Rattle.std.proofs.Common.{true, subst}
 use Rattle.std.specs.BTreeSet as tree
 use Rattle.planned_routes.specs.RouteKeys.{route_key_cmp}
-use Rattle.planned_routes.proofs.Keys.{has_more}
+use Rattle.planned_routes.proofs.KeySets.{has_more}
 use Rattle.planned_routes.proofs.route_keys.put_new.Goals as goal
 
 pub returns-clause-kept : goal.returns-clause-kept

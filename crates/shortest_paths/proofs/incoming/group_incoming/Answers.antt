@@ -1,7 +1,7 @@
 use Rattle.std.proofs.Common.{◌≡◌, length, sym, ◌∙◌, subst}
 use Rattle.shortest_paths.specs.Incoming.{Groups, PutsLinks, AreIncoming}
 use Rattle.shortest_paths.proofs.Lists.{take_front}
-use Rattle.shortest_paths.proofs.Grouping.{are_incoming}
+use Rattle.shortest_paths.proofs.LinksByEnd.{are_incoming}
 use Rattle.shortest_paths.proofs.incoming.group_incoming.Goals as goal
 
 pub returns : goal.returns

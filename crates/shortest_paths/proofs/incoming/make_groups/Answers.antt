@@ -1,6 +1,6 @@
 use Rattle.std.proofs.Common.{◌+◌, sym, subst}
 use Rattle.shortest_paths.specs.Incoming.{Groups, AreEmpty}
-use Rattle.shortest_paths.proofs.Grouping.{empty_more}
+use Rattle.shortest_paths.proofs.LinksByEnd.{empty_more}
 use Rattle.shortest_paths.proofs.incoming.make_groups.Goals as goal
 
 pub loop-i-preserved : goal.loop-i-preserved

@@ -1,6 +1,6 @@
 use Rattle.std.proofs.Common.{◌<◌, get_or, length}
 use Rattle.std.proofs.lemmas.Option.{slice_get-get_or}
-use Rattle.shortest_paths.proofs.Grouping.{puts_one, puts_out}
+use Rattle.shortest_paths.proofs.LinksByEnd.{puts_one, puts_out}
 use Rattle.shortest_paths.proofs.incoming.put_link.Goals as goal
 
 pub returns-in_ok-push : goal.returns-in_ok-push

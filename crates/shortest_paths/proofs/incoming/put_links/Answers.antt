@@ -2,7 +2,7 @@ use Rattle.std.proofs.Common.{List, None, take, sym, subst}
 use Rattle.std.proofs.lemmas.List.{take_more}
 use Rattle.shortest_paths.specs.declared.links.Link.{Link}
 use Rattle.shortest_paths.specs.Incoming.{PutsLinks}
-use Rattle.shortest_paths.proofs.Grouping.{puts_none, puts_more}
+use Rattle.shortest_paths.proofs.LinksByEnd.{puts_none, puts_more}
 use Rattle.shortest_paths.proofs.incoming.put_links.Goals as goal
 
 pub loop-link-init : goal.loop-link-init

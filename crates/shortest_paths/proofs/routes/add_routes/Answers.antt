@@ -6,7 +6,7 @@ use Rattle.shortest_paths.specs.declared.routes.Route.{Route}
 use Rattle.shortest_paths.specs.NextHops.{AreNextHops}
 use Rattle.shortest_paths.specs.Routes.{IsFirstHop}
 use Rattle.shortest_paths.specs.RoutesTerms.{PlansSoFar}
-use Rattle.shortest_paths.proofs.Planning.{route_is, no_first, plans_yes, plans_no, plans_same}
+use Rattle.shortest_paths.proofs.RoutesInTurn.{route_is, no_first, plans_yes, plans_no, plans_same}
 use Rattle.shortest_paths.proofs.routes.add_routes.Goals as goal
 use Rattle.shortest_paths.proofs.routes.add_routes.Goals.{then-not-is_empty+in_ok-push, else-not-is_empty}
 

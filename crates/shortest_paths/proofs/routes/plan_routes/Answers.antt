@@ -1,4 +1,4 @@
-use Rattle.shortest_paths.proofs.Planning.{plans_next, plans_all}
+use Rattle.shortest_paths.proofs.RoutesInTurn.{plans_next, plans_all}
 use Rattle.shortest_paths.proofs.routes.plan_routes.Goals as goal
 
 pub loop-destination-preserved : goal.loop-destination-preserved

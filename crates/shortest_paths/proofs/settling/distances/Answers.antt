@@ -4,7 +4,7 @@ use Rattle.std.proofs.lemmas.Option.{MatchOption-at_none}
 use Rattle.shortest_paths.specs.Settling.{Entries, SettlesSoFar, NoneIsOpen}
 use Rattle.shortest_paths.proofs.Lists.{take_front}
 use Rattle.shortest_paths.proofs.Rounds.{settles_start, settles_all}
-use Rattle.shortest_paths.proofs.Turns.{turn_fits, turn_links, turn_settles}
+use Rattle.shortest_paths.proofs.SettlingTurns.{turn_fits, turn_links, turn_settles}
 use Rattle.shortest_paths.proofs.settling.distances.Goals as goal
 
 pub group_incoming-requires : goal.group_incoming-requires

@@ -1,5 +1,5 @@
 use Rattle.srv6_rules.proofs.CutPackets.{without_first_chain, chain_at_split}
-use Rattle.srv6_rules.proofs.Without.{without_others, without_length, without_behind, without_front, without_spellable, without_later_chain}
+use Rattle.srv6_rules.proofs.HeaderTakenOut.{without_others, without_length, without_behind, without_front, without_spellable, without_later_chain}
 use Rattle.srv6_rules.proofs.chain_laws.header_taken_out_leaves_the_chain.Goals as goal
 
 pub returns-clause-others : goal.returns-clause-others

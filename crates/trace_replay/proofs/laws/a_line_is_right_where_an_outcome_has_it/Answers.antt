@@ -1,4 +1,4 @@
-use Rattle.trace_replay.proofs.Printed.{given_choice, given_outcome}
+use Rattle.trace_replay.proofs.WalkLinesRight.{given_choice, given_outcome}
 use Rattle.trace_replay.proofs.laws.a_line_is_right_where_an_outcome_has_it.Goals as goal
 
 pub returns-clause-outcome : goal.returns-clause-outcome

@@ -1,4 +1,4 @@
-use Rattle.v6_addr.proofs.Prefixes.{same_above}
+use Rattle.v6_addr.proofs.PrefixFacts.{same_above}
 use Rattle.v6_addr.proofs.Fields.{same_below}
 use Rattle.v6_addr.proofs.BitLaws.{same_from_both}
 use Rattle.v6_addr.proofs.bit_laws.numbers_agree_above_and_below.Goals as goal

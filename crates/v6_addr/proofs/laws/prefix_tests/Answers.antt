@@ -1,4 +1,4 @@
-use Rattle.v6_addr.proofs.Prefixes.{holds_address_is, is_inside_is}
+use Rattle.v6_addr.proofs.PrefixFacts.{holds_address_is, is_inside_is}
 use Rattle.v6_addr.proofs.laws.prefix_tests.Goals as goal
 
 pub returns : goal.returns

@@ -1,4 +1,4 @@
-use Rattle.v6_addr.proofs.Prefixes.{Holds_own_value, Holds_at_128, Holds_outer, Holds_nested, Holds_alike, same_value}
+use Rattle.v6_addr.proofs.PrefixFacts.{Holds_own_value, Holds_at_128, Holds_outer, Holds_nested, Holds_alike, same_value}
 use Rattle.v6_addr.proofs.laws.prefixes_nest.Goals as goal
 
 pub returns : goal.returns

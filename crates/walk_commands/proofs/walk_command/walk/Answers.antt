@@ -1,6 +1,6 @@
 use Rattle.std.proofs.Common.{refl, sym, ◌∙◌}
 use Rattle.std.proofs.lemmas.Result.{err_from_is_err_and}
-use Rattle.walk_commands.proofs.WalkEnds.{walk_halted_at_file, walk_halted_at_intent, walk_halted_at_start, walk_without_list, walk_halted_at_input, walk_halted_at_pieces, walk_done, walk_refused}
+use Rattle.walk_commands.proofs.WalkLeaves.{walk_halted_at_file, walk_halted_at_intent, walk_halted_at_start, walk_without_list, walk_halted_at_input, walk_halted_at_pieces, walk_done, walk_refused}
 use Rattle.walk_commands.proofs.WalkStarts.{headend_ready, headend_within}
 use Rattle.walk_commands.proofs.walk_command.walk.Goals as goal
 

@@ -1,4 +1,4 @@
-use Rattle.walk_rules.proofs.Lookups.{lookup_there}
+use Rattle.walk_rules.proofs.LookupHits.{lookup_there}
 use Rattle.walk_rules.proofs.Routing.{way_from, way_into}
 use Rattle.walk_rules.proofs.laws.a_way_leads_from_its_place.Goals as goal
 

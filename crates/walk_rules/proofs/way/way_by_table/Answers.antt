@@ -1,4 +1,4 @@
-use Rattle.walk_rules.proofs.Lookups.{lookup_numbered}
+use Rattle.walk_rules.proofs.LookupHits.{lookup_numbered}
 use Rattle.walk_rules.proofs.way.way_by_table.Goals as goal
 
 pub way_by_hit-requires : goal.way_by_hit-requires

@@ -1,7 +1,7 @@
 use Rattle.std.proofs.Common.{subst, sym}
 use Rattle.net_model.specs.Network.{Network}
 use Rattle.walk_rules.specs.WayTerms.{IsNumbered}
-use Rattle.walk_rules.proofs.Lookups.{lookup_numbered}
+use Rattle.walk_rules.proofs.LookupHits.{lookup_numbered}
 use Rattle.walk_rules.proofs.way.way_in_table.Goals as goal
 
 pub way_by_hit-requires : goal.way_by_hit-requires

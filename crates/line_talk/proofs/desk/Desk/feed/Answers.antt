@@ -1,7 +1,7 @@
 use Rattle.std.proofs.Common.{ℕ, List, sym, subst}
 use Rattle.std.proofs.lemmas.Result.{err_from_is_err_and}
 use Rattle.line_talk.specs.TalkTerms.{Keeps}
-use Rattle.line_talk.proofs.Feeding.{fed_none, fed_more, fed_stops, fed_all, fed_last, fed_wanting}
+use Rattle.line_talk.proofs.PiecesFed.{fed_none, fed_more, fed_stops, fed_all, fed_last, fed_wanting}
 use Rattle.line_talk.proofs.desk.Desk.feed.Goals as goal
 
 pub loop-at-init : goal.loop-at-init

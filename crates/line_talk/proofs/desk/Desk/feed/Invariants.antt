@@ -1,6 +1,6 @@
 use Rattle.std.proofs.Common.{length, List, ℕ}
 use Rattle.line_talk.specs.TalkTerms.{Keeps}
-use Rattle.line_talk.proofs.Feeding.{Fed}
+use Rattle.line_talk.proofs.PiecesFed.{Fed}
 use Rattle.line_talk.proofs.desk.Desk.feed.Given as goal
 
 -- the lines that ended before the rest are answered

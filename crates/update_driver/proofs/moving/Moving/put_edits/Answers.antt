@@ -4,7 +4,7 @@ use Rattle.std.proofs.lemmas.Result.{err_from_is_err_and}
 use Rattle.command_output.specs.GatheredTerms.{pooled}
 use Rattle.update_driver.specs.Moving.{Sides, sides_by}
 use Rattle.update_driver.proofs.EventSteps.{along_starts}
-use Rattle.update_driver.proofs.Loops.{rep_step, step_cut, step_on}
+use Rattle.update_driver.proofs.EventsInTurn.{rep_step, step_cut, step_on}
 use Rattle.update_driver.proofs.moving.Moving.put_edits.Goals as goal
 
 pub edits-init : goal.edits-init

@@ -4,7 +4,7 @@ use Rattle.command_output.specs.GatheredTerms.{pooled}
 use Rattle.update_driver.specs.Moving.{Sides, sides_by}
 use Rattle.update_driver.proofs.EventSteps.{along_starts}
 use Rattle.packet_walk.proofs.Due.{split_first}
-use Rattle.update_driver.proofs.Loops.{step_cut, step_on}
+use Rattle.update_driver.proofs.EventsInTurn.{step_cut, step_on}
 use Rattle.update_driver.proofs.moving.Moving.put_events.Goals as goal
 
 pub events-init : goal.events-init

@@ -7,7 +7,7 @@ use Rattle.update_driver.specs.Events.{to_their_ends}
 use Rattle.update_driver.specs.Moving.{Sides, sides_by}
 use Rattle.update_driver.proofs.EventSteps.{along_starts}
 use Rattle.update_driver.proofs.EventEnds.{ends_from}
-use Rattle.update_driver.proofs.Loops.{ends_next, step_cut, step_on}
+use Rattle.update_driver.proofs.EventsInTurn.{ends_next, step_cut, step_on}
 use Rattle.update_driver.proofs.moving.Moving.put_rest.Goals as goal
 
 pub packets-init : goal.packets-init

@@ -5,7 +5,7 @@ use Rattle.walk_rules.specs.declared.limits.TheConstants.{MAX_STAGES}
 use Rattle.command_output.specs.GatheredTerms.{pooled}
 use Rattle.update_driver.specs.Moving.{Sides, sides_by, doing, nothing}
 use Rattle.update_driver.proofs.EventSteps.{along_done, along_starts, along_went}
-use Rattle.update_driver.proofs.Loops.{along_idle, no_left, rep_none, rep_step, step_cut, step_on}
+use Rattle.update_driver.proofs.EventsInTurn.{along_idle, no_left, rep_none, rep_step, step_cut, step_on}
 use Rattle.update_driver.specs.Going.{moving_of}
 use Rattle.update_driver.proofs.EventEnds.{idle}
 use Rattle.update_driver.proofs.moving.Moving.put_to_end.Goals as goal

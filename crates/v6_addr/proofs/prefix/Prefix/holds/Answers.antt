@@ -1,6 +1,6 @@
 use Rattle.std.proofs.Common.{◌≡◌, ℕ, ◌-◌, ◌/◌, ◌^◌, eqb, IsTrue, ◌↔◌, Bool, sym, subst, ap, ◌∙◌}
 use Rattle.v6_addr.specs.Address.{PrefixValue, Holds, holds_address}
-use Rattle.v6_addr.proofs.Prefixes.{holds_address_is}
+use Rattle.v6_addr.proofs.PrefixFacts.{holds_address_is}
 use Rattle.v6_addr.proofs.prefix.Prefix.holds.Goals as goal
 
 computed : (p : PrefixValue) (a x y : ℕ) → x ≡ a / 2 ^ (128 - p.len) → y ≡ p.value / 2 ^ (128 - p.len) → eqb x y ≡ holds_address p a

@@ -1,6 +1,6 @@
 use Rattle.std.proofs.Common.{ap, ◌∙◌}
 use Rattle.v6_addr.specs.Address.{PrefixValue}
-use Rattle.v6_addr.proofs.Prefixes.{is_inside_longer, is_inside_not_longer}
+use Rattle.v6_addr.proofs.PrefixFacts.{is_inside_longer, is_inside_not_longer}
 use Rattle.v6_addr.proofs.prefix.Prefix.inside.Goals as goal
 
 pub returns-then-outer-self-clause-test : goal.returns-then-outer-self-clause-test

@@ -17,7 +17,7 @@ use Rattle.list_pack.specs.Least.{state_key_by}
 use Rattle.list_certificate.specs.Spelling.{is_shared}
 use Rattle.list_certificate.specs.CertificateReading.{Cut, cut_at, has_name, is_unnamed, is_named, sid_by, sid_in}
 use Rattle.list_certificate.specs.CertificateReadingTerms.{IsSidOf}
-use Rattle.list_certificate.proofs.Passing.{item_in}
+use Rattle.list_certificate.proofs.MovesPassing.{item_in}
 
 pub known : (net : Network) (v : LegsValue) (n : ℕ) → IsSidOf net v n → n < length net.sids
 known net v n is = slice_get_within net.sids n is.sid is.here

@@ -13,7 +13,7 @@ use Rattle.list_pack.specs.LegsValueTerms.{is_compressed}
 use Rattle.list_pack.specs.Rooms.{full_room, full_room_by, packed_room, packed_room_by, kept_room, stay_room, stay_room_by, pack_room, new_room, new_room_by}
 use Rattle.list_pack.proofs.Rooming.{both_blocks}
 use Rattle.list_pack.specs.OpenContainers.{first_taken, limit, asked_at, StaysIn, Opens}
-use Rattle.list_pack.proofs.Standings.{room_in, Stands, Pair, bits_of, fit_units, in_some, not_next, room_as}
+use Rattle.list_pack.proofs.StepContainers.{room_in, Stands, Pair, bits_of, fit_units, in_some, not_next, room_as}
 
 -- ---- what is asked for
 

@@ -11,7 +11,7 @@ use Rattle.shortest_paths.specs.Routes.{IsFirstHop, IsRoute, AreRoutes}
 use Rattle.planned_routes.specs.declared.destination.Destination.{Destination}
 use Rattle.planned_routes.specs.Destinations.{LeadsLeast, HasWay, LeadToAll}
 use Rattle.planned_routes.specs.Entering.{entry, entries, entering}
-use Rattle.planned_routes.proofs.Entries.{entering_new, entering_apart, entering_all, entries_mean, entry_there}
+use Rattle.planned_routes.proofs.RoutesEntered.{entering_new, entering_apart, entering_all, entries_mean, entry_there}
 
 abbrev nodes_of : List Destination → List (List ℕ)
 nodes_of destinations = map (λ (d : Destination). d.nodes) destinations

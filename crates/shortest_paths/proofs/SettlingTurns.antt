@@ -8,7 +8,7 @@ use Rattle.shortest_paths.specs.Walks.{IsLink, IsNetwork}
 use Rattle.shortest_paths.specs.Incoming.{Groups, AreIncoming}
 use Rattle.shortest_paths.specs.Settling.{Entries, IsNearest, Relaxes, SettlesSoFar}
 use Rattle.shortest_paths.proofs.Lowering.{contains_at}
-use Rattle.shortest_paths.proofs.Grouping.{each_into, all_into}
+use Rattle.shortest_paths.proofs.LinksByEnd.{each_into, all_into}
 use Rattle.shortest_paths.proofs.Rounds.{near_fits, settles_more}
 
 module _ (nodes : ℕ) (links : List Link) (targets : List ℕ) (network : IsNetwork nodes links) (groups : Groups)
