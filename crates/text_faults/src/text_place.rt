@@ -92,6 +92,8 @@ pub enum Key {
     Inner,
     /// Whether an intent's headend writes the full or the reduced form.
     Mode,
+    /// Which of the shortest lists an intent prefers.
+    Prefer,
     /// The most containers of a list.
     MaxContainers,
     /// The title of a step's function.

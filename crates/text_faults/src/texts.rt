@@ -67,6 +67,7 @@ impl Key {
             Key::Headend => "headend",
             Key::Inner => "inner",
             Key::Mode => "mode",
+            Key::Prefer => "prefer",
             Key::MaxContainers => "max_containers",
             Key::Function => "function",
             Key::Reach => "reach",
