@@ -31,13 +31,13 @@ moved d h k =
     ∙ raised h low (2 ^ (16 + k)) (2 ^ 16) in
     let down : (h * 2 ^ (k + 32) + low * 2 ^ 16) / 2 ^ (k + 16) ≡ x / 2 ^ k =
     ap (λ n. n / 2 ^ (k + 16)) up ∙ ap (λ n. x * 2 ^ 16 / 2 ^ n) turned ∙ sym (shr-shr (x * 2 ^ 16) 16 k)
-    ∙ ap (λ n. n / 2 ^ k) (ap (λ n. n / 2 ^ 16) (sym (add-zero (x * 2 ^ 16))) ∙ shr_high x 16 0 (pow_pos 16)) in
+    ∙ ap (λ n. n / 2 ^ k) (ap (λ n. n / 2 ^ 16) (sym (add_zero (x * 2 ^ 16))) ∙ shr_high x 16 0 (pow_pos 16)) in
     let lower : x % 2 ^ (16 + k) ≡ low = mod_low h (16 + k) low (mod_below d (2 ^ (16 + k)) (pow_pos (16 + k))) in
     ap (λ n. n % 2 ^ 16) down
     ∙ sym (below_cut x k 16) ∙ ap (λ n. n / 2 ^ k) lower ∙ below_cut d k 16
   where
-    add-zero : (n : ℕ) → n + 0 ≡ n
-    add-zero n = omega arith
+    add_zero : (n : ℕ) → n + 0 ≡ n
+    add_zero n = omega arith
 
 -- ---- units of addresses
 

@@ -94,10 +94,10 @@ links_left : (links : List Link) (node : ℕ) (up : ℕ → Bool) (takes : Bool)
     → suits_links links node takes (filter up set) ≡ true
 links_left links node up true set h left = set_left links node up set h left
 links_left links node up false [] h left = refl
-links_left links node up false (n ∷ set) h left = absurd (no-items n set h)
+links_left links node up false (n ∷ set) h left = absurd (no_items n set h)
   where
-    no-items : (n : ℕ) (set : List ℕ) → (length (n ∷ set) == 0) ≡ true → ⊥
-    no-items n set e = let none = eqb-true (length (n ∷ set)) 0 e in omega (arith, none)
+    no_items : (n : ℕ) (set : List ℕ) → (length (n ∷ set) == 0) ≡ true → ⊥
+    no_items n set e = let none = eqb-true (length (n ∷ set)) 0 e in omega (arith, none)
 
 sid_left : (net : Network) (up : ℕ → Bool) (s : SidEntry) → keeps_sid net s ≡ true → is_left_sid up s ≡ true → keeps_sid net (cut_sid up s) ≡ true
 sid_left net up s h left =

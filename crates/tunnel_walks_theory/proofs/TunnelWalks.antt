@@ -190,10 +190,10 @@ module _ {L E N T S R : Type 0} (events : Events L E T) (move : S → Move L E N
       let a = map_parts (got_after (events.crossed link ∷ []) []) _ got h in
       let c : left_by events [] (events.crossed link ∷ a.0.trace) ≡ Some left =
       ap (λ (g : Got E N R). left_by events [] g.trace) a.2 ∙ along in
-      none-some left c
+      none_some left c
     where
-      none-some : (left : List T) → None ≡ Some left → ⊥
-      none-some left h = cc
+      none_some : (left : List T) → None ≡ Some left → ⊥
+      none_some left h = cc
 
   record GoParts (go : Walking E N S R) (told : List E) (sids : List N) (next : S) (ts : List T) (pick : ℕ → ℕ) (taken : ℕ)
       (got : Got E N R)
