@@ -1,0 +1,5 @@
+pub mod Fields
+pub mod Ids
+pub mod Kinds
+pub mod Replies
+pub mod Requests
