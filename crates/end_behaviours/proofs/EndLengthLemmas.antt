@@ -11,17 +11,19 @@ use Rattle.srv6_rules.specs.Packet.{Packet, header_len, packet_at}
 use Rattle.srv6_rules.specs.Srh.{srh_of}
 use Rattle.srv6_rules.specs.Behaviours.{goes_on}
 use Rattle.srv6_rules.specs.Chain.{ChainPlace, Header, from_place, segments_left, without}
+use Rattle.srv6_rules.specs.ChainTerms.{StandsIn}
 use Rattle.srv6_rules.proofs.PublicLaws.{known_whole, whole_steps}
 use Rattle.srv6_rules.specs.CompressedSteps.{ReplaceStep, Moved, AtEnd, Dropped, compression_of, is_replace, moved, replace_step, shifted}
 use Rattle.srv6_rules.specs.CompressedStepsTerms.{SuitsCompression}
 use Rattle.srv6_rules.specs.Endpoint.{Endpoint, Onward, Exposed, Delivered, Refused, after_step, as_in, at_segment_routing, by_replace_step, leaves_none, next_segment, outcome_without}
 use Rattle.replace_csid.specs.Replacing.{WouldMove, step_at}
 use Rattle.endpoint_chain.specs.Outcomes.{HoldsAlone}
-use Rattle.end_behaviours.specs.HeaderFinding.{LiesAt, header_of, is_last}
+use Rattle.end_behaviours.specs.HeaderFinding.{IsLast, LiesAt, at_sid_from, header_of, is_last}
 use Rattle.end_behaviours.specs.Onward.{GoesOn, IsEnd, IsLengthFrom, less_by}
 use Rattle.end_behaviours.specs.SrhStepping.{move_to}
 use Rattle.end_behaviours.proofs.EndRemovalLemmas.{without_long}
 use Rattle.end_behaviours.proofs.EndStepLemmas.{none_is, packed_never_ends, step_here}
+use Rattle.end_behaviours.proofs.TreatmentLemmas.{last_ends}
 
 -- from an earlier place on, of an outcome that is the same
 pub length_earlier : (first at : ℕ) (e f : Endpoint) (len : Option ℕ) → first ≤ at → e ≡ f → IsLengthFrom at f len
@@ -162,3 +164,50 @@ pub whole_known : (s : SidEntry) (p : Packet) (h : Header) (behind : Endpoint) �
     → goes_on s ≡ true → at_segment_routing s p h behind ≡ after_step s h (next_segment p h.place.at (srh_of h.bytes))
 whole_known s p h behind whole more goes =
     known_whole s p h behind whole ∙ whole_steps s p h behind (sym (last_whole s p h whole) ∙ more) goes
+
+-- ---- headers that are taken out, one behind the other
+
+less_none : (len : Option ℕ) → less_by 0 len ≡ len
+less_none (Some len) = ap Some (omega arith)
+less_none None = refl
+
+less_twice : (n m all : ℕ) (len : Option ℕ) → n + m ≡ all → less_by n (less_by m len) ≡ less_by all len
+less_twice n m all (Some len) sum = ap Some (omega arith)
+less_twice n m all None sum = refl
+
+-- so many bytes of headers are taken out up to a place
+pub record Counted (s : SidEntry) (allow : List ℕ) (p : Packet) (start place : ChainPlace) (taken : ℕ) : Type 0 where
+  pub stands : StandsIn p place
+  pub room : start.at + taken ≤ place.at
+  pub without : (len : Option ℕ) → IsLengthFrom place.at (at_sid_from s allow p place) len
+      → IsLengthFrom start.at (at_sid_from s allow p start) (less_by taken len)
+
+pub counted_start : (s : SidEntry) (allow : List ℕ) (p : Packet) (place : ChainPlace) → StandsIn p place
+    → Counted s allow p place place 0
+counted_start s allow p place stands =
+    let P : Option ℕ → Type 0 = λ o. IsLengthFrom place.at (at_sid_from s allow p place) o in
+    record { stands = stands; room = omega arith; without = λ len goes. subst P (sym (less_none len)) goes }
+
+pub counted_more : (s : SidEntry) (allow bytes : List ℕ) (start from place next : ChainPlace) (taken all : ℕ) → HoldsAlone bytes
+    → Counted s allow (packet_at bytes) start from taken
+    → IsLast (packet_at bytes) from.at (at_sid_from s allow (packet_at bytes)) (at_sid_from s allow (packet_at bytes) from) place next
+    → all ≡ taken + (next.at - place.at) → Counted s allow (packet_at bytes) start next all
+counted_more s allow bytes start from place next taken all alone so is count =
+    let p : Packet = packet_at bytes in
+    let h : Header = header_of p place (next.at - place.at) in
+    let ends = last_ends bytes from.at _ _ place next alone is in
+    let sum = ends.sum in
+    let later = is.header.later in
+    let room = so.room in
+    let long : length h.bytes ≡ next.at - place.at = is.header.long in
+    let end : place.at + length h.bytes ≡ next.at = ap (λ n. place.at + n) long ∙ sum in
+    let both : taken + length h.bytes ≡ all = ap (λ n. taken + n) long ∙ sym count in
+    let P : Option ℕ → Type 0 = λ o. IsLengthFrom start.at (at_sid_from s allow p start) o in
+    record {
+      stands = is.stands;
+      room = omega arith;
+      without = λ len goes. subst P (less_twice taken (length h.bytes) all len both)
+          (so.without (less_by (length h.bytes) len)
+          (length_earlier from.at place.at _ _ (less_by (length h.bytes) len) later is.is
+          (length_without h (at_sid_from s allow p next) next.at len is.header.stands.behind_header end goes)));
+    }

@@ -8,11 +8,13 @@ use Rattle.srv6_rules.specs.ChainTerms.{chain_at}
 use Rattle.srv6_rules.specs.Endpoint.{Endpoint, Exposed, at_end, at_header, at_sid}
 use Rattle.srv6_rules.specs.EndpointTerms.{over_chain}
 use Rattle.srv6_rules.proofs.PublicLaws.{chain_of_start}
+use Rattle.ip6_headers.specs.ChainStepping.{first_place}
 use Rattle.endpoint_chain.specs.Outcomes.{HoldsAlone}
 use Rattle.endpoint_chain.specs.declared.outcome.EndOutcome.{EndOutcome}
 use Rattle.endpoint_chain.proofs.PublicLaws.{alone_length}
+use Rattle.end_behaviours.specs.declared.end_headers.Decision.{Decision}
 use Rattle.end_behaviours.specs.declared.end_headers.Found.{Found}
-use Rattle.end_behaviours.specs.HeaderFinding.{IsFound, IsLast, at_sid_from}
+use Rattle.end_behaviours.specs.HeaderFinding.{IsDecided, IsFound, IsLast, at_sid_from}
 use Rattle.end_behaviours.specs.SrhStepping.{Remains}
 use Rattle.end_behaviours.proofs.AloneLemmas.{alone_from}
 
@@ -24,6 +26,11 @@ found_in s allow seen old first place found same is =
     let P : List ℕ → Type 0 =
     λ xs. IsFound s (packet_at xs) first (at_sid_from s allow (packet_at xs)) (at_sid_from s allow (packet_at xs) place) found in
     subst P same is
+
+-- a decision that is this one
+pub decided_as : (s : SidEntry) (p : Packet) (first : ℕ) (e : Endpoint) (decision same : Decision) → decision ≡ same
+    → IsDecided s p first e decision → IsDecided s p first e same
+decided_as s p first e decision same is decided = let P : Decision → Type 0 = λ d. IsDecided s p first e d in subst P is decided
 
 -- where a header that is taken out ends
 pub record Ends (bytes : List ℕ) (place next : ChainPlace) : Type 0 where
@@ -54,3 +61,9 @@ pub sid_from : (s : SidEntry) (allow : List ℕ) (p : Packet) (place : ChainPlac
     → at_sid s allow p ≡ at_sid_from s allow p place
 sid_from s allow p place is =
     ap (over_chain (at_header s p) (at_end s allow p)) (chain_of_start p ∙ ap (chain_at p) (sym is))
+
+-- where it starts, in bytes that are these
+pub starts : (old seen : List ℕ) (kind : ℕ) (place : ChainPlace) → place ≡ first_place kind → kind ≡ (packet_at old).next_header
+    → seen ≡ old → place ≡ start_of (packet_at seen)
+starts old seen kind place first named same =
+    first ∙ ap first_place (named ∙ ap (λ xs. (packet_at xs).next_header) (sym same))

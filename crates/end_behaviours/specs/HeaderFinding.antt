@@ -12,7 +12,9 @@ use Rattle.srv6_rules.specs.Endpoint.{Endpoint, Exposed, Delivered, Refused, at_
 use Rattle.srv6_rules.specs.EndpointTerms.{IsPassed, over_chain}
 use Rattle.ip6_headers.specs.ChainStepping.{place_view}
 use Rattle.end_behaviours.specs.declared.end_headers.Found.{Found}
-use Rattle.end_behaviours.specs.declared.end_headers.Found.TheVariants.{Shift, Step, Last, Expose, Deliver, Refuse}
+use Rattle.end_behaviours.specs.declared.end_headers.Found.TheVariants.{Last, Decided}
+use Rattle.end_behaviours.specs.declared.end_headers.Decision.{Decision}
+use Rattle.end_behaviours.specs.declared.end_headers.Decision.TheVariants.{Shift, Step, Expose, Deliver, Refuse}
 
 -- what comes of a packet at a SID from a place of its chain on
 abbrev pub at_sid_from : SidEntry → List ℕ → Packet → ChainPlace → Endpoint
@@ -55,14 +57,22 @@ pub record IsWithin (p : Packet) (first at : ℕ) : Type 0 where
   pub within : at ≤ header_len + length p.payload
   pub later : first ≤ at
 
+-- what is decided is what comes of a packet, and can be done
+abbrev pub IsDecided : SidEntry → Packet → ℕ → Endpoint → Decision → Type 0
+IsDecided s p first e Shift = (shifts_at s p ≡ true) × (e ≡ next_csid s p)
+IsDecided s p first e (Step place len) = IsStep s p first e (place_view place) len
+IsDecided s p first e (Expose family at) = (e ≡ Exposed family (from_place p at)) × IsWithin p first at
+IsDecided s p first e Deliver = e ≡ Delivered p
+IsDecided s p first e (Refuse fault) = (e ≡ Refused fault.reason fault.at) × (fault.at ≤ MAX_PACKET_LEN)
+
+-- a decision that comes of some packet's chain
+abbrev pub CanBeDone : SidEntry → Packet → Decision → Type 0
+CanBeDone s p decision = (first : ℕ) × ((e : Endpoint) × IsDecided s p first e decision)
+
 -- what is found is what comes of a packet, and can be done; `rest` is what comes of it from each place on
 abbrev pub IsFound : SidEntry → Packet → ℕ → (ChainPlace → Endpoint) → Endpoint → Found → Type 0
-IsFound s p first rest e Shift = (shifts_at s p ≡ true) × (e ≡ next_csid s p)
-IsFound s p first rest e (Step place len) = IsStep s p first e (place_view place) len
 IsFound s p first rest e (Last place next) = IsLast p first rest e (place_view place) (place_view next)
-IsFound s p first rest e (Expose family at) = (e ≡ Exposed family (from_place p at)) × IsWithin p first at
-IsFound s p first rest e Deliver = e ≡ Delivered p
-IsFound s p first rest e (Refuse fault) = (e ≡ Refused fault.reason fault.at) × (fault.at ≤ MAX_PACKET_LEN)
+IsFound s p first rest e (Decided decision) = IsDecided s p first e decision
 
 -- what is found at a header, whatever comes of the packet after it; none where it is passed over
 abbrev pub IsFoundAt : SidEntry → Packet → Header → Option Found → Type 0

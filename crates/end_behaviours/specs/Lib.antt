@@ -1,3 +1,4 @@
 pub mod HeaderFinding
 pub mod SrhStepping
 pub mod Onward
+pub mod LastHeaders

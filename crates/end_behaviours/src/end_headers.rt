@@ -22,22 +22,29 @@ use srv6_rules::numbers::{
 use srv6_rules::{Csid, Family, SidEntry};
 
 /// What decides what comes of a packet from a place of its chain on, after headers that are passed
-/// over. Places are in bytes from the packet's first.
+/// over or taken out. Places are in bytes from the packet's first.
 #[derive(Clone, Copy, Debug)]
-pub(crate) enum Found {
+pub(crate) enum Decision {
     /// The SID shifts.
     Shift,
     /// The step is taken over the segment routing header at a place.
     Step { place: ChainPlace, len: usize },
-    /// The segment routing header at a place is at its end, and the SID takes it out; what comes of
-    /// the packet is found after it.
-    Last { place: ChainPlace, next: ChainPlace },
     /// The packet inside, of a family and from a place on, is exposed.
     Expose { family: Family, at: usize },
     /// The upper layer takes the packet.
     Deliver,
     /// The packet is dropped.
     Refuse { fault: Fault },
+}
+
+/// What is found from a place of a packet's chain on, after headers that are passed over.
+#[derive(Clone, Copy, Debug)]
+pub(crate) enum Found {
+    /// The segment routing header at a place is at its end, and the SID takes it out; what comes of
+    /// the packet is found after it.
+    Last { place: ChainPlace, next: ChainPlace },
+    /// What comes of the packet is decided.
+    Decided(Decision),
 }
 
 /// The segment routing header at a place is at its end for a SID.
@@ -61,7 +68,7 @@ fn refused(fault: Option<Fault>) -> Option<Found>
         → IsFoundAt s p h result }
 {
     match fault {
-        Some(fault) => Some(Found::Refuse { fault }),
+        Some(fault) => Some(Found::Decided(Decision::Refuse { fault })),
         None => None,
     }
 }
@@ -84,10 +91,10 @@ fn found_at_segments(
     ensures { IsFoundAt sid.now (packet_at bytes.now) (header_at place header.now) result }
 {
     if !is_last(sid, bytes, place, header) {
-        return Some(Found::Step {
+        return Some(Found::Decided(Decision::Step {
             place,
             len: header.len(),
-        });
+        }));
     }
     if !sid.usp {
         return None;
@@ -140,7 +147,7 @@ pub(crate) fn found_at(
     ensures { IsFoundAt sid.now (packet_at bytes.now) (header_at place header.now) result }
 {
     if shifts_in_front(shifts, place) {
-        return Some(Found::Shift);
+        return Some(Found::Decided(Decision::Shift));
     }
     if place.kind == ROUTING {
         return found_at_routing(sid, bytes, place, header);

@@ -11,10 +11,10 @@ ghost use Rattle.srv6_rules.specs.Packet.{packet_at};
 ghost use Rattle.srv6_rules.specs.Srh.{srh_of};
 ghost use Rattle.endpoint_chain.specs.Outcomes.{HoldsAlone};
 ghost use Rattle.ip6_headers.specs.ChainStepping.{place_view};
-ghost use Rattle.end_behaviours.specs.HeaderFinding.{LiesAt, at_sid_from, header_of, is_last};
+ghost use Rattle.end_behaviours.specs.HeaderFinding.{CanBeDone, IsDecided, LiesAt, at_sid_from, header_of, is_last};
 ghost use Rattle.end_behaviours.specs.Onward.{IsEnd, IsLengthFrom, IsOnwardLength, less_by};
 
-use crate::end_headers::Found;
+use crate::end_headers::{Decision, Found};
 use crate::header_finding::find;
 use crate::stepping::{SegmentStep, judge_bytes};
 use ip6_headers::{ChainPlace, Ip6View};
@@ -138,8 +138,25 @@ fn stepped_len(sid: &SidEntry, bytes: &[u8], place: ChainPlace, len: usize) -> O
     }
 }
 
+/// The length after what is decided.
+fn decided_len(sid: &SidEntry, bytes: &[u8], decision: Decision) -> Option<usize>
+    requires goes_on { goes_on sid.now ≡ true }
+    requires suits { SuitsCompression sid.now }
+    requires packet { HoldsAlone bytes.now }
+    requires can { CanBeDone sid.now (packet_at bytes.now) decision }
+    ensures { (first : ℕ) (e : Endpoint) → first ≤ length bytes.now
+        → IsDecided sid.now (packet_at bytes.now) first e decision
+        → IsLengthFrom first e result }
+{
+    match decision {
+        Decision::Shift => shifted_len(bytes),
+        Decision::Step { place, len } => stepped_len(sid, bytes, place, len),
+        Decision::Expose { .. } | Decision::Deliver | Decision::Refuse { .. } => None,
+    }
+}
+
 /// A length without so many bytes.
-fn without_header(all: Option<usize>, len: usize) -> Option<usize>
+fn without_headers(all: Option<usize>, len: usize) -> Option<usize>
     requires { IfSome all (λ n. len ≤ n) }
     ensures { result ≡ less_by len all }
 {
@@ -158,16 +175,18 @@ fn len_from(sid: &SidEntry, allow: &[u8], bytes: &[u8], start: ChainPlace) -> Op
     ensures { IsLengthFrom start.at
         (at_sid_from sid.now allow.now (packet_at bytes.now) (place_view start)) result }
 {
-    match find(sid, allow, bytes, start) {
-        Found::Shift => shifted_len(bytes),
-        Found::Step { place, len } => stepped_len(sid, bytes, place, len),
-        Found::Last { place, next } => {
-            let rest = len_from(sid, allow, bytes, next);
-            without_header(rest, next.at - place.at)
+    let mut place = start;
+    let mut taken = 0;
+    'lasts: loop {
+        match find(sid, allow, bytes, place) {
+            Found::Last { place: last, next } => {
+                taken += next.at - last.at;
+                place = next;
+            }
+            Found::Decided(decision) => {
+                return without_headers(decided_len(sid, bytes, decision), taken);
+            }
         }
-        Found::Expose { .. } => None,
-        Found::Deliver => None,
-        Found::Refuse { .. } => None,
     }
 }
 

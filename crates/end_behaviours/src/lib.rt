@@ -8,6 +8,7 @@
 
 mod end_headers;
 mod header_finding;
+mod last_headers;
 mod lengths;
 mod stepping;
 mod treatment;

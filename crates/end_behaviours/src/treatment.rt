@@ -1,53 +1,80 @@
 //! A packet at a SID that goes on.
 
-ghost use Rattle.std.specs.Prelude.{◌≡◌, true};
+ghost use Rattle.std.specs.Prelude.{◌≡◌, ◌-◌, ◌≤◌, ℕ, true, length};
 ghost use Rattle.srv6_rules.specs.Behaviours.{goes_on};
 ghost use Rattle.srv6_rules.specs.ChainTerms.{StandsIn};
 ghost use Rattle.srv6_rules.specs.CompressedStepsTerms.{SuitsCompression};
-ghost use Rattle.srv6_rules.specs.Endpoint.{at_sid};
+ghost use Rattle.srv6_rules.specs.Endpoint.{Endpoint, at_sid, outcome_without};
 ghost use Rattle.srv6_rules.specs.Packet.{packet_at};
 ghost use Rattle.endpoint_chain.specs.ChainFronts.{FrontAfter};
 ghost use Rattle.endpoint_chain.specs.Outcomes.{ComesOf, HoldsAlone};
 ghost use Rattle.ip6_headers.specs.ChainStepping.{place_view};
-ghost use Rattle.end_behaviours.specs.HeaderFinding.{at_sid_from};
+ghost use Rattle.end_behaviours.specs.HeaderFinding.{CanBeDone, IsDecided, LiesAt, at_sid_from, header_of};
 ghost use Rattle.end_behaviours.specs.SrhStepping.{Reaches};
 
-use crate::end_headers::Found;
-use crate::header_finding::find;
-use crate::writing::{shift_on, step_over, take_out_of};
+use crate::end_headers::{Decision, Found};
+use crate::header_finding::{decide, find};
+use crate::last_headers::{LastHeader, LastHeaders};
+use crate::writing::{shift_on, step_over, take_out_all};
 use endpoint_chain::EndOutcome;
 use ip6_headers::{ChainPlace, Ip6View};
 use pkt_buf::PktBuf;
 use srv6_rules::SidEntry;
 
-/// What comes of a packet from a place of its chain on. The segment routing headers that USP takes
-/// out are taken out from the last to the first, once it is known what comes of the packet.
-fn step_from(sid: &SidEntry, allow: &[u8], buf: &mut PktBuf, start: ChainPlace) -> EndOutcome
+/// What is decided is done.
+fn carry_out(sid: &SidEntry, buf: &mut PktBuf, decision: Decision) -> EndOutcome
     requires goes_on { goes_on sid.now ≡ true }
     requires suits { SuitsCompression sid.now }
     requires packet { HoldsAlone buf.old.bytes }
-    requires stands { StandsIn (packet_at buf.old.bytes) (place_view start) }
-    ensures outcome { ComesOf
-        (at_sid_from sid.now allow.now (packet_at buf.old.bytes) (place_view start))
-        buf.old.bytes buf.new.bytes result }
-    ensures reaches { Reaches start.at buf.new.bytes result }
+    requires can { CanBeDone sid.now (packet_at buf.old.bytes) decision }
+    ensures outcome { (first : ℕ) (e : Endpoint)
+        → IsDecided sid.now (packet_at buf.old.bytes) first e decision
+        → ComesOf e buf.old.bytes buf.new.bytes result }
+    ensures reaches { (first : ℕ) (e : Endpoint)
+        → IsDecided sid.now (packet_at buf.old.bytes) first e decision
+        → first ≤ length buf.old.bytes → Reaches first buf.new.bytes result }
     ensures front { FrontAfter buf.old buf.new result }
 {
-    match find(sid, allow, buf.view(), start) {
-        Found::Shift => shift_on(sid, buf),
-        Found::Step { place, len } => step_over(sid, buf, place, len),
-        Found::Last { place, next } => {
-            let outcome = step_from(sid, allow, buf, next);
-            take_out_of(outcome, buf, place, next.at - place.at);
-            outcome
-        }
-        Found::Expose { family, at } => {
+    match decision {
+        Decision::Shift => shift_on(sid, buf),
+        Decision::Step { place, len } => step_over(sid, buf, place, len),
+        Decision::Expose { family, at } => {
             buf.drop_front(at);
             EndOutcome::Hand { family }
         }
-        Found::Deliver => EndOutcome::Local,
-        Found::Refuse { fault } => EndOutcome::dropped(fault),
+        Decision::Deliver => EndOutcome::Local,
+        Decision::Refuse { fault } => EndOutcome::dropped(fault),
     }
+}
+
+/// What comes of a packet whose segment routing header at a place is taken out, with those after it
+/// that are taken out too. They go from the last to the first, once it is known what comes of the
+/// packet.
+fn step_without(
+    sid: &SidEntry,
+    allow: &[u8],
+    buf: &mut PktBuf,
+    place: ChainPlace,
+    next: ChainPlace,
+) -> EndOutcome
+    requires goes_on { goes_on sid.now ≡ true }
+    requires suits { SuitsCompression sid.now }
+    requires packet { HoldsAlone buf.old.bytes }
+    requires header { LiesAt (packet_at buf.old.bytes) place.at (place_view place)
+        (next.at - place.at) }
+    requires stands { StandsIn (packet_at buf.old.bytes) (place_view next) }
+    ensures outcome { ComesOf (outcome_without
+        (header_of (packet_at buf.old.bytes) (place_view place) (next.at - place.at))
+        (at_sid_from sid.now allow.now (packet_at buf.old.bytes) (place_view next)))
+        buf.old.bytes buf.new.bytes result }
+    ensures front { FrontAfter buf.old buf.new result }
+{
+    let mut lasts = LastHeaders::new();
+    lasts.push(LastHeader::new(place, next.at - place.at));
+    let decision = decide(sid, allow, buf.view(), next, &mut lasts);
+    let outcome = carry_out(sid, buf, decision);
+    take_out_all(outcome, buf, &mut lasts);
+    outcome
 }
 
 /// A packet at a SID that goes on, in its bytes, of a node that takes some upper layers at its SIDs
@@ -67,8 +94,8 @@ fn step_from(sid: &SidEntry, allow: &[u8], buf: &mut PktBuf, start: ChainPlace) 
 /// the packet as it came, 0 where the reason has none; no byte changes then. But for `Hand` as many
 /// bytes are spare in front as before.
 ///
-/// It takes no memory. The calls for the headers that USP takes out stand one in the other, at most
-/// 8,191 of them.
+/// It takes no memory but for the places of the headers that USP takes out, at most 8,191 of them,
+/// for which the stack has room of its own.
 pub fn end_step(sid: &SidEntry, allow: &[u8], buf: &mut PktBuf) -> EndOutcome
     requires goes_on { goes_on sid.now ≡ true }
     requires suits { SuitsCompression sid.now }
@@ -78,5 +105,8 @@ pub fn end_step(sid: &SidEntry, allow: &[u8], buf: &mut PktBuf) -> EndOutcome
     ensures front { FrontAfter buf.old buf.new result }
 {
     let next_header = Ip6View::over(buf.view()).next_header();
-    step_from(sid, allow, buf, ChainPlace::first(next_header))
+    match find(sid, allow, buf.view(), ChainPlace::first(next_header)) {
+        Found::Last { place, next } => step_without(sid, allow, buf, place, next),
+        Found::Decided(decision) => carry_out(sid, buf, decision),
+    }
 }

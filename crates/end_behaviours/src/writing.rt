@@ -16,8 +16,10 @@ ghost use Rattle.replace_csid.specs.Replacing.{with_move};
 ghost use Rattle.ip6_headers.specs.ChainStepping.{place_view};
 ghost use Rattle.pkt_buf.specs.BufferView.{Buffer};
 ghost use Rattle.end_behaviours.specs.HeaderFinding.{LiesAt, header_of, is_last};
+ghost use Rattle.end_behaviours.specs.LastHeaders.{CanTakeOut, TakesFrom};
 ghost use Rattle.end_behaviours.specs.SrhStepping.{Reaches, Remains, move_to};
 
+use crate::last_headers::LastHeaders;
 use crate::stepping::{SegmentStep, judge_bytes};
 use endpoint_chain::{EndOutcome, take_out};
 use ip6_headers::{ChainPlace, Ip6Edit, Ip6View};
@@ -184,5 +186,22 @@ pub(crate) fn take_out_of(outcome: EndOutcome, buf: &mut PktBuf, place: ChainPla
     match outcome {
         EndOutcome::On | EndOutcome::Local => take_out(buf, place, len),
         EndOutcome::Hand { .. } | EndOutcome::Drop { .. } => {}
+    }
+}
+
+/// Takes headers out of a packet that goes on or is delivered, from the last to the first.
+pub(crate) fn take_out_all(outcome: EndOutcome, buf: &mut PktBuf, lasts: &mut LastHeaders)
+    requires can { CanTakeOut lasts.old.items buf.old.bytes outcome }
+    ensures outcome { (e : Endpoint) (first : List ℕ)
+        → TakesFrom lasts.old.items buf.old.bytes outcome e first
+        → ComesOf e first buf.new.bytes outcome }
+    ensures front { (first : Buffer) → FrontAfter first buf.old outcome
+        → FrontAfter first buf.new outcome }
+{
+    'lasts: loop {
+        let Some(last) = lasts.pop() else {
+            return;
+        };
+        take_out_of(outcome, buf, last.place(), last.len());
     }
 }

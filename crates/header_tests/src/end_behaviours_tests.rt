@@ -1,5 +1,5 @@
-//! The longest chain of headers that USP takes out: the calls stand one in the other, and no clause
-//! says that there is room for them.
+//! The longest chain of headers that USP takes out: their places lie on the stack, and no clause says
+//! that there is room for them.
 
 use crate::packets::{is_whole, sid};
 use end_behaviours::end_step;
