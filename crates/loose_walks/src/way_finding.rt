@@ -15,7 +15,7 @@ use net_model::Net;
 use walk_rules::{Way, far_end};
 
 /// The vertex of a node with so many steps left, if both are there
-#[tactic(auto, using(crate::proofs::Numbering::small_product))]
+#[tactic(auto, using(crate::proofs::VertexNumbers::small_product))]
 fn number_behind(size: u32, lost: u32, behind: Option<usize>, end: Option<u32>) -> u32
     requires size { size ≤ 256 }
     requires few { IfSome behind (λ left. left ≤ 48) }
@@ -32,7 +32,7 @@ fn number_behind(size: u32, lost: u32, behind: Option<usize>, end: Option<u32>) 
 }
 
 /// The vertex behind a link
-#[tactic(auto, using(crate::proofs::Numbering::small_product))]
+#[tactic(auto, using(crate::proofs::VertexNumbers::small_product))]
 fn next_vertex(net: &Net, count: u32, left: &[TraceStep], link: u32) -> u32
     requires count { count ≤ 48 }
     requires few { length left.now ≤ count }

@@ -46,7 +46,7 @@ pub(crate) fn put_new(keys: &mut BTreeSet<RouteKey>, r: &Route) -> Result<bool, 
 }
 
 /// What tells the routes that are there from others.
-#[tactic(auto, using(crate::proofs::Keys::no_keys))]
+#[tactic(auto, using(crate::proofs::KeySets::no_keys))]
 pub(crate) fn keys_of(alloc: Global, there: &[Route]) -> Result<BTreeSet<RouteKey>, NoMemory>
     ensures { IfOk result (λ keys. HasKeys keys there.now) }
 {

@@ -105,7 +105,7 @@ impl<'a> Moving<'a> {
     }
 
     /// Asks for an edit, and writes its line, or that of the packet that it waits for.
-    #[tactic(auto, using(command_output::proofs::PublicLaws::going, crate::proofs::Editing::edits))]
+    #[tactic(auto, using(command_output::proofs::PublicLaws::going, crate::proofs::EditLines::edits))]
     fn put_edit<O: Sink, E: Sink>(
         &mut self,
         pool: &mut Pool,
