@@ -13,8 +13,8 @@ WORDS = {
         segments traffic_class flow_label hop_limit behaviour flavours title links policy "plain" "next" "replace" "psp" "usp" "usd" "End"
         "End.X" "End.T" "End.DX6" "End.DX4" "End.DT6" "End.DT4" "End.DT46" "End.B6.Encaps" "End.B6.Encaps.Red" "A" "B" "ab" "bc1" "ce" "vpn"
         "fcbb:bb00:2::/48" "fcbb:bb00::/32" "::/0" "2001:db8::b" "10.0.0.0/8" = [ ] { } # , true 1.5 ["bc1","bc2"] ["psp"] [0,255] 1979-05-27""",
-    "intents": """[[step]] headend source inner mode hop_limit max_containers traffic_class flow_label step links function reach "ipv6" "ipv4" "full"
-        "reduced" "A" "B" "D" "ab" "bc1" "bc2" "cd" "ce" "vpn" ["ab"] ["bc1","bc2"] "2001:db8::a" = [ ] { } # , false 1e3""",
+    "intents": """[[step]] headend source inner mode hop_limit max_containers traffic_class flow_label prefer step links function reach "ipv6" "ipv4"
+        "full" "reduced" "need" "sids" "A" "B" "D" "ab" "bc1" "bc2" "cd" "ce" "vpn" ["ab"] ["bc1","bc2"] "2001:db8::a" = [ ] { } # , false 1e3""",
     "certificates": """srv6 certificate 1 potential path new stay none end # - @ @B 0 1 4294967295 fcbb:bb00:2::/48 fcbb:bb00:e001::/48
         fcbb:bb00:4::/48 fcbb:bb00:f001::/48 ::/0""",
     "traces": """srv6 trace 1 packet again hand send local drop stages end table through 0 100 6 4 A B C D N ab bc1 bc2 cd ce - NoRoute HopLimit

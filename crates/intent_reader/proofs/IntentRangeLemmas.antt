@@ -18,7 +18,8 @@ use Rattle.toml_reader.specs.Tree.{integer_in, number_within, number_in, name_in
 use Rattle.net_syntax.specs.declared.limits.TheConstants.{MAX_STEPS, MAX_CONTAINERS, DEFAULT_CONTAINERS}
 use Rattle.net_syntax.specs.declared.step_table.DescribedStep.{DescribedStep}
 use Rattle.net_syntax.specs.declared.intent_table.DescribedIntent.{DescribedIntent}
-use Rattle.net_syntax.specs.TextWords.{family_of, mode_of}
+use Rattle.net_syntax.specs.declared.intent_table.Prefer.TheVariants as prefers
+use Rattle.net_syntax.specs.TextWords.{family_of, mode_of, prefer_of}
 use Rattle.net_syntax.specs.IntentText.{step_of, steps_at, intent_place, intent_of, intent_in}
 use Rattle.intent_reader.specs.Described.{InRange}
 use Rattle.intent_reader.proofs.GivenLemmas.{Holds, of_fault, of_value, after, tested}
@@ -102,7 +103,7 @@ label_holds known = optional_holds 0 LAST_FLOW_LABEL 0 (omega arith, omega arith
 abbrev root_keys : List Key
 root_keys =
     keys.Headend ∷ keys.Source ∷ keys.Inner ∷ keys.Mode ∷ keys.HopLimit ∷ keys.MaxContainers ∷ keys.TrafficClass ∷ keys.FlowLabel
-    ∷ keys.Step ∷ []
+    ∷ keys.Prefer ∷ keys.Step ∷ []
 
 said_holds : (root : Members) → Holds InRange (intent_of root)
 said_holds root =
@@ -115,6 +116,7 @@ said_holds root =
     after InRange (optional (number_in 1 MAX_CONTAINERS) DEFAULT_CONTAINERS intent_place known keys.MaxContainers) _ (λ containers c.
     after InRange (optional (number_in 0 LAST_OCTET) 0 intent_place known keys.TrafficClass) _ (λ class t.
     after InRange (optional (number_in 0 LAST_FLOW_LABEL) 0 intent_place known keys.FlowLabel) _ (λ label f.
+    after InRange (optional (word_in prefer_of) prefers.Need intent_place known keys.Prefer) _ (λ prefer w.
     after InRange (steps_at known) _ (λ all a.
     let d : DescribedIntent = record {
       headend = headend;
@@ -125,6 +127,7 @@ said_holds root =
       max_containers = containers;
       traffic_class = class;
       flow_label = label;
+      prefer = prefer;
       steps = all;
     } in
     of_value InRange d (record {
@@ -134,7 +137,7 @@ said_holds root =
       flow_label = ((label_holds known).given label f).1;
       some_steps = ((steps_hold known).given all a).0;
       most_steps = ((steps_hold known).given all a).1;
-    })))))))))))
+    }))))))))))))
 
 pub said_in_range : (text : List ℕ) (d : DescribedIntent) → intent_in text ≡ Ok d → InRange d
 said_in_range text d h = (after InRange (or_fault (fault_at intent_place kinds.NotToml) (document_of text)) _

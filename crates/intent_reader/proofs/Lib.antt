@@ -8,4 +8,5 @@ pub mod GivenLemmas
 pub mod IntentRangeLemmas
 pub mod IntentJudgingLemmas
 pub mod NoFaultLemmas
+pub mod PreferenceLaws
 pub mod PublicLaws

@@ -74,6 +74,7 @@ intent_with d headend steps = record {
   max_containers = d.max_containers;
   traffic_class = d.traffic_class;
   flow_label = d.flow_label;
+  prefer = d.prefer;
   steps = steps;
 }
 

@@ -1,6 +1,7 @@
 pub mod IntentFaults
 pub mod IntentRules
 pub mod IntentRulesTerms
+pub mod Preferences
 pub mod Functions
 pub mod FunctionsTerms
 pub mod IntentReading

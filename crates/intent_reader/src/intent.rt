@@ -1,6 +1,7 @@
 //! The intent as a value.
 
 use base::Seq;
+use net_syntax::Prefer;
 use srv6_rules::{Family, LinkSet};
 use v6_addr::Addr;
 
@@ -38,6 +39,9 @@ pub struct Intent {
     pub traffic_class: u8,
     /// The flow label of the outer header, 20 bits.
     pub flow_label: u32,
+    /// Which list is chosen: of the lists of fewest containers the one of least need, or the one of
+    /// fewest SIDs and then least need.
+    pub prefer: Prefer,
     /// What is crossed, executed and reached, in order.
     pub steps: Steps,
 }

@@ -22,4 +22,5 @@ pub use intent_rules::{has_reach, is_intent};
 pub use laws::{
     intents_have_walks, no_fault_is_keeping_the_rules, steps_lead_on, walks_stay_at_nodes,
 };
+pub use net_syntax::Prefer;
 pub use read::read_intent;

@@ -64,6 +64,7 @@ fn judged(
         max_containers: described.max_containers,
         traffic_class: described.traffic_class,
         flow_label: described.flow_label,
+        prefer: described.prefer,
         steps,
     })
 }

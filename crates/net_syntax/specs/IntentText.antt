@@ -17,7 +17,8 @@ use Rattle.net_syntax.specs.declared.limits.TheConstants.{MAX_STEPS, MAX_CONTAIN
 use Rattle.net_syntax.specs.declared.step_table.DescribedStep.{DescribedStep}
 use Rattle.net_syntax.specs.declared.step_table.DescribedStep.TheVariants as steps
 use Rattle.net_syntax.specs.declared.intent_table.DescribedIntent.{DescribedIntent}
-use Rattle.net_syntax.specs.TextWords.{family_of, mode_of}
+use Rattle.net_syntax.specs.declared.intent_table.Prefer.TheVariants as prefers
+use Rattle.net_syntax.specs.TextWords.{family_of, mode_of, prefer_of}
 
 -- at least one
 abbrev pub some_of : {X : Type 0} → FaultPlace → Key → List X → Result (List X) TextFault
@@ -65,7 +66,7 @@ abbrev pub intent_of : Members → Result DescribedIntent TextFault
 intent_of root = do
   known ← only (
       keys.Headend ∷ keys.Source ∷ keys.Inner ∷ keys.Mode ∷ keys.HopLimit ∷ keys.MaxContainers ∷ keys.TrafficClass ∷ keys.FlowLabel
-      ∷ keys.Step ∷ []) intent_place root
+      ∷ keys.Prefer ∷ keys.Step ∷ []) intent_place root
   headend ← needed name_in intent_place known keys.Headend
   source ← needed addr_in intent_place known keys.Source
   inner ← needed (word_in family_of) intent_place known keys.Inner
@@ -74,6 +75,7 @@ intent_of root = do
   containers ← optional (number_in 1 MAX_CONTAINERS) DEFAULT_CONTAINERS intent_place known keys.MaxContainers
   class ← optional (number_in 0 LAST_OCTET) 0 intent_place known keys.TrafficClass
   label ← optional (number_in 0 LAST_FLOW_LABEL) 0 intent_place known keys.FlowLabel
+  prefer ← optional (word_in prefer_of) prefers.Need intent_place known keys.Prefer
   all ← steps_at known
   Ok (record {
     headend = headend;
@@ -84,6 +86,7 @@ intent_of root = do
     max_containers = containers;
     traffic_class = class;
     flow_label = label;
+    prefer = prefer;
     steps = all;
   })
 

@@ -2,3 +2,4 @@ pub mod TextWords
 pub mod Prefixes
 pub mod DescriptionText
 pub mod IntentText
+pub mod Preferring

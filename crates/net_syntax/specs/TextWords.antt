@@ -13,6 +13,8 @@ use Rattle.net_syntax.specs.declared.sid_table.Flavour.{Flavour}
 use Rattle.net_syntax.specs.declared.sid_table.Flavour.TheVariants as flavours
 use Rattle.net_syntax.specs.declared.intent_table.Mode.{Mode}
 use Rattle.net_syntax.specs.declared.intent_table.Mode.TheVariants as modes
+use Rattle.net_syntax.specs.declared.intent_table.Prefer.{Prefer}
+use Rattle.net_syntax.specs.declared.intent_table.Prefer.TheVariants as prefers
 
 -- a word, and what it stands for
 abbrev pub Row : Type 0 → Type 0
@@ -50,6 +52,10 @@ family_of = among ((codes "ipv6", V6) ∷ (codes "ipv4", V4) ∷ [])
 -- the form of a headend's header (RFC 8986 sections 5.1 and 5.2)
 unfoldable pub mode_of : List ℕ → Option Mode
 mode_of = among ((codes "full", modes.Full) ∷ (codes "reduced", modes.Reduced) ∷ [])
+
+-- which of the shortest lists an intent prefers
+unfoldable pub prefer_of : List ℕ → Option Prefer
+prefer_of = among ((codes "need", prefers.Need) ∷ (codes "sids", prefers.Sids) ∷ [])
 
 -- the bits of a block's compressed SIDs: 16 or 32
 abbrev pub csid_bits_of : ℤ → Option ℕ

@@ -1,14 +1,16 @@
 //! A whole intent.
 
+ghost use Rattle.std.specs.Prelude.{◌≡◌};
 ghost use Rattle.toml.specs.View.{table_view};
 ghost use Rattle.text_faults.specs.TextReading.{Gives};
-ghost use Rattle.net_syntax.specs.TextWords.{family_of, mode_of};
+ghost use Rattle.net_syntax.specs.TextWords.{family_of, mode_of, prefer_of};
 ghost use Rattle.net_syntax.specs.IntentText.{intent_of, intent_in};
+ghost use Rattle.net_syntax.specs.Preferring.{sid_cost_of};
 
 use crate::limits::{DEFAULT_CONTAINERS, MAX_CONTAINERS};
 use crate::numbers::octet_at;
 use crate::step_table::{DescribedStep, steps_at};
-use crate::words::{Word, needed_word};
+use crate::words::{Word, needed_word, optional_word};
 use base::Seq;
 use net_model::{DEFAULT_HOP_LIMIT, LAST_FLOW_LABEL, Name};
 use srv6_rules::Family;
@@ -25,6 +27,29 @@ pub enum Mode {
     Full,
     /// The first segment is left out.
     Reduced,
+}
+
+/// Which of the shortest lists an intent prefers: of the lists of fewest containers the one of least
+/// need, or the one of fewest SIDs and then least need (own rule).
+#[derive(Clone, Copy, Debug, PartialEq, Eq)]
+pub enum Prefer {
+    /// The one of least need.
+    Need,
+    /// The one of fewest SIDs, and of these the one of least need.
+    Sids,
+}
+
+impl Prefer {
+    /// What each SID of a list costs, compared behind the list's containers and before its need: 1
+    /// where fewer SIDs are preferred, else 0.
+    pub fn sid_cost(self) -> u32
+        ensures { result ≡ sid_cost_of self }
+    {
+        match self {
+            Prefer::Need => 0,
+            Prefer::Sids => 1,
+        }
+    }
 }
 
 /// What an intent says.
@@ -46,6 +71,8 @@ pub struct DescribedIntent {
     pub traffic_class: u8,
     /// The flow label of the outer header, a number of 20 bits; by default 0.
     pub flow_label: u32,
+    /// Which of the shortest lists is preferred; by default the one of least need.
+    pub prefer: Prefer,
     /// What is crossed, executed and reached, in order: 1 to 48 steps.
     pub steps: Seq<DescribedStep>,
 }
@@ -76,6 +103,19 @@ impl Word for Mode {
     }
 }
 
+impl Word for Prefer {
+    ghost meaning = { prefer_of };
+
+    #[tactic(auto, unfolding(crate::specs::TextWords::prefer_of))]
+    fn meant_by(word: &str) -> Option<Prefer> {
+        match word {
+            "need" => Some(Prefer::Need),
+            "sids" => Some(Prefer::Sids),
+            _ => None,
+        }
+    }
+}
+
 /// What the tree of an intent says, or its first fault: another key than those of an
 /// intent comes first, then each key in its order, and last the steps. `NoMemory` may come at any
 /// time.
@@ -91,6 +131,7 @@ pub fn describe_intent(alloc: Global, root: &Table) -> Result<DescribedIntent, N
         Key::MaxContainers,
         Key::TrafficClass,
         Key::FlowLabel,
+        Key::Prefer,
         Key::Step,
     ];
     let whole = FaultPlace::whole(TableKind::Intent);
@@ -110,6 +151,7 @@ pub fn describe_intent(alloc: Global, root: &Table) -> Result<DescribedIntent, N
     )?;
     let traffic_class = octet_at(0, 0, root, whole, Key::TrafficClass)?;
     let flow_label = optional_number((0, LAST_FLOW_LABEL), 0, root, whole, Key::FlowLabel)?;
+    let prefer = optional_word::<Prefer>(Prefer::Need, root, whole, Key::Prefer)?;
     let steps = steps_at(alloc, root)?;
     Ok(DescribedIntent {
         headend,
@@ -120,6 +162,7 @@ pub fn describe_intent(alloc: Global, root: &Table) -> Result<DescribedIntent, N
         max_containers,
         traffic_class,
         flow_label,
+        prefer,
         steps,
     })
 }

@@ -24,7 +24,7 @@ mod words;
 pub use block_table::DescribedBlock;
 pub use description::{Description, describe, read_description};
 pub use family_prefix::FamilyPrefix;
-pub use intent_table::{DescribedIntent, Mode, describe_intent, read_intent_words};
+pub use intent_table::{DescribedIntent, Mode, Prefer, describe_intent, read_intent_words};
 pub use limits::{DEFAULT_CONTAINERS, MAX_CONTAINERS, MAX_LOOSE_SIDS, MAX_STEPS};
 pub use link_table::DescribedLink;
 pub use node_table::DescribedNode;

@@ -2,7 +2,7 @@
 //! it; more of these are rows of the program.
 
 use crate::networks::network;
-use intent_reader::{Intent, IntentFault, Step, is_intent, read_intent};
+use intent_reader::{Intent, IntentFault, Prefer, Step, is_intent, read_intent};
 use net_model::Net;
 use srv6_rules::Family;
 use std::alloc::{AllocError, Global};
@@ -171,6 +171,33 @@ fn intents_are_read(rt: HostRuntime) {
     assert!(rt; intent.source.value == 1 && intent.inner == Family::V4 && !intent.reduced);
 }
 
+/// The steps with what stands before them, the preference that is read, and what a SID costs by it.
+const PREFERENCES: &[(&str, Prefer, u32)] = &[
+    (r#"step = [{ function = "vpn" }]"#, Prefer::Need, 0),
+    (
+        r#"prefer = "need"
+            step = [{ function = "vpn" }]"#,
+        Prefer::Need,
+        0,
+    ),
+    (
+        r#"prefer = "sids"
+            step = [{ function = "vpn" }]"#,
+        Prefer::Sids,
+        1,
+    ),
+];
+
+#[test]
+fn preferences_are_read(rt: HostRuntime) {
+    let net = network(&rt, rt.alloc(), NODES, FUNCTIONS);
+    for (steps, wanted, cost) in PREFERENCES {
+        let intent = intent_of(&rt, rt.alloc(), &net, FROM_D, steps);
+        assert!(rt; intent.prefer == *wanted, "{steps}");
+        assert!(rt; intent.prefer.sid_cost() == *cost, "{steps}");
+    }
+}
+
 /// The keys, the steps, and the refusal.
 const REFUSED: &[(&str, &str, &str)] = &[
     ("headend =", "", "33 Text NotToml"),
@@ -179,6 +206,37 @@ const REFUSED: &[(&str, &str, &str)] = &[
         FROM_NOWHERE,
         r#"step = [{ links = ["zz"] }, { links = [] }]"#,
         "33 Text Limit step 2",
+    ),
+    // another word, an empty one, a number and a list stand at `prefer`; there are no steps
+    (FROM_A, r#"prefer = "hops""#, "33 Text BadFlavour intent 0"),
+    (FROM_A, r#"prefer = """#, "33 Text BadFlavour intent 0"),
+    (FROM_A, "prefer = 1", "33 Text WrongKind intent 0"),
+    (FROM_A, r#"prefer = ["sids"]"#, "33 Text WrongKind intent 0"),
+    // a flow label has 21 bits; another word stands at `prefer`
+    (
+        FROM_A,
+        r#"prefer = "hops"
+            flow_label = 1048576"#,
+        "33 Text Limit intent 0",
+    ),
+    // a word stands at `prefer`; there are no steps
+    (
+        FROM_A,
+        r#"prefer = "sids""#,
+        "33 Text MissingKey intent 0 step",
+    ),
+    // there is no key `prefers`; a number stands at `prefer`
+    (
+        FROM_A,
+        r#"prefer = 1
+            prefers = "sids""#,
+        "33 Text UnknownKey intent 0",
+    ),
+    // a step has no key `prefer`
+    (
+        FROM_A,
+        r#"step = [{ prefer = "sids" }]"#,
+        "33 Text UnknownKey step 1",
     ),
     // no node is Z; no link is zz
     (
