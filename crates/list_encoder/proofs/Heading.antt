@@ -41,9 +41,14 @@ at_most_cancel : (k a b : Cost) → AtMost (plus k a) (plus k b) → AtMost a b
 at_most_cancel k a b h =
     record {
       containers = omega (arith, h.containers);
-      hops = λ e.
+      sids = λ e.
           let sums : k.containers + a.containers ≡ k.containers + b.containers = omega (arith, e) in
-          let less = h.hops sums in
+          let less = h.sids sums in
+          omega (arith, less);
+      hops = λ e f.
+          let sums : k.containers + a.containers ≡ k.containers + b.containers = omega (arith, e) in
+          let also : k.sids + a.sids ≡ k.sids + b.sids = omega (arith, f) in
+          let less = h.hops sums also in
           omega (arith, less);
     }
 
@@ -87,7 +92,7 @@ module _ (v : LegsValue) (laws : KeepsLaws v) (cells : List Cell) (are : AreCell
         sid = refl;
         left = parts.room;
         rest = nothing;
-        tight = record { room_is = parts.room_is; rest_is = refl; cost_is = plus_nothing (move_cost n.stays parts.hops) ∙ parts.is };
+        tight = record { room_is = parts.room_is; rest_is = refl; cost_is = plus_nothing (move_cost v.sid_cost n.stays parts.hops) ∙ parts.is };
         behind = refl;
       }
 
@@ -104,7 +109,7 @@ module _ (v : LegsValue) (laws : KeepsLaws v) (cells : List Cell) (are : AreCell
       (edge_shape v laws cells edge is_edge) is.few
       parts.room_is in
       let is_to : to ≡ e.to = ap (λ (x : Edge). x.to) parts.is in
-      let is_cost : move_cost n.stays parts.leg.hops ≡ e.cost = ap (λ (x : Edge). x.cost) parts.is in
+      let is_cost : move_cost v.sid_cost n.stays parts.leg.hops ≡ e.cost = ap (λ (x : Edge). x.cost) parts.is in
       let its = least there.0 parts.room (cell_at parts.leg.to n.sid) there.1 few in
       let rest : entry t there.0 parts.room ≡ Some d =
       rest_least costed_state n e more d (entry t there.0 parts.room) is h cost sum

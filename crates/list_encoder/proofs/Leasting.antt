@@ -36,7 +36,7 @@ module _ (v : LegsValue) (laws : KeepsLaws v) (cells : List Cell) (are : AreCell
         let edge : CellEdge = record { from = k; to = None; sid = m.sid; hops = parts.hops } in
         let is : IsCellEdge v cells edge = record { cell = cell; from = here; leads = parts.finish_is } in
         let bound = hold edge (omega arith) is cell m.stays room parts.room here l parts.room_is in
-        let same : plus (move_cost m.stays parts.hops) nothing ≡ c = plus_nothing (move_cost m.stays parts.hops) ∙ parts.is in
+        let same : plus (move_cost v.sid_cost m.stays parts.hops) nothing ≡ c = plus_nothing (move_cost v.sid_cost m.stays parts.hops) ∙ parts.is in
         subst (λ (d : Cost). Under (entry t k room) (Some d)) same bound
 
     bounds : (moves : List Move) (k room : ℕ) (cell : Cell) → slice_get cells k ≡ Some cell → room < 8
@@ -55,8 +55,8 @@ module _ (v : LegsValue) (laws : KeepsLaws v) (cells : List Cell) (are : AreCell
         let first = hold edge (omega arith) is cell m.stays room parts.room here l parts.room_is in
         let rest = bounds (n ∷ more) there.0 parts.room (cell_at parts.leg.to m.sid) there.1 few in
         subst (λ (x : Edge). Under (entry t k room) (option_map (plus x.cost) (cost_of v x.to (n ∷ more)))) parts.is
-        (under_trans (entry t k room) (offer m.stays parts.leg.hops (entry t there.0 parts.room)) _ first
-        (under_plus (move_cost m.stays parts.leg.hops) (entry t there.0 parts.room)
+        (under_trans (entry t k room) (offer v.sid_cost m.stays parts.leg.hops (entry t there.0 parts.room)) _ first
+        (under_plus (move_cost v.sid_cost m.stays parts.leg.hops) (entry t there.0 parts.room)
         (cost_of v (state_at (cell_at parts.leg.to m.sid) parts.room) (n ∷ more)) rest)))
 
   attains_entry : (t : Costs) (k room : ℕ) (cell : Cell) (o : Option Cost) → IsSound v cells t → slice_get cells k ≡ Some cell → room < 8

@@ -22,7 +22,7 @@ use Rattle.list_encoder.proofs.StayRooms.{room_left}
 use Rattle.list_encoder.proofs.RelaxedRooms.{edge_barred}
 
 pub at_most_more : (m d : Cost) → AtMost d (plus m d)
-at_most_more m d = record { containers = omega arith; hops = λ e. omega arith }
+at_most_more m d = record { containers = omega arith; sids = λ e. omega arith; hops = λ e f. omega arith }
 
 -- ---- costs that were lowered
 
@@ -103,7 +103,7 @@ module _ (v : LegsValue) (cells : List Cell) (t : Costs) (w : BTreeSet Waiting) 
       → after ≡ offer.left
       → done1 ≡ done → room < 8
       → RoomRelaxed v cells offer.edge t t1 offer.stays room left changed
-      → IsLoweredAt t t1 w1 done1 offer.rest (8 * offer.edge.from + room) (plus (move_cost offer.stays offer.edge.hops) offer.rest)
+      → IsLoweredAt t t1 w1 done1 offer.rest (8 * offer.edge.from + room) (plus (move_cost v.sid_cost offer.stays offer.edge.hops) offer.rest)
       changed
       → OffersRoom v cells offer room left t done t1 w1 done1
   room_lowered after t1 w1 done1 changed has same done_is low relaxed lowered = record {
@@ -116,17 +116,18 @@ module _ (v : LegsValue) (cells : List Cell) (t : Costs) (w : BTreeSet Waiting) 
       past = λ i h. relaxed.passed.later i (omega (arith, h, is.early));
     };
     takes = λ some.
-        let holds : Under (entry t1 offer.edge.from room) (option_map (plus (move_cost offer.stays offer.edge.hops)) (rest_at t
+        let holds : Under (entry t1 offer.edge.from room) (option_map (plus (move_cost v.sid_cost offer.stays offer.edge.hops)) (rest_at t
         offer.edge.to offer.left)) =
-        subst (λ (o : Option ℕ). RoomHolds (entry t1 offer.edge.from room) offer.stays offer.edge t o) some relaxed.holds in
-        subst (λ (o : Option Cost). Under (entry t1 offer.edge.from room) (option_map (plus (move_cost offer.stays offer.edge.hops))
+        subst (λ (o : Option ℕ). RoomHolds v (entry t1 offer.edge.from room) offer.stays offer.edge t o) some relaxed.holds in
+        subst (λ (o : Option Cost). Under (entry t1 offer.edge.from room) (option_map (plus (move_cost v.sid_cost offer.stays offer.edge.hops))
         o)) is.rest_is holds;
   }
 
-takes_later : (offer : Offer) (stays : Bool) (t t1 : Costs) (room : ℕ) → ((i : ℕ) → Under (at t1 i) (at t i)) → Takes offer stays t room
-    → Takes offer stays t1 room
-takes_later offer stays t t1 room falls takes =
-    under_trans (entry t1 offer.edge.from room) (entry t offer.edge.from room) (Some (plus (move_cost stays offer.edge.hops) offer.rest))
+takes_later : (v : LegsValue) (offer : Offer) (stays : Bool) (t t1 : Costs) (room : ℕ) → ((i : ℕ) → Under (at t1 i) (at t i))
+    → Takes v offer stays t room
+    → Takes v offer stays t1 room
+takes_later v offer stays t t1 room falls takes =
+    under_trans (entry t1 offer.edge.from room) (entry t offer.edge.from room) (Some (plus (move_cost v.sid_cost stays offer.edge.hops) offer.rest))
     (falls (8 * offer.edge.from + room)) takes
 
 -- ---- the rooms
@@ -139,12 +140,12 @@ module _ (v : LegsValue) (cells : List Cell) (offer : Offer) (t0 t t1 : Costs) (
     way_more room left leaves so more = record {
       advances = advances_then v cells t0 t t1 was done done1 w w1 offer.rest so.advances more.advances;
       takes = λ r h it. elim (cases_lt r room) [
-        | inl less ↦ takes_later offer offer.stays t t1 r more.advances.falls (so.takes r less it)
+        | inl less ↦ takes_later v offer offer.stays t t1 r more.advances.falls (so.takes r less it)
         | inr past ↦
             let same : r ≡ room = omega (arith, h, past) in
             let some : left ≡ Some offer.left =
             leaves it.0 it.1 ∙ subst (λ (n : ℕ). room_to v it.0.via n (move_by offer.edge offer.stays) ≡ Some offer.left) same it.2 in
-            subst (Takes offer offer.stays t1) (sym same) (more.takes some)
+            subst (Takes v offer offer.stays t1) (sym same) (more.takes some)
       ];
     }
 
@@ -166,9 +167,9 @@ module _ (v : LegsValue) (cells : List Cell) (offer opens stays : Offer) (t t1 t
     where
       both : OffersWay v cells (record { edge = offer.edge; stays = false; left = offer.left; rest = offer.rest }) 8 t was t1 w1 done
           → OffersWay v cells (record { edge = offer.edge; stays = true; left = offer.left; rest = offer.rest }) 8 t1 done t2 w2 done1
-          → (s : Bool) (room : ℕ) → room < 8 → LeavesIt v cells offer s room → Takes offer s t2 room
+          → (s : Bool) (room : ℕ) → room < 8 → LeavesIt v cells offer s room → Takes v offer s t2 room
       both opened stayed true room h it = stayed.takes room h it
-      both opened stayed false room h it = takes_later offer false t1 t2 room stayed.advances.falls (opened.takes room h it)
+      both opened stayed false room h it = takes_later v offer false t1 t2 room stayed.advances.falls (opened.takes room h it)
 
 -- ---- all edges
 
@@ -184,11 +185,11 @@ module _ (v : LegsValue) (cells : List Cell) (edges : List CellEdge) (left : ℕ
   all_more n edge here so more = record {
     advances = advances_then v cells t0 t t1 was done done1 w w1 rest so.advances more.advances;
     takes = λ l i stays room h is low it. elim (cases_lt i n) [
-      | inl less ↦ takes_later (offer_of l left rest) stays t t1 room more.advances.falls (so.takes l i stays room less is low it)
+      | inl less ↦ takes_later v (offer_of l left rest) stays t t1 room more.advances.falls (so.takes l i stays room less is low it)
       | inr past ↦
           let same : n ≡ i = omega (arith, h, past) in
           let one : edge ≡ l = some_same edge l (sym here ∙ ap (slice_get edges) same ∙ is) in
-          subst (λ (x : CellEdge). LeavesIt v cells (offer_of x left rest) stays room → Takes (offer_of x left rest) stays t1 room) one
+          subst (λ (x : CellEdge). LeavesIt v cells (offer_of x left rest) stays room → Takes v (offer_of x left rest) stays t1 room) one
           (more.takes stays room low) it
     ];
   }

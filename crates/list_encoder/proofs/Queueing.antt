@@ -102,13 +102,13 @@ module _ (v : LegsValue) (cells : List Cell) (groups : Groups) (t0 t : Costs) (w
     hold_first : (edge : CellEdge) → Contains group.items edge → (cell : Cell) (stays : Bool) (room : ℕ)
         → slice_get cells edge.from ≡ Some cell
         → room < 8 → room_to v cell.via room (move_by edge stays) ≡ Some (k.place % 8)
-        → Under (entry t1 edge.from room) (offer stays edge.hops (at t1 k.place))
+        → Under (entry t1 edge.from room) (offer v.sid_cost stays edge.hops (at t1 k.place))
     hold_first edge among cell stays room here low leaves =
         let place = place_of group.items edge among in
         let within = slice_get_within group.items place.0 edge place.1 in
-        let takes : Under (entry t1 edge.from room) (Some (plus (move_cost stays edge.hops) (cost_of k))) =
+        let takes : Under (entry t1 edge.from room) (Some (plus (move_cost v.sid_cost stays edge.hops) (cost_of k))) =
         offers.takes edge place.0 stays room (omega (arith, within, all)) place.1 low (cell, here, leaves) in
-        subst (λ (o : Option Cost). Under (entry t1 edge.from room) (offer stays edge.hops o)) (sym still_first) takes
+        subst (λ (o : Option Cost). Under (entry t1 edge.from room) (offer v.sid_cost stays edge.hops o)) (sym still_first) takes
 
     hold_next : (to : ℕ) (edge : CellEdge) → IsIn groups to edge → HoldsDone v cells t1 done1 edge to
     hold_next to edge is cell stays room left at_cell low few leaves settled =
@@ -120,14 +120,14 @@ module _ (v : LegsValue) (cells : List Cell) (groups : Groups) (t0 t : Costs) (w
               let room_is : left ≡ k.place % 8 = omega (arith, same, few) in
               let one : is.0 ≡ group = some_same is.0 group (sym is.1 ∙ ap (slice_get groups) cell_is ∙ here) in
               let among : Contains group.items edge = subst (λ (g : Vec CellEdge Global). Contains g.items edge) one is.2 in
-              subst (λ (i : ℕ). Under (entry t1 edge.from room) (offer stays edge.hops (at t1 i))) (sym same)
+              subst (λ (i : ℕ). Under (entry t1 edge.from room) (offer v.sid_cost stays edge.hops (at t1 i))) (sym same)
               (hold_first edge among cell stays room at_cell low (leaves ∙ ap Some room_is))
           | inr other ↦
               let before = so.hold to edge is cell stays room left at_cell low few leaves (sym (done_other done k.place (8 * to + left)
               other) ∙ now) in
               let kept : entry t1 to left ≡ entry t to left = offers.advances.still (8 * to + left) now in
-              subst (λ (o : Option Cost). Under (entry t1 edge.from room) (offer stays edge.hops o)) (sym kept)
-              (under_trans (entry t1 edge.from room) (entry t edge.from room) (offer stays edge.hops (entry t to left))
+              subst (λ (o : Option Cost). Under (entry t1 edge.from room) (offer v.sid_cost stays edge.hops o)) (sym kept)
+              (under_trans (entry t1 edge.from room) (entry t edge.from room) (offer v.sid_cost stays edge.hops (entry t to left))
               (offers.advances.falls (8 * edge.from + room)) before)
         ]
 
@@ -187,9 +187,9 @@ module _ (v : LegsValue) (laws : KeepsLaws v) (cells : List Cell) (groups : Grou
   hold_all : (to : ℕ) (edge : CellEdge) → IsIn groups to edge → (cell : Cell) (stays : Bool) (room left : ℕ)
       → slice_get cells edge.from ≡ Some cell
       → room < 8 → left < 8 → room_to v cell.via room (move_by edge stays) ≡ Some left → (o : Option Cost)
-      → entry t to left ≡ o → Under (entry t edge.from room) (offer stays edge.hops (entry t to left))
+      → entry t to left ≡ o → Under (entry t edge.from room) (offer v.sid_cost stays edge.hops (entry t to left))
   hold_all to edge is cell stays room left here low few leaves None has =
-      subst (λ (o : Option Cost). Under (entry t edge.from room) (offer stays edge.hops o)) (sym has) (under_none (entry t edge.from
+      subst (λ (o : Option Cost). Under (entry t edge.from room) (offer v.sid_cost stays edge.hops o)) (sym has) (under_none (entry t edge.from
       room))
   hold_all to edge is cell stays room left here low few leaves (Some c) has =
       let within = slice_get_within groups to is.0 is.1 in
@@ -204,6 +204,6 @@ module _ (v : LegsValue) (laws : KeepsLaws v) (cells : List Cell) (groups : Grou
     holds = λ to edge is cell stays room left here low leaves.
         let edge_fact = edge_facts to edge is in
         let few = behind_few v cell.via room (move_by edge stays) left (edge_shape v laws cells edge edge_fact.0) low leaves in
-        subst (λ (o : Option ℕ). Under (entry t edge.from room) (offer stays edge.hops (rest_at t o left))) (sym edge_fact.1)
+        subst (λ (o : Option ℕ). Under (entry t edge.from room) (offer v.sid_cost stays edge.hops (rest_at t o left))) (sym edge_fact.1)
         (hold_all to edge is cell stays room left here low few leaves (entry t to left) refl);
   }

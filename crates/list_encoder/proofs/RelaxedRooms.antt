@@ -25,14 +25,15 @@ pub rest_falls : (before after : Costs) (to : Option ℕ) (left : ℕ) → ((i :
 rest_falls before after None left h = under_itself (Some nothing)
 rest_falls before after (Some to) left h = h (8 * to + left)
 
-pub offer_falls : (stays : Bool) (hops : ℕ) (a b : Option Cost) → Under a b → Under (offer stays hops a) (offer stays hops b)
-offer_falls stays hops a b h = under_plus (move_cost stays hops) a b h
+pub offer_falls : (sid_cost : ℕ) (stays : Bool) (hops : ℕ) (a b : Option Cost) → Under a b
+    → Under (offer sid_cost stays hops a) (offer sid_cost stays hops b)
+offer_falls sid_cost stays hops a b h = under_plus (move_cost sid_cost stays hops) a b h
 
 -- what holds of a room holds where its room is known
-room_holds : (o : Option Cost) (stays : Bool) (edge : CellEdge) (t : Costs) (p : Option ℕ) (left : ℕ) → p ≡ Some left
-    → RoomHolds o stays edge t p
-    → Under o (offer stays edge.hops (rest_at t edge.to left))
-room_holds o stays edge t p left e h = subst (λ (q : Option ℕ). RoomHolds o stays edge t q) e h
+room_holds : (v : LegsValue) (o : Option Cost) (stays : Bool) (edge : CellEdge) (t : Costs) (p : Option ℕ) (left : ℕ) → p ≡ Some left
+    → RoomHolds v o stays edge t p
+    → Under o (offer v.sid_cost stays edge.hops (rest_at t edge.to left))
+room_holds v o stays edge t p left e h = subst (λ (q : Option ℕ). RoomHolds v o stays edge t q) e h
 
 pub room_rooms : (v : LegsValue) (cells : List Cell) (edge : CellEdge) (stays : Bool) (room : ℕ) (p : Option ℕ) (t t1 : Costs) (x : Bool)
     → RoomRelaxed v cells edge t t1 stays room p x → LeavesRoom v cells edge stays room p
@@ -45,8 +46,8 @@ room_rooms v cells edge stays room p t t1 x relaxed leaves =
           let same : room ≡ r = omega (arith, l, h) in
           let g : room_to v cell.via room (move_by edge stays) ≡ Some left =
           ap (λ (k : ℕ). room_to v cell.via k (move_by edge stays)) same ∙ f in
-          subst (λ (k : ℕ). Under (entry t1 edge.from k) (offer stays edge.hops (rest_at t edge.to left))) same
-          (room_holds (entry t1 edge.from room) stays edge t p left (leaves cell e ∙ g) relaxed.holds);
+          subst (λ (k : ℕ). Under (entry t1 edge.from k) (offer v.sid_cost stays edge.hops (rest_at t edge.to left))) same
+          (room_holds v (entry t1 edge.from room) stays edge t p left (leaves cell e ∙ g) relaxed.holds);
     }
 
 -- some rooms, and then those that follow
@@ -58,14 +59,14 @@ rooms_join v cells edge stays low mid high t t1 t2 x y first second =
       sound = second.sound;
       passed = passed_then (edge.from + 1) t t1 t2 x y first.passed second.passed;
       holds = λ cell r left e l h f.
-          elim (cases_lt r mid) as (λ w. Under (entry t2 edge.from r) (offer stays edge.hops (rest_at t edge.to left))) [
+          elim (cases_lt r mid) as (λ w. Under (entry t2 edge.from r) (offer v.sid_cost stays edge.hops (rest_at t edge.to left))) [
             | inl less ↦
-                under_trans (entry t2 edge.from r) (entry t1 edge.from r) (offer stays edge.hops (rest_at t edge.to left))
+                under_trans (entry t2 edge.from r) (entry t1 edge.from r) (offer v.sid_cost stays edge.hops (rest_at t edge.to left))
                 (second.passed.falls _) (first.holds cell r left e l less f)
             | inr more ↦
-                under_trans (entry t2 edge.from r) (offer stays edge.hops (rest_at t1 edge.to left))
-                (offer stays edge.hops (rest_at t edge.to left)) (second.holds cell r left e more h f)
-                (offer_falls stays edge.hops (rest_at t1 edge.to left) (rest_at t edge.to left)
+                under_trans (entry t2 edge.from r) (offer v.sid_cost stays edge.hops (rest_at t1 edge.to left))
+                (offer v.sid_cost stays edge.hops (rest_at t edge.to left)) (second.holds cell r left e more h f)
+                (offer_falls v.sid_cost stays edge.hops (rest_at t1 edge.to left) (rest_at t edge.to left)
                 (rest_falls t t1 edge.to left first.passed.falls))
           ];
     }
@@ -89,13 +90,15 @@ ways_join v cells edge t t1 t2 x y opened stayed =
   where
     holds : (cell : Cell) (stays : Bool) (r left : ℕ) → slice_get cells edge.from ≡ Some cell → r < 8
         → room_to v cell.via r (move_by edge stays) ≡ Some left
-        → Under (entry t2 edge.from r) (offer stays edge.hops (rest_at t edge.to left))
+        → Under (entry t2 edge.from r) (offer v.sid_cost stays edge.hops (rest_at t edge.to left))
     holds cell true r left e h f =
-        under_trans (entry t2 edge.from r) (offer true edge.hops (rest_at t1 edge.to left)) (offer true edge.hops (rest_at t edge.to left))
-        (stayed.holds cell r left e (omega arith) h f)
-        (offer_falls true edge.hops (rest_at t1 edge.to left) (rest_at t edge.to left) (rest_falls t t1 edge.to left opened.passed.falls))
+        under_trans (entry t2 edge.from r) (offer v.sid_cost true edge.hops (rest_at t1 edge.to left))
+        (offer v.sid_cost true edge.hops (rest_at t edge.to left)) (stayed.holds cell r left e (omega arith) h f)
+        (offer_falls v.sid_cost true edge.hops (rest_at t1 edge.to left) (rest_at t edge.to left)
+        (rest_falls t t1 edge.to left opened.passed.falls))
     holds cell false r left e h f =
-        under_trans (entry t2 edge.from r) (entry t1 edge.from r) (offer false edge.hops (rest_at t edge.to left)) (stayed.passed.falls _)
+        under_trans (entry t2 edge.from r) (entry t1 edge.from r) (offer v.sid_cost false edge.hops (rest_at t edge.to left))
+        (stayed.passed.falls _)
         (opened.holds cell r left e (omega arith) h f)
 
 -- an edge is not barred from its first cell
@@ -184,9 +187,9 @@ pub holds_later : (v : LegsValue) (cells : List Cell) (edge : CellEdge) (a b c :
     → ((i : ℕ) → Under (at c i) (at b i))
     → ((left : ℕ) → rest_at c edge.to left ≡ rest_at a edge.to left) → Holds v cells c edge
 holds_later v cells edge a b c h falls same cell stays room left e l r =
-    under_trans (entry c edge.from room) (entry b edge.from room) (offer stays edge.hops (rest_at c edge.to left))
+    under_trans (entry c edge.from room) (entry b edge.from room) (offer v.sid_cost stays edge.hops (rest_at c edge.to left))
     (falls (8 * edge.from + room))
-    (subst (λ (o : Option Cost). Under (entry b edge.from room) (offer stays edge.hops o)) (sym (same left)) (h cell stays room left e l r))
+    (subst (λ (o : Option Cost). Under (entry b edge.from room) (offer v.sid_cost stays edge.hops o)) (sym (same left)) (h cell stays room left e l r))
 
 pub rest_end : (a b : Costs) (to : Option ℕ) (left : ℕ) → to ≡ None → rest_at b to left ≡ rest_at a to left
 rest_end a b to left e = ap (λ (o : Option ℕ). rest_at b o left) e ∙ sym (ap (λ (o : Option ℕ). rest_at a o left) e)

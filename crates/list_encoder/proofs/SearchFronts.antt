@@ -30,32 +30,46 @@ then_is_eq Greater p = refl
 number_is_eq : (m n : ℕ) → is_eq (nat_cmp m n) ≡ (m == n)
 number_is_eq m n = grind (arith, nat_tests)
 
-waiting_is : (k q : Waiting) → is_eq (waiting_cmp k q) ≡ ((k.containers == q.containers) && ((k.hops == q.hops) && (k.place == q.place)))
+number_then : (m n : ℕ) (p : Ordering) (b : Bool) → is_eq p ≡ b → is_eq (ordering_then (nat_cmp m n) p) ≡ ((m == n) && b)
+number_then m n p b h =
+    then_is_eq (nat_cmp m n) p ∙ (ap (λ x. x && is_eq p) (number_is_eq m n) ∙ ap (λ x. (m == n) && x) h)
+
+-- the order behind containers, and behind SIDs
+abbrev behind_sids : Waiting → Waiting → Ordering
+behind_sids k q = ordering_then (nat_cmp k.hops q.hops) (nat_cmp k.place q.place)
+
+abbrev behind_containers : Waiting → Waiting → Ordering
+behind_containers k q = ordering_then (nat_cmp k.sids q.sids) (behind_sids k q)
+
+abbrev same_behind : Waiting → Waiting → Bool
+same_behind k q = (k.sids == q.sids) && ((k.hops == q.hops) && (k.place == q.place))
+
+waiting_is : (k q : Waiting) → is_eq (waiting_cmp k q) ≡ ((k.containers == q.containers) && same_behind k q)
 waiting_is k q =
-    let last : is_eq (ordering_then (nat_cmp k.hops q.hops) (nat_cmp k.place q.place)) ≡ ((k.hops == q.hops) && (k.place == q.place)) =
-    then_is_eq (nat_cmp k.hops q.hops) (nat_cmp k.place q.place)
-    ∙ (ap (λ b. b && is_eq (nat_cmp k.place q.place)) (number_is_eq k.hops q.hops)
-    ∙ ap (λ b. (k.hops == q.hops) && b) (number_is_eq k.place q.place)) in
-    then_is_eq (nat_cmp k.containers q.containers) (ordering_then (nat_cmp k.hops q.hops) (nat_cmp k.place q.place))
-    ∙ (ap (λ b. b && is_eq (ordering_then (nat_cmp k.hops q.hops) (nat_cmp k.place q.place))) (number_is_eq k.containers q.containers)
-    ∙ ap (λ b. (k.containers == q.containers) && b) last)
+    number_then k.containers q.containers (behind_containers k q) (same_behind k q)
+    (number_then k.sids q.sids (behind_sids k q) ((k.hops == q.hops) && (k.place == q.place))
+    (number_then k.hops q.hops (nat_cmp k.place q.place) (k.place == q.place) (number_is_eq k.place q.place)))
 
 waiting_same : (k q : Waiting) → is_eq (waiting_cmp k q) ≡ true → k ≡ q
 waiting_same k q is =
-    let parts = and_parts (k.containers == q.containers) ((k.hops == q.hops) && (k.place == q.place)) (sym (waiting_is k q) ∙ is) in
-    let more = and_parts (k.hops == q.hops) (k.place == q.place) parts.1 in
+    let parts = and_parts (k.containers == q.containers) (same_behind k q) (sym (waiting_is k q) ∙ is) in
+    let rest = and_parts (k.sids == q.sids) ((k.hops == q.hops) && (k.place == q.place)) parts.1 in
+    let more = and_parts (k.hops == q.hops) (k.place == q.place) rest.1 in
     let containers : k.containers ≡ q.containers = eqb-true k.containers q.containers parts.0 in
+    let sids : k.sids ≡ q.sids = eqb-true k.sids q.sids rest.0 in
     let hops : k.hops ≡ q.hops = eqb-true k.hops q.hops more.0 in
     let place : k.place ≡ q.place = eqb-true k.place q.place more.1 in
-    λ i. record { containers = containers i; hops = hops i; place = place i }
+    λ i. record { containers = containers i; sids = sids i; hops = hops i; place = place i }
 
 waiting_itself : (k q : Waiting) → k ≡ q → is_eq (waiting_cmp k q) ≡ true
 waiting_itself k q same =
     waiting_is k q
-    ∙ and_from (k.containers == q.containers) ((k.hops == q.hops) && (k.place == q.place))
+    ∙ and_from (k.containers == q.containers) (same_behind k q)
     (eq-eqb k.containers q.containers (ap (λ (w : Waiting). w.containers) same))
+    (and_from (k.sids == q.sids) ((k.hops == q.hops) && (k.place == q.place))
+    (eq-eqb k.sids q.sids (ap (λ (w : Waiting). w.sids) same))
     (and_from (k.hops == q.hops) (k.place == q.place) (eq-eqb k.hops q.hops (ap (λ (w : Waiting). w.hops) same))
-    (eq-eqb k.place q.place (ap (λ (w : Waiting). w.place) same)))
+    (eq-eqb k.place q.place (ap (λ (w : Waiting). w.place) same))))
 
 then_not_gt : (o p : Ordering) → is_gt (ordering_then o p) ≡ false → (is_gt o ≡ false) × (is_eq o ≡ true → is_gt p ≡ false)
 then_not_gt Less p h = (refl, λ e. cc)
@@ -65,16 +79,19 @@ then_not_gt Greater p h = cc
 -- the order of the queue is by costs first
 not_above : (k q : Waiting) → is_gt (waiting_cmp k q) ≡ false → AtMost (cost_of k) (cost_of q)
 not_above k q h =
-    let parts = then_not_gt (nat_cmp k.containers q.containers) (ordering_then (nat_cmp k.hops q.hops) (nat_cmp k.place q.place)) h in
+    let parts = then_not_gt (nat_cmp k.containers q.containers) (behind_containers k q) h in
+    let rest = λ (e : k.containers ≡ q.containers). then_not_gt (nat_cmp k.sids q.sids) (behind_sids k q)
+    (parts.1 (number_is_eq k.containers q.containers ∙ eq-eqb k.containers q.containers e)) in
     record {
       containers = le_from_not_gt k.containers q.containers parts.0;
-      hops = λ e.
-          let same = number_is_eq k.containers q.containers ∙ eq-eqb k.containers q.containers e in
-          le_from_not_gt k.hops q.hops (then_not_gt (nat_cmp k.hops q.hops) (nat_cmp k.place q.place) (parts.1 same)).0;
+      sids = λ e. le_from_not_gt k.sids q.sids (rest e).0;
+      hops = λ e f.
+          let same = number_is_eq k.sids q.sids ∙ eq-eqb k.sids q.sids f in
+          le_from_not_gt k.hops q.hops (then_not_gt (nat_cmp k.hops q.hops) (nat_cmp k.place q.place) ((rest e).1 same)).0;
     }
 
 cost_same : (k : Waiting) (c : Cost) (i : ℕ) → c ≡ cost_of k → i ≡ k.place → waiting_at c i ≡ k
-cost_same k c i same place = λ j. record { containers = (same j).containers; hops = (same j).hops; place = place j }
+cost_same k c i same place = λ j. record { containers = (same j).containers; sids = (same j).sids; hops = (same j).hops; place = place j }
 
 -- ---- one that comes and one that goes
 
@@ -299,7 +316,7 @@ front_first t waiting done n are none =
       only = λ k waits.
           let it = are.only k waits in
           record { early = omega (arith, it.0, long); has = it.1; unsettled = unset k.place };
-      above = λ k waits. record { containers = omega arith; hops = λ e. omega arith };
+      above = λ k waits. record { containers = omega arith; sids = λ e. omega arith; hops = λ e f. omega arith };
       settled = λ i is. absurd (both_ways _ (unset i) is);
     }
   where

@@ -11,6 +11,7 @@ use Rattle.list_pack.specs.LegsValue.{LegsValue}
 use Rattle.list_pack.specs.LegsValueTerms.{KeepsLaws, comes_to}
 use Rattle.list_pack.specs.Costs.{Move, plus, move_cost, room_to, edge_by, last_of, cost_of, Under}
 use Rattle.list_pack.specs.CostsTerms.{nothing}
+use Rattle.list_pack.specs.Paths.{cost_with}
 use Rattle.list_pack.specs.Least.{IsFirstLeast, step_of, path_key, path_before}
 use Rattle.list_pack.proofs.PublicLaws.{edge_made, last_made, attained}
 use Rattle.list_encoder.specs.declared.cells.Cell.{Cell}
@@ -79,8 +80,8 @@ sids_same v laws cells a b is_a is_b from e =
 
 -- a finish and a leg of one SID are not both tight
 not_both_tight : (v : LegsValue) (cells : List Cell) → KeepsLaws v → (cell : Cell) (sid a b to : ℕ) (stays : Bool) (rest c : Cost)
-    → v.finish cell.position cell.via sid ≡ Some a → LeadsTo v cells cell sid b (Some to) → plus (move_cost stays a) nothing ≡ c
-    → plus (move_cost stays b) rest ≡ c → ⊥
+    → v.finish cell.position cell.via sid ≡ Some a → LeadsTo v cells cell sid b (Some to) → plus (move_cost v.sid_cost stays a) nothing ≡ c
+    → plus (move_cost v.sid_cost stays b) rest ≡ c → ⊥
 not_both_tight v cells laws cell sid a b to stays rest c finish leg e f =
     let above : a < b = laws.above_finish cell.position cell.via sid (record { to = leg.0; hops = b }) a leg.2 finish in
     let one : a + 0 ≡ c.hops = ap (λ (x : Cost). x.hops) e in
@@ -123,13 +124,13 @@ module _ (v : LegsValue) (laws : KeepsLaws v) (cells : List Cell) (are : AreCell
       ∙ ap (λ (b : Bool). room_to v costed_state.cell.via costed_state.room (move_by picked.edge b)) same ∙ picked.tight.room_is)
 
   end_nothing : (a : CellEdge) (stays : Bool) (left : ℕ) (d : Cost) → a.to ≡ None → IsTight v t costed_state a stays left d
-      → plus (move_cost stays a.hops) nothing ≡ costed_state.cost
+      → plus (move_cost v.sid_cost stays a.hops) nothing ≡ costed_state.cost
   end_nothing a stays left d e tight =
       let same : nothing ≡ d = some_same nothing d (sym (ap (λ (o : Option ℕ). rest_at t o left) e) ∙ tight.rest_is) in
-      ap (plus (move_cost stays a.hops)) same ∙ tight.cost_is
+      ap (plus (move_cost v.sid_cost stays a.hops)) same ∙ tight.cost_is
 
-  picked_cost : (stays : Bool) → stays ≡ pick.step.stays → plus (move_cost stays picked.edge.hops) pick.rest ≡ costed_state.cost
-  picked_cost stays same = ap (λ (b : Bool). plus (move_cost b picked.edge.hops) pick.rest) same ∙ picked.tight.cost_is
+  picked_cost : (stays : Bool) → stays ≡ pick.step.stays → plus (move_cost v.sid_cost stays picked.edge.hops) pick.rest ≡ costed_state.cost
+  picked_cost stays same = ap (λ (b : Bool). plus (move_cost v.sid_cost b picked.edge.hops) pick.rest) same ∙ picked.tight.cost_is
 
   -- two legs of one SID from one cell
   legs_same : (edge : CellEdge) (i j : ℕ) (a b : Cell) (is_edge : IsCellEdge v cells edge) → edge.from ≡ costed_state.place → edge.to ≡ Some i
@@ -158,14 +159,17 @@ module _ (v : LegsValue) (laws : KeepsLaws v) (cells : List Cell) (are : AreCell
   compare_legs edge stays left d more rest i j e f from is_edge sid same tight behind first =
       let both = legs_same edge i j behind.0 first.0 is_edge from e f sid behind.1 first.1 in
       let room = lefts_same edge stays left d sid same tight in
-      let cost : plus (move_cost stays edge.hops) d ≡ plus (move_cost stays picked.edge.hops) pick.rest = tight.cost_is
+      let cost : plus (move_cost v.sid_cost stays edge.hops) d ≡ plus (move_cost v.sid_cost stays picked.edge.hops) pick.rest = tight.cost_is
       ∙ sym (picked_cost stays same) in
       let containers = ap (λ (x : Cost). x.containers) cost in
+      let sids = ap (λ (x : Cost). x.sids) cost in
       let hops = ap (λ (x : Cost). x.hops) cost in
       let c : d.containers ≡ pick.rest.containers = omega (arith, containers) in
+      let s : d.sids ≡ pick.rest.sids = omega (arith, sids) in
       let h : d.hops ≡ pick.rest.hops = omega (arith, hops, both.1) in
-      let step : (x : ℕ) → Cost = λ x. record { containers = x; hops = d.hops } in
-      let is_rest : d ≡ pick.rest = ap step c ∙ ap (λ (y : ℕ). record { containers = pick.rest.containers; hops = y }) h in
+      let is_rest : d ≡ pick.rest =
+      ap (λ (x : ℕ). cost_with x d.sids d.hops) c ∙ ap (λ (y : ℕ). cost_with pick.rest.containers y d.hops) s
+      ∙ ap (λ (z : ℕ). cost_with pick.rest.containers pick.rest.sids z) h in
       let its : cost_of v (state_at first.0 pick.room) more ≡ Some pick.rest =
       ap (λ (r : ℕ). cost_of v (state_at first.0 r) more) (sym room) ∙ ap (λ (x : Cell). cost_of v (state_at x left) more) (sym both.0)
       ∙ behind.2
@@ -193,7 +197,7 @@ module _ (v : LegsValue) (laws : KeepsLaws v) (cells : List Cell) (are : AreCell
       let nothing_left = end_nothing picked.edge pick.step.stays pick.room pick.rest f picked.tight in
       absurd (not_both_tight v cells laws picked.is_edge.cell picked.edge.sid picked.edge.hops edge.hops i pick.step.stays d costed_state.cost
       finish leg
-      nothing_left (ap (λ (b : Bool). plus (move_cost b edge.hops) d) (sym same) ∙ tight.cost_is))
+      nothing_left (ap (λ (b : Bool). plus (move_cost v.sid_cost b edge.hops) d) (sym same) ∙ tight.cost_is))
   compare edge stays left d more rest (Some i) (Some j) e f from is_edge sid same tight behind first =
       compare_legs edge stays left d more rest i j e f from is_edge sid same tight behind first
 
@@ -227,10 +231,10 @@ module _ (v : LegsValue) (laws : KeepsLaws v) (cells : List Cell) (are : AreCell
       some_same picked.is_edge.cell costed_state.cell (sym picked.is_edge.from ∙ ap (slice_get cells) picked.from ∙ is.here) in
       let its : v.finish costed_state.cell.position costed_state.cell.via picked.edge.sid ≡ Some picked.edge.hops =
       subst (λ (c : Cell). v.finish c.position c.via picked.edge.sid ≡ Some picked.edge.hops) here finish in
-      let last : last_of v (state_at costed_state.cell costed_state.room) m ≡ Some (move_cost pick.step.stays picked.edge.hops) =
+      let last : last_of v (state_at costed_state.cell costed_state.room) m ≡ Some (move_cost v.sid_cost pick.step.stays picked.edge.hops) =
       last_made v (state_at costed_state.cell costed_state.room) m pick.room picked.edge.hops picked.tight.room_is its in
       ap (λ (ms : List Move). cost_of v (state_at costed_state.cell costed_state.room) (m ∷ ms)) first ∙ last
-      ∙ ap (λ (c : Cost). Some c) (sym (plus_nothing (move_cost pick.step.stays picked.edge.hops))
+      ∙ ap (λ (c : Cost). Some c) (sym (plus_nothing (move_cost v.sid_cost pick.step.stays picked.edge.hops))
       ∙ end_nothing picked.edge pick.step.stays pick.room pick.rest e picked.tight)
   cost_behind rest (Some j) e first =
       let m : Move = pick_move pick picked.edge.sid in
@@ -244,7 +248,7 @@ module _ (v : LegsValue) (laws : KeepsLaws v) (cells : List Cell) (are : AreCell
       let there : cell_at leads.0 picked.edge.sid ≡ first.0 = some_same (cell_at leads.0 picked.edge.sid) first.0 (sym leads.1 ∙ first.1) in
       let behind : cost_of v (state_at (cell_at leads.0 picked.edge.sid) pick.room) rest ≡ Some pick.rest =
       ap (λ (c : Cell). cost_of v (state_at c pick.room) rest) there ∙ first.2.cost in
-      attained v (state_at costed_state.cell costed_state.room) m (edge_by m pick.room leg) rest pick.rest edge_fact behind
+      attained v (state_at costed_state.cell costed_state.room) m (edge_by v m pick.room leg) rest pick.rest edge_fact behind
       ∙ ap (λ (c : Cost). Some c) picked.tight.cost_is
 
   pub first_least : (rest : List Move) → FirstBehind v cells pick rest picked.edge.to

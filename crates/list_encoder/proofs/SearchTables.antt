@@ -11,6 +11,7 @@ use Rattle.list_pack.specs.LegsValue.{LegsValue}
 use Rattle.list_pack.specs.LegsValueTerms.{KeepsLaws, IsShape, IsSid}
 use Rattle.list_pack.specs.Costs.{Move, plus, move_cost, room_to, Under, edge_by, last_of}
 use Rattle.list_pack.specs.CostsTerms.{nothing}
+use Rattle.list_pack.specs.Paths.{cost_with}
 use Rattle.list_pack.specs.Least.{Attains}
 use Rattle.list_pack.proofs.PublicLaws.{under_itself, under_trans, edge_made, last_made, attained}
 use Rattle.list_encoder.specs.declared.cells.Cell.{Cell}
@@ -20,20 +21,30 @@ use Rattle.list_encoder.specs.Cells.{cell_at, state_at, AreCells}
 use Rattle.list_encoder.specs.CellTable.{Costs, at, entry, rest_at, offer, LeadsTo, IsCellEdge, move_by, filled, IsBounded, IsSound, Improves, IsLowered, IsKept, Lowers, rank, total, Passed, RoomHolds, RoomRelaxed, LeavesRoom, HasFewContainers, AreInRange}
 use Rattle.list_encoder.proofs.SearchRooms.{stay_less, open_few, behind_few}
 
--- a cost that is below another, or of few containers and hops
-pub rank_less : (o : Option Cost) (c : Cost) → Improves o c → c.containers < 1000000 → c.hops < 1000000000 → rank (Some c) < rank o
-rank_less None c h few low = omega (arith, few, low)
-rank_less (Some d) c h few low =
+-- a cost that is below another, or of few containers, SIDs and hops
+pub record IsFew (c : Cost) : Type 0 where
+  pub containers : c.containers < 1000000
+  pub sids : c.sids < 1000000
+  pub hops : c.hops < 1000000000
+
+pub rank_less : (o : Option Cost) (c : Cost) → Improves o c → IsFew c → rank (Some c) < rank o
+rank_less None c h few = omega (arith, few.containers, few.sids, few.hops)
+rank_less (Some d) c h few =
     elim (cases_lt c.containers d.containers) as (λ w. rank (Some c) < rank (Some d)) [
-      | inl less ↦ omega (arith, less, low)
+      | inl less ↦ omega (arith, less, few.sids, few.hops)
       | inr more ↦
           let e : c.containers ≡ d.containers = omega (arith, more, h.containers) in
-          omega (arith, e, h.hops e)
+          elim (cases_lt c.sids d.sids) as (λ w. rank (Some c) < rank (Some d)) [
+            | inl less ↦ omega (arith, e, less, few.hops)
+            | inr least ↦
+                let f : c.sids ≡ d.sids = omega (arith, least, h.sids e) in
+                omega (arith, e, f, h.hops e f)
+          ]
     ]
 
 improves_under : (o : Option Cost) (c : Cost) → Improves o c → Under (Some c) o
 improves_under None c h = tt
-improves_under (Some d) c h = record { containers = h.containers; hops = λ e. omega (arith, h.hops e) }
+improves_under (Some d) c h = record { containers = h.containers; sids = h.sids; hops = λ e f. omega (arith, h.hops e f) }
 
 at_other : (t : Costs) (i j : ℕ) (o : Option Cost) → (j ≡ i → ⊥) → at (set t i o) j ≡ at t j
 at_other t i j o ne = get_or-set_other t i j o None ne
@@ -52,22 +63,22 @@ module _ (t : Costs) (i : ℕ) (c : Cost) (within : i < length t) (improves : Im
         | inr other ↦ subst (λ (o : Option Cost). Under o (at t j)) (sym (at_other t i j (Some c) other)) (under_itself (at t j))
       ]
 
-  set_smaller : c.containers < 1000000 → c.hops < 1000000000 → total (set t i (Some c)) < total t
-  set_smaller few low =
+  set_smaller : IsFew c → total (set t i (Some c)) < total t
+  set_smaller few =
       let sums : total (set t i (Some c)) + rank (at t i) ≡ total t + rank (Some c) = sum_by-set rank t i (Some c) None within in
-      let less : rank (Some c) < rank (at t i) = rank_less (at t i) c improves few low in
+      let less : rank (Some c) < rank (at t i) = rank_less (at t i) c improves few in
       less_by (total (set t i (Some c))) (rank (at t i)) (total t) (rank (Some c)) sums less
     where
       less_by : (a b d e : ℕ) → a + b ≡ d + e → e < b → a < d
       less_by a b d e h k = omega arith
 
-  set_passed : (cell : ℕ) → i < 8 * cell → c.containers < 1000000 → c.hops < 1000000000 → Passed cell t (set t i (Some c)) true
-  set_passed cell low few small =
+  set_passed : (cell : ℕ) → i < 8 * cell → IsFew c → Passed cell t (set t i (Some c)) true
+  set_passed cell low few =
       record {
         falls = set_falls;
         later = λ j h. at_other t i j (Some c) (λ e. absurd (omega (arith, e, h, low)));
         same = λ e. absurd (true≢false e);
-        smaller = λ e. set_smaller few small;
+        smaller = λ e. set_smaller few;
       }
 
   -- the number of costs grows where there was none
@@ -128,23 +139,34 @@ place_within : (k r n : ℕ) → k < n → r < 8 → 8 * k + r < 8 * n
 place_within k r n h l = omega (arith, h, l)
 
 -- a sum that stays within its bounds
-bounded_stays : (n left room hops : ℕ) (d : Cost) → IsBounded n left d → left < room → hops ≤ 1000
-    → IsBounded (n + 1) room (plus (move_cost true hops) d)
-bounded_stays n left room hops d h less few = record { containers = omega (arith, h.containers); hops = omega (arith, h.hops, less, few) }
+bounded_stays : (n left room sid_cost hops : ℕ) (d : Cost) → IsBounded n left d → left < room → sid_cost ≤ 1 → hops ≤ 1000
+    → IsBounded (n + 1) room (plus (move_cost sid_cost true hops) d)
+bounded_stays n left room sid_cost hops d h less one few =
+    record {
+      containers = omega (arith, h.containers);
+      sids = omega (arith, h.sids, less, one);
+      hops = omega (arith, h.hops, less, few);
+    }
 
-bounded_opens : (n left room hops : ℕ) (d : Cost) → IsBounded n left d → left ≤ 7 → hops ≤ 1000
-    → IsBounded (n + 1) room (plus (move_cost false hops) d)
-bounded_opens n left room hops d h less few = record { containers = omega (arith, h.containers); hops = omega (arith, h.hops, less, few) }
+bounded_opens : (n left room sid_cost hops : ℕ) (d : Cost) → IsBounded n left d → left ≤ 7 → sid_cost ≤ 1 → hops ≤ 1000
+    → IsBounded (n + 1) room (plus (move_cost sid_cost false hops) d)
+bounded_opens n left room sid_cost hops d h less one few =
+    record {
+      containers = omega (arith, h.containers);
+      sids = omega (arith, h.sids, less, one);
+      hops = omega (arith, h.hops, less, few);
+    }
 
 bounded_nothing : (n left : ℕ) → IsBounded n left nothing
-bounded_nothing n left = record { containers = omega arith; hops = omega arith }
+bounded_nothing n left = record { containers = omega arith; sids = omega arith; hops = omega arith }
 
 pub plus_nothing : (c : Cost) → plus c nothing ≡ c
 plus_nothing c =
     let e : c.containers + 0 ≡ c.containers = omega arith in
-    let f : c.hops + 0 ≡ c.hops = omega arith in
-    let step : (x : ℕ) → Cost = λ x. record { containers = x; hops = c.hops + 0 } in
-    ap step e ∙ ap (λ (y : ℕ). record { containers = c.containers; hops = y }) f
+    let f : c.sids + 0 ≡ c.sids = omega arith in
+    let g : c.hops + 0 ≡ c.hops = omega arith in
+    ap (λ (x : ℕ). cost_with x (c.sids + 0) (c.hops + 0)) e ∙ ap (λ (y : ℕ). cost_with c.containers y (c.hops + 0)) f
+    ∙ ap (λ (z : ℕ). cost_with c.containers c.sids z) g
 
 module _ (v : LegsValue) (laws : KeepsLaws v) (cells : List Cell) where
   leads_sid : (cell : Cell) (sid hops : ℕ) (to : Option ℕ) → LeadsTo v cells cell sid hops to → IsSid v sid × (hops ≤ 1000)
@@ -185,31 +207,31 @@ module _ (v : LegsValue) (laws : KeepsLaws v) (cells : List Cell) where
       ≡ hops
       → room < 8
       → room_to v o room (move_by edge stays) ≡ Some left → IsBounded n left d
-      → IsBounded (n + 1) room (plus (move_cost stays hops) d)
+      → IsBounded (n + 1) room (plus (move_cost v.sid_cost stays hops) d)
   bounded_behind n left room hops true d o edge is e h r b =
-      bounded_stays n left room hops d b (stay_less v o room edge.sid left (edge_shape edge is) r)
+      bounded_stays n left room v.sid_cost hops d b (stay_less v o room edge.sid left (edge_shape edge is) r) laws.sid_cost
       (subst (λ (x : ℕ). x ≤ 1000) e (edge_hops edge is))
   bounded_behind n left room hops false d o edge is e h r b =
-      bounded_opens n left room hops d b (open_few v o room edge.sid left (edge_shape edge is) r)
+      bounded_opens n left room v.sid_cost hops d b (open_few v o room edge.sid left (edge_shape edge is) r) laws.sid_cost
       (subst (λ (x : ℕ). x ≤ 1000) e (edge_hops edge is))
 
   -- after an edge, what is left is that of a path, and so it is in front
   edge_attains : (t : Costs) (cell : Cell) (sid hops : ℕ) (to : Option ℕ) (stays : Bool) (room left : ℕ) (d : Cost) → IsSound v cells t
       → LeadsTo v cells cell sid hops to → left < 8 → room_to v cell.via room (record { stays = stays; sid = sid }) ≡ Some left
-      → rest_at t to left ≡ Some d → Attains v (state_at cell room) (Some (plus (move_cost stays hops) d))
+      → rest_at t to left ≡ Some d → Attains v (state_at cell room) (Some (plus (move_cost v.sid_cost stays hops) d))
   edge_attains t cell sid hops None stays room left d sound leads h r e =
       let m : Move = record { stays = stays; sid = sid } in
-      let last : last_of v (state_at cell room) m ≡ Some (move_cost stays hops) = last_made v (state_at cell room) m left hops r leads in
+      let last : last_of v (state_at cell room) m ≡ Some (move_cost v.sid_cost stays hops) = last_made v (state_at cell room) m left hops r leads in
       let same : nothing ≡ d = cc in
-      let sum : move_cost stays hops ≡ plus (move_cost stays hops) d =
-      sym (plus_nothing (move_cost stays hops)) ∙ ap (plus (move_cost stays hops)) same in
+      let sum : move_cost v.sid_cost stays hops ≡ plus (move_cost v.sid_cost stays hops) d =
+      sym (plus_nothing (move_cost v.sid_cost stays hops)) ∙ ap (plus (move_cost v.sid_cost stays hops)) same in
       (m ∷ [], last ∙ ap Some sum)
   edge_attains t cell sid hops (Some to) stays room left d sound leads h r e =
       let m : Move = record { stays = stays; sid = sid } in
       let leg : Leg = record { to = leads.0; hops = hops } in
       let rest = sound.attained to left (cell_at leads.0 sid) d leads.1 h e in
       let edge_fact = edge_made v (state_at cell room) m left leg r leads.2 in
-      (m ∷ rest.0, attained v (state_at cell room) m (edge_by m left leg) rest.0 d edge_fact rest.1)
+      (m ∷ rest.0, attained v (state_at cell room) m (edge_by v m left leg) rest.0 d edge_fact rest.1)
 
   -- one entry lowered to the cost of a path
   module _ (t : Costs) (k room : ℕ) (cell : Cell) (c : Cost) (sound : IsSound v cells t) (here : slice_get cells k ≡ Some cell)
@@ -266,14 +288,15 @@ module _ (v : LegsValue) (laws : KeepsLaws v) (cells : List Cell) where
               let new : at (set t (8 * k + room) (Some c)) (8 * j + r) ≡ Some c =
               ap (at (set t (8 * k + room) (Some c))) same ∙ at_same t (8 * k + room) (Some c) set_within in
               let is_c : c ≡ d = cc in
-              let is : IsBounded (filled (set t (8 * k + room) (Some c))) room c = record { containers = few_costs; hops = bounded.hops } in
+              let is : IsBounded (filled (set t (8 * k + room) (Some c))) room c =
+              record { containers = few_costs; sids = bounded.sids; hops = bounded.hops } in
               subst (λ (x : Cost). IsBounded (filled (set t (8 * k + room) (Some c))) r x) is_c
               (subst (λ (x : ℕ). IsBounded (filled (set t (8 * k + room) (Some c))) x c) (sym places.1) is)
           | inr differ ↦
               let old = sound.bounded j r d l (sym (at_other t (8 * k + room) (8 * j + r) (Some c) differ) ∙ e) in
               let more = set_filled t (8 * k + room) c set_within improves in
               let few = old.containers in
-              record { containers = omega (arith, few, more); hops = old.hops }
+              record { containers = omega (arith, few, more); sids = old.sids; hops = old.hops }
         ]
 
     sound_set : IsSound v cells (set t (8 * k + room) (Some c))
@@ -281,13 +304,16 @@ module _ (v : LegsValue) (laws : KeepsLaws v) (cells : List Cell) where
         record { long = length-set t (8 * k + room) (Some c) ∙ sound.long; attained = attained_at; bounded = bounded_at }
 
   costs_few : (t : Costs) (room : ℕ) (c : Cost) → IsSound v cells t → length cells ≤ MAX_CELLS → room < 8 → IsBounded (filled t + 1) room c
-      → (c.containers < 1000000) × (c.hops < 1000000000)
+      → IsFew c
   costs_few t room c sound few low bounded =
       let many : filled t ≤ length t = count_by-le-length is_some t in
       let long = sound.long in
       let containers : c.containers ≤ 50185 = omega (arith, many, long, few, bounded.containers) in
-      let hops : c.hops < 1000000000 = omega (arith, bounded.hops, containers, low) in
-      (omega (arith, containers), hops)
+      record {
+        containers = omega (arith, containers);
+        sids = omega (arith, bounded.sids, containers, low);
+        hops = omega (arith, bounded.hops, containers, low);
+      }
 
   pub sound_few : (t : Costs) → length cells ≤ MAX_CELLS → IsSound v cells t → HasFewContainers t
   sound_few t few sound i c e =
@@ -320,33 +346,32 @@ module _ (v : LegsValue) (laws : KeepsLaws v) (cells : List Cell) where
         let w = from_within in
         omega (arith, w, sound.long, are.few)
 
-    sum_bounded : (rest : Cost) → rest_at t edge.to left ≡ Some rest → IsBounded (filled t + 1) room (plus (move_cost stays edge.hops) rest)
+    sum_bounded : (rest : Cost) → rest_at t edge.to left ≡ Some rest → IsBounded (filled t + 1) room (plus (move_cost v.sid_cost stays edge.hops) rest)
     sum_bounded rest e =
         bounded_behind (filled t) left room edge.hops stays rest is.cell.via edge is refl low room_is
         (rest_bounded t edge.to left rest sound left_few e)
 
-    pub sum_few : (rest : Cost) → rest_at t edge.to left ≡ Some rest
-        → ((plus (move_cost stays edge.hops) rest).containers < 1000000) × ((plus (move_cost stays edge.hops) rest).hops < 1000000000)
-    sum_few rest e = costs_few t room (plus (move_cost stays edge.hops) rest) sound are.few low (sum_bounded rest e)
+    pub sum_few : (rest : Cost) → rest_at t edge.to left ≡ Some rest → IsFew (plus (move_cost v.sid_cost stays edge.hops) rest)
+    sum_few rest e = costs_few t room (plus (move_cost v.sid_cost stays edge.hops) rest) sound are.few low (sum_bounded rest e)
 
     holds_some : (after : Costs) (rest : Cost) → rest_at t edge.to left ≡ Some rest
-        → Under (entry after edge.from room) (Some (plus (move_cost stays edge.hops) rest))
-        → RoomHolds (entry after edge.from room) stays edge t o
+        → Under (entry after edge.from room) (Some (plus (move_cost v.sid_cost stays edge.hops) rest))
+        → RoomHolds v (entry after edge.from room) stays edge t o
     holds_some after rest e h =
-        subst (λ (p : Option ℕ). RoomHolds (entry after edge.from room) stays edge t p) (sym some)
-        (subst (λ (q : Option Cost). Under (entry after edge.from room) (offer stays edge.hops q)) (sym e) h)
+        subst (λ (p : Option ℕ). RoomHolds v (entry after edge.from room) stays edge t p) (sym some)
+        (subst (λ (q : Option Cost). Under (entry after edge.from room) (offer v.sid_cost stays edge.hops q)) (sym e) h)
 
     lowered : (after : Costs) (rest : Cost) → rest_at t edge.to left ≡ Some rest
-        → IsLowered t after (8 * edge.from + room) (plus (move_cost stays edge.hops) rest)
+        → IsLowered t after (8 * edge.from + room) (plus (move_cost v.sid_cost stays edge.hops) rest)
         → RoomRelaxed v cells edge t after stays room o true
     lowered after rest e h =
-        let c : Cost = plus (move_cost stays edge.hops) rest in
+        let c : Cost = plus (move_cost v.sid_cost stays edge.hops) rest in
         let i : ℕ = 8 * edge.from + room in
         let few = sum_few rest e in
         let attains = edge_attains t is.cell edge.sid edge.hops edge.to stays room left rest sound is.leads left_few room_is e in
         let is_sound = sound_set t edge.from room is.cell c sound is.from low h.improves attains (sum_bounded rest e) in
         let before : i < 8 * (edge.from + 1) = omega (arith, low) in
-        let passed = set_passed t i c from_within h.improves (edge.from + 1) before few.0 few.1 in
+        let passed = set_passed t i c from_within h.improves (edge.from + 1) before few in
         let here : at (set t i (Some c)) i ≡ Some c = at_same t i (Some c) from_within in
         let under : Under (at (set t i (Some c)) i) (Some c) = subst (λ (q : Option Cost). Under q (Some c)) (sym here)
         (under_itself (Some c)) in
@@ -354,14 +379,14 @@ module _ (v : LegsValue) (laws : KeepsLaws v) (cells : List Cell) where
         (record { sound = is_sound; passed = passed; holds = holds_some (set t i (Some c)) rest e under })
 
     kept : (after : Costs) (rest : Cost) → rest_at t edge.to left ≡ Some rest
-        → IsKept t after (8 * edge.from + room) (plus (move_cost stays edge.hops) rest)
+        → IsKept t after (8 * edge.from + room) (plus (move_cost v.sid_cost stays edge.hops) rest)
         → RoomRelaxed v cells edge t after stays room o false
     kept after rest e h =
         subst (λ (x : Costs). RoomRelaxed v cells edge t x stays room o false) (sym h.is)
         (record { sound = sound; passed = kept_passed (edge.from + 1) t; holds = holds_some t rest e h.under })
 
     pub room_relaxed : (after : Costs) (rest : Cost) (changed : Bool) → rest_at t edge.to left ≡ Some rest
-        → Lowers t after (8 * edge.from + room) (plus (move_cost stays edge.hops) rest) changed
+        → Lowers t after (8 * edge.from + room) (plus (move_cost v.sid_cost stays edge.hops) rest) changed
         → RoomRelaxed v cells edge t after stays room o changed
     room_relaxed after rest true e h = lowered after rest e h
     room_relaxed after rest false e h = kept after rest e h

@@ -127,7 +127,7 @@ module _ (v : LegsValue) (laws : KeepsLaws v) (cells : List Cell) (are : AreCell
     walk_falls = by pick.step.stays picks.found.tight.room_is (ap (λ (c : Cost). c.containers) picks.found.tight.cost_is)
       where
         by : (stays : Bool) → room_to v costed_state.cell.via costed_state.room (move_by picks.found.edge stays) ≡ Some pick.room
-            → (move_cost stays picks.found.edge.hops).containers + pick.rest.containers ≡ costed_state.cost.containers
+            → (move_cost v.sid_cost stays picks.found.edge.hops).containers + pick.rest.containers ≡ costed_state.cost.containers
             → 8 * pick.rest.containers + pick.room < 8 * costed_state.cost.containers + costed_state.room
         by true r e =
             let less = stay_less v costed_state.cell.via costed_state.room picks.found.edge.sid pick.room

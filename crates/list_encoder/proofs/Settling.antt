@@ -124,8 +124,8 @@ later_stays : (v : LegsValue) (cells : List Cell) (later : ℕ) (a b : Costs) (e
 later_stays v cells later a b edge h on above holds cell stays room left e l r =
     let here : entry b edge.from room ≡ entry a edge.from room = above (8 * edge.from + room) (omega (arith, h)) in
     let there = rest_onward later a b edge.to left above on in
-    subst (λ (o : Option Cost). Under o (offer stays edge.hops (rest_at b edge.to left))) (sym here)
-    (subst (λ (o : Option Cost). Under (entry a edge.from room) (offer stays edge.hops o)) (sym there) (holds cell stays room left e l r))
+    subst (λ (o : Option Cost). Under o (offer v.sid_cost stays edge.hops (rest_at b edge.to left))) (sym here)
+    (subst (λ (o : Option Cost). Under (entry a edge.from room) (offer v.sid_cost stays edge.hops o)) (sym there) (holds cell stays room left e l r))
 
 pub tabled_more : (v : LegsValue) → KeepsLaws v → (cells : List Cell) (p q first later : ℕ) (t t1 : Costs) → IsFirst cells q first
     → Tabled v cells p later t → Settled v cells first later t t1 → Tabled v cells q first t1

@@ -27,8 +27,8 @@ abbrev pub rest_at : Costs → Option ℕ → ℕ → Option Cost
 rest_at t None room = Some nothing
 rest_at t (Some cell) room = entry t cell room
 
-abbrev pub offer : Bool → ℕ → Option Cost → Option Cost
-offer stays hops rest = option_map (plus (move_cost stays hops)) rest
+abbrev pub offer : ℕ → Bool → ℕ → Option Cost → Option Cost
+offer sid_cost stays hops rest = option_map (plus (move_cost sid_cost stays hops)) rest
 
 -- a finish, or a leg into a cell
 abbrev pub LeadsTo : LegsValue → List Cell → Cell → ℕ → ℕ → Option ℕ → Type 0
@@ -52,6 +52,7 @@ filled t = count_by is_some t
 
 pub record IsBounded (n room : ℕ) (c : Cost) : Type 0 where
   pub containers : c.containers ≤ n
+  pub sids : c.sids ≤ 1 + room + 9 * c.containers
   pub hops : c.hops ≤ 1000 * (1 + room + 9 * c.containers)
 
 -- each cost in the table is that of a path
@@ -80,8 +81,8 @@ Lowers before after i c changed = MatchBool changed (IsLowered before after i c)
 
 -- none is above every cost that there may be
 abbrev pub rank : Option Cost → ℕ
-rank None = 1000000000 * 1000000
-rank (Some c) = 1000000000 * c.containers + c.hops
+rank None = 1000000000 * 1000000 * 1000000
+rank (Some c) = 1000000000 * (1000000 * c.containers + c.sids) + c.hops
 
 abbrev pub total : Costs → ℕ
 total t = sum_by rank t
@@ -98,15 +99,15 @@ abbrev pub EdgeHolds : LegsValue → List Cell → CellEdge → Costs → Costs 
 EdgeHolds v cells edge before after =
     (cell : Cell) (stays : Bool) (room left : ℕ) → slice_get cells edge.from ≡ Some cell → room < 8
     → room_to v cell.via room (move_by edge stays) ≡ Some left
-    → Under (entry after edge.from room) (offer stays edge.hops (rest_at before edge.to left))
+    → Under (entry after edge.from room) (offer v.sid_cost stays edge.hops (rest_at before edge.to left))
 
 abbrev pub Holds : LegsValue → List Cell → Costs → CellEdge → Type 0
 Holds v cells t edge = EdgeHolds v cells edge t t
 
 -- one room of an edge
-abbrev pub RoomHolds : Option Cost → Bool → CellEdge → Costs → Option ℕ → Type 0
-RoomHolds o stays edge before None = Unit {0}
-RoomHolds o stays edge before (Some left) = Under o (offer stays edge.hops (rest_at before edge.to left))
+abbrev pub RoomHolds : LegsValue → Option Cost → Bool → CellEdge → Costs → Option ℕ → Type 0
+RoomHolds v o stays edge before None = Unit {0}
+RoomHolds v o stays edge before (Some left) = Under o (offer v.sid_cost stays edge.hops (rest_at before edge.to left))
 
 -- what lowering a table by an edge gives
 pub record Relaxed (v : LegsValue) (cells : List Cell) (edge : CellEdge) (before after : Costs) (changed : Bool) : Type 0 where
@@ -119,7 +120,7 @@ pub record RoomRelaxed (v : LegsValue) (cells : List Cell) (edge : CellEdge) (be
     (changed : Bool) : Type 0 where
   pub sound : IsSound v cells after
   pub passed : Passed (edge.from + 1) before after changed
-  pub holds : RoomHolds (entry after edge.from room) stays edge before left
+  pub holds : RoomHolds v (entry after edge.from room) stays edge before left
 
 -- the rooms from one on and before another of an edge's first cell, where the edge stays in the container, or where it opens one
 pub record RoomsRelaxed (v : LegsValue) (cells : List Cell) (edge : CellEdge) (stays : Bool) (low high : ℕ) (before after : Costs)
@@ -128,7 +129,7 @@ pub record RoomsRelaxed (v : LegsValue) (cells : List Cell) (edge : CellEdge) (s
   pub passed : Passed (edge.from + 1) before after changed
   pub holds : (cell : Cell) (room left : ℕ) → slice_get cells edge.from ≡ Some cell → low ≤ room → room < high
       → room_to v cell.via room (move_by edge stays) ≡ Some left
-      → Under (entry after edge.from room) (offer stays edge.hops (rest_at before edge.to left))
+      → Under (entry after edge.from room) (offer v.sid_cost stays edge.hops (rest_at before edge.to left))
 
 -- all edges from a cell on hold
 abbrev pub HoldFrom : LegsValue → List Cell → Costs → ℕ → Type 0

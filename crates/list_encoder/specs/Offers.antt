@@ -38,13 +38,14 @@ pub record Advances (v : LegsValue) (cells : List Cell) (before : Costs) (was : 
   pub past : (i : ℕ) → length was ≤ i → at after i ≡ at before i
 
 -- a state of an edge's first cell has at most what it gets by an offer
-abbrev pub Takes : Offer → Bool → Costs → ℕ → Type 0
-Takes offer stays t room = Under (entry t offer.edge.from room) (Some (plus (move_cost stays offer.edge.hops) offer.rest))
+abbrev pub Takes : LegsValue → Offer → Bool → Costs → ℕ → Type 0
+Takes v offer stays t room =
+    Under (entry t offer.edge.from room) (Some (plus (move_cost v.sid_cost stays offer.edge.hops) offer.rest))
 
 pub record OffersRoom (v : LegsValue) (cells : List Cell) (offer : Offer) (room : ℕ) (left : Option ℕ) (before : Costs) (was : List Bool)
     (after : Costs) (waiting : BTreeSet Waiting) (done : List Bool) : Type 0 where
   pub advances : Advances v cells before was after waiting done offer.rest
-  pub takes : left ≡ Some offer.left → Takes offer offer.stays after room
+  pub takes : left ≡ Some offer.left → Takes v offer offer.stays after room
 
 -- a room after which the offer's is left
 abbrev pub LeavesIt : LegsValue → List Cell → Offer → Bool → ℕ → Type 0
@@ -56,12 +57,12 @@ LeavesIt v cells offer stays room =
 pub record OffersWay (v : LegsValue) (cells : List Cell) (offer : Offer) (rooms : ℕ) (before : Costs) (was : List Bool) (after : Costs)
     (waiting : BTreeSet Waiting) (done : List Bool) : Type 0 where
   pub advances : Advances v cells before was after waiting done offer.rest
-  pub takes : (room : ℕ) → room < rooms → LeavesIt v cells offer offer.stays room → Takes offer offer.stays after room
+  pub takes : (room : ℕ) → room < rooms → LeavesIt v cells offer offer.stays room → Takes v offer offer.stays after room
 
 pub record OffersEdge (v : LegsValue) (cells : List Cell) (offer : Offer) (before : Costs) (was : List Bool) (after : Costs)
     (waiting : BTreeSet Waiting) (done : List Bool) : Type 0 where
   pub advances : Advances v cells before was after waiting done offer.rest
-  pub takes : (stays : Bool) (room : ℕ) → room < 8 → LeavesIt v cells offer stays room → Takes offer stays after room
+  pub takes : (stays : Bool) (room : ℕ) → room < 8 → LeavesIt v cells offer stays room → Takes v offer stays after room
 
 abbrev pub offer_of : CellEdge → ℕ → Cost → Offer
 offer_of edge left rest = record { edge = edge; stays = false; left = left; rest = rest }
@@ -77,4 +78,4 @@ pub record OffersAll (v : LegsValue) (cells : List Cell) (edges : List CellEdge)
     (was : List Bool) (after : Costs) (waiting : BTreeSet Waiting) (done : List Bool) : Type 0 where
   pub advances : Advances v cells before was after waiting done rest
   pub takes : (edge : CellEdge) (i : ℕ) (stays : Bool) (room : ℕ) → i < count → slice_get edges i ≡ Some edge → room < 8
-      → LeavesIt v cells (offer_of edge left rest) stays room → Takes (offer_of edge left rest) stays after room
+      → LeavesIt v cells (offer_of edge left rest) stays room → Takes v (offer_of edge left rest) stays after room

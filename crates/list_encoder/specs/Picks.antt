@@ -19,7 +19,8 @@ better_of (Some p) None = Some p
 better_of (Some p) (Some q) = if path_before (q.step ∷ []) (p.step ∷ []) then Some q else Some p
 
 abbrev pub is_sum : Cost → Cost → Cost → Bool
-is_sum a b c = (a.containers + b.containers == c.containers) && (a.hops + b.hops == c.hops)
+is_sum a b c =
+    (a.containers + b.containers == c.containers) && (a.sids + b.sids == c.sids) && (a.hops + b.hops == c.hops)
 
 -- a state of a cell from which there is a path, with its least cost
 pub record IsCostedState (cells : List Cell) (t : Costs) (costed_state : CostedState) : Type 0 where
@@ -31,7 +32,7 @@ pub record IsCostedState (cells : List Cell) (t : Costs) (costed_state : CostedS
 pub record IsTight (v : LegsValue) (t : Costs) (costed_state : CostedState) (edge : CellEdge) (stays : Bool) (left : ℕ) (rest : Cost) : Type 0 where
   pub room_is : room_to v costed_state.cell.via costed_state.room (move_by edge stays) ≡ Some left
   pub rest_is : rest_at t edge.to left ≡ Some rest
-  pub cost_is : plus (move_cost stays edge.hops) rest ≡ costed_state.cost
+  pub cost_is : plus (move_cost v.sid_cost stays edge.hops) rest ≡ costed_state.cost
 
 pub record IsPick (v : LegsValue) (cells : List Cell) (t : Costs) (costed_state : CostedState) (pick : Pick) : Type 0 where
   pub edge : CellEdge

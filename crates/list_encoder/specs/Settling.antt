@@ -22,7 +22,7 @@ abbrev pub HoldsDone : LegsValue → List Cell → Costs → List Bool → CellE
 HoldsDone v cells t done edge to =
     (cell : Cell) (stays : Bool) (room left : ℕ) → slice_get cells edge.from ≡ Some cell → room < 8 → left < 8
     → room_to v cell.via room (move_by edge stays) ≡ Some left → is_done done (8 * to + left) ≡ true
-    → Under (entry t edge.from room) (offer stays edge.hops (entry t to left))
+    → Under (entry t edge.from room) (offer v.sid_cost stays edge.hops (entry t to left))
 
 -- so far the edges into the settled states hold
 pub record SettlesSoFar (v : LegsValue) (cells : List Cell) (groups : Groups) (before : Costs) (t : Costs) (waiting : BTreeSet Waiting)

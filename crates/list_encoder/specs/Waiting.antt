@@ -10,15 +10,17 @@ use Rattle.list_pack.specs.Costs.{AtMost, Under}
 use Rattle.list_encoder.specs.declared.waiting.Waiting.{Waiting}
 use Rattle.list_encoder.specs.CellTable.{Costs, at, Lowers}
 
--- by containers, then by hops, then by place
+-- by containers, then by SIDs, then by hops, then by place
 abbrev pub waiting_cmp : Waiting → Waiting → Ordering
-waiting_cmp a b = ordering_then (nat_cmp a.containers b.containers) (ordering_then (nat_cmp a.hops b.hops) (nat_cmp a.place b.place))
+waiting_cmp a b =
+    ordering_then (nat_cmp a.containers b.containers)
+    (ordering_then (nat_cmp a.sids b.sids) (ordering_then (nat_cmp a.hops b.hops) (nat_cmp a.place b.place)))
 
 abbrev pub waiting_at : Cost → ℕ → Waiting
-waiting_at cost place = record { containers = cost.containers; hops = cost.hops; place = place }
+waiting_at cost place = record { containers = cost.containers; sids = cost.sids; hops = cost.hops; place = place }
 
 abbrev pub cost_of : Waiting → Cost
-cost_of k = record { containers = k.containers; hops = k.hops }
+cost_of k = record { containers = k.containers; sids = k.sids; hops = k.hops }
 
 abbrev pub Waits : BTreeSet Waiting → Waiting → Type 0
 Waits waiting k = IsTrue (set.contains waiting_cmp waiting k)

@@ -38,6 +38,7 @@ pub fn rest_at(table: &[Option<Cost>], to: Option<usize>, room: u8) -> Option<Co
     match to {
         None => Some(Cost {
             containers: 0,
+            sids: 0,
             hops: 0,
         }),
         Some(cell) => entry(table, cell, room),

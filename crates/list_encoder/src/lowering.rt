@@ -45,7 +45,7 @@ fn relax_room<L: Legs>(
     let Some(rest) = rest_at(table, edge.to, behind) else {
         return false;
     };
-    let cost = plus(move_cost(stays, edge.hops), rest);
+    let cost = plus(move_cost(legs.sid_cost(), stays, edge.hops), rest);
     lower(table, 8 * edge.from + room as usize, cost)
 }
 

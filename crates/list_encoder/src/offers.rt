@@ -52,7 +52,10 @@ fn offer_room<L: Legs>(
     if after != offer.left {
         return Ok(());
     }
-    let cost = plus(move_cost(offer.stays, offer.edge.hops), offer.rest);
+    let cost = plus(
+        move_cost(legs.sid_cost(), offer.stays, offer.edge.hops),
+        offer.rest,
+    );
     lower_open(table, queue, 8 * offer.edge.from + room as usize, cost)?;
     Ok(())
 }

@@ -69,8 +69,9 @@ fn is_sum(a: Cost, b: Cost, sum: Cost) -> bool
     ensures { result ≡ is_sum a b sum }
 {
     let containers = adds_up(a.containers, b.containers, sum.containers);
+    let sids = adds_up(a.sids, b.sids, sum.sids);
     let hops = adds_up(a.hops, b.hops, sum.hops);
-    containers && hops
+    containers && sids && hops
 }
 
 /// The move by an edge that stays in the container, or the one that doesn't, where it is tight
@@ -98,7 +99,11 @@ fn pick_move<L: Legs>(
     let next = legs.shape(edge.sid);
     let room = room_behind(stays, from, costed_state.room, &next)?;
     let rest = rest_at(table, edge.to, room)?;
-    if !is_sum(move_cost(stays, edge.hops), rest, costed_state.cost) {
+    if !is_sum(
+        move_cost(legs.sid_cost(), stays, edge.hops),
+        rest,
+        costed_state.cost,
+    ) {
         return None;
     }
     Some(Pick {

@@ -15,11 +15,13 @@ use std::alloc::Global;
 use std::collections::BTreeSet;
 
 /// A state that waits with its cost, and the place of its entry. The order is by containers, then
-/// by hops, then by place.
+/// by SIDs, then by hops, then by place.
 #[derive(Clone, Copy, Debug, PartialEq, Eq, PartialOrd, Ord)]
 pub struct Waiting {
     /// The containers of its cost.
     pub containers: u32,
+    /// What the SIDs of its cost come to.
+    pub sids: u32,
     /// The hops of its cost.
     pub hops: u32,
     /// The place of its entry in the table.
@@ -42,6 +44,7 @@ fn waiting_at(cost: Cost, place: usize) -> Waiting
 {
     Waiting {
         containers: cost.containers,
+        sids: cost.sids,
         hops: cost.hops,
         place,
     }
@@ -53,6 +56,7 @@ pub fn cost_of(next: Waiting) -> Cost
 {
     Cost {
         containers: next.containers,
+        sids: next.sids,
         hops: next.hops,
     }
 }

@@ -1,5 +1,6 @@
 -- Paths and legal lists are the same, in a network.
-use Rattle.std.proofs.Common.{◌≡◌, ℕ, ◌<◌, true, false, List, [], ◌∷◌, length, map, take, All, Option, Some, None, refl, sym, ◌∙◌, ap, subst}
+use Rattle.std.proofs.Common.{◌≡◌, ℕ, ◌*◌, ◌<◌, true, false, List, [], ◌∷◌, length, map, take, All, Option, Some, None, refl, sym, ◌∙◌, ap, subst}
+use Rattle.std.proofs.lemmas.List.{length-map}
 use Rattle.v6_addr.specs.Address.{PrefixValue}
 use Rattle.net_model.specs.Network.{Network}
 use Rattle.net_flatness.specs.Nests.{MayFollow}
@@ -86,9 +87,13 @@ list_path v net list sids hops laws suits legal nests e same reach =
     let may = list_may v g (MayFollow net) laws suits (packed_follow net) sids list hops (subst IsLegal (list_same net list) legal) nests
     same e in
     let hops_are : hops_of v 0 None (sids_of_moves moves) ≡ Some hops = ap (λ (ns : List ℕ). hops_of v 0 None ns) own ∙ e in
+    let many : length moves ≡ length sids =
+    sym (length-map moves (λ (m : Move). m.sid)) ∙ ap (λ (ns : List ℕ). length ns) own in
     record {
       moves = moves;
       sids_of = own;
-      cost = cost_made v start moves hops may hops_are ∙ ap (λ (n : ℕ). Some (cost_with n hops)) (list_opened sids list reach);
+      cost = cost_made v start moves hops may hops_are
+          ∙ ap (λ (n : ℕ). Some (cost_with n (v.sid_cost * length moves) hops)) (list_opened sids list reach)
+          ∙ ap (λ (n : ℕ). Some (cost_with (length list) (v.sid_cost * n) hops)) many;
       steps = moves_steps v sids (steps_in list) named;
     }

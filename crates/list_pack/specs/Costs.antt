@@ -17,17 +17,18 @@ pub record Edge : Type 0 where
   pub to : State
   pub cost : Cost
 
--- a cost is at most another: containers are compared first, then hops
+-- a cost is at most another: containers are compared first, then SIDs, then hops
 pub record AtMost (a b : Cost) : Type 0 where
   pub containers : a.containers ≤ b.containers
-  pub hops : a.containers ≡ b.containers → a.hops ≤ b.hops
+  pub sids : a.containers ≡ b.containers → a.sids ≤ b.sids
+  pub hops : a.containers ≡ b.containers → a.sids ≡ b.sids → a.hops ≤ b.hops
 
 abbrev pub plus : Cost → Cost → Cost
-plus a b = record { containers = a.containers + b.containers; hops = a.hops + b.hops }
+plus a b = record { containers = a.containers + b.containers; sids = a.sids + b.sids; hops = a.hops + b.hops }
 
--- a new container costs one
-abbrev pub move_cost : Bool → ℕ → Cost
-move_cost stays hops = record { containers = if stays then 0 else 1; hops = hops }
+-- a new container costs one, and a SID what the legs say
+abbrev pub move_cost : ℕ → Bool → ℕ → Cost
+move_cost sid_cost stays hops = record { containers = if stays then 0 else 1; sids = sid_cost; hops = hops }
 
 -- a SID may not come directly after the one that was executed last, in its container
 abbrev pub bars : LegsValue → Option ℕ → ℕ → Bool
@@ -42,16 +43,17 @@ room_to v via room m =
 abbrev pub room_of : LegsValue → State → Move → Option ℕ
 room_of v s m = room_to v s.via s.room m
 
-abbrev pub edge_by : Move → ℕ → Leg → Edge
-edge_by m room leg = record { to = record { position = leg.to; via = Some m.sid; room = room }; cost = move_cost m.stays leg.hops }
+abbrev pub edge_by : LegsValue → Move → ℕ → Leg → Edge
+edge_by v m room leg =
+    record { to = record { position = leg.to; via = Some m.sid; room = room }; cost = move_cost v.sid_cost m.stays leg.hops }
 
 -- the edge of a move that goes on, by a leg
 abbrev pub edge_of : LegsValue → State → Move → Option Edge
-edge_of v s m = option_and_then (λ room. option_map (edge_by m room) (v.leg s.position s.via m.sid)) (room_of v s m)
+edge_of v s m = option_and_then (λ room. option_map (edge_by v m room) (v.leg s.position s.via m.sid)) (room_of v s m)
 
 -- the cost of a move to the end, by a finish
 abbrev pub last_of : LegsValue → State → Move → Option Cost
-last_of v s m = option_and_then (λ room. option_map (move_cost m.stays) (v.finish s.position s.via m.sid)) (room_of v s m)
+last_of v s m = option_and_then (λ room. option_map (move_cost v.sid_cost m.stays) (v.finish s.position s.via m.sid)) (room_of v s m)
 
 abbrev pub behind : Option Edge → (State → Option Cost) → Option Cost
 behind None later = None

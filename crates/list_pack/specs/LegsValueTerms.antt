@@ -77,6 +77,7 @@ pub record IsFinishOf (v : LegsValue) (position : ℕ) (via : Option ℕ) (next 
 -- the laws of legs
 pub record KeepsLaws (v : LegsValue) : Type 0 where
   pub steps : v.steps ≤ 48
+  pub sid_cost : v.sid_cost ≤ 1
   pub sids_count : (position : ℕ) → position ≤ v.steps → length (v.sids_at position) ≤ 128
   pub sids_order : (position : ℕ) → position ≤ v.steps → IsTrue (ascends v (v.sids_at position))
   pub shapes : (n : ℕ) → IsSid v n → IsShape (v.shape n)

@@ -1,6 +1,6 @@
 -- Need not be believed: helps proofs and other laws.
 -- What legs mean: their paths are the legal lists of a network that realize what the legs are for.
-use Rattle.std.specs.Prelude.{◌≡◌, ℕ, ◌<◌, ◌≤◌, List, length, map, slice_get, Some}
+use Rattle.std.specs.Prelude.{◌≡◌, ℕ, ◌*◌, ◌<◌, ◌≤◌, List, length, map, slice_get, Some}
 use Rattle.srv6_rules.specs.declared.sid.SidEntry.{SidEntry}
 use Rattle.net_model.specs.Network.{Network}
 use Rattle.net_flatness.specs.Nests.{MayFollow}
@@ -39,20 +39,22 @@ pub record IsRealized (net : Network) (Realizes Executes : List Container → �
   pub realizes : Realizes (list_of net path) c.hops
   pub executes : Executes (list_of net path) (length (prefixes_in (list_of net path)))
 
--- a path of as many containers as a list has and of no more hops than its need; where all SIDs of the list are executed it has the list's
--- steps, and its hops are the need
+-- a path of as many containers as a list has, of no more SIDs, and of no more hops than its need; where all SIDs of the list are executed
+-- it has the list's steps, and its hops are the need
 pub record IsPathOf (v : LegsValue) (Executes : List Container → ℕ → Type 0) (list : List Container) (need : ℕ) : Type 0 where
   pub moves : List Move
   pub hops : ℕ
-  pub cost : cost_of v start moves ≡ Some (cost_with (length list) hops)
+  pub cost : cost_of v start moves ≡ Some (cost_with (length list) (v.sid_cost * length moves) hops)
+  pub sids : length moves ≤ length (prefixes_in list)
   pub within : hops ≤ need
   pub whole : Executes list (length (prefixes_in list)) → (map (step_of v) moves ≡ steps_in list) × (hops ≡ need)
 
--- a path of as many containers as a list has and of fewer hops than the hop limit at which the list hands over
+-- a path of as many containers as a list has, of no more SIDs, and of fewer hops than the hop limit at which the list hands over
 pub record IsPathBelow (v : LegsValue) (list : List Container) (hop : ℕ) : Type 0 where
   pub moves : List Move
   pub hops : ℕ
-  pub cost : cost_of v start moves ≡ Some (cost_with (length list) hops)
+  pub cost : cost_of v start moves ≡ Some (cost_with (length list) (v.sid_cost * length moves) hops)
+  pub sids : length moves ≤ length (prefixes_in list)
   pub below : hops < hop
 
 -- by a relation that says that a list realizes with a need, one that says that as many SIDs of a list are executed, and one that says that

@@ -1,6 +1,6 @@
 -- Need not be believed: helps proofs and other laws.
 -- Paths of states as lists of containers: each step that opens a container makes one, of its SID and of those that stay in it.
-use Rattle.std.specs.Prelude.{◌≡◌, ℕ, ◌+◌, if◌then◌else◌, List, [], ◌∷◌, ◌++◌, length, map, take, Option, Some, None, All}
+use Rattle.std.specs.Prelude.{◌≡◌, ℕ, ◌+◌, ◌*◌, if◌then◌else◌, List, [], ◌∷◌, ◌++◌, length, map, take, Option, Some, None, All}
 use Rattle.v6_addr.specs.Address.{PrefixValue}
 use Rattle.net_model.specs.Network.{Network}
 use Rattle.sid_list_spec.specs.SegmentLists as lists
@@ -65,9 +65,10 @@ moves_by [] ps = []
 moves_by (n ∷ ns) [] = []
 moves_by (n ∷ ns) (p ∷ ps) = record { stays = p.stays; sid = n } ∷ moves_by ns ps
 
--- SIDs that are the first of a list's are a path along its steps, and it costs the list's containers and so many hops
+-- SIDs that are the first of a list's are a path along its steps, and it costs the list's containers, what so many SIDs cost, and so many
+-- hops
 pub record IsPathAlong (v : LegsValue) (list : List Container) (sids : List ℕ) (hops : ℕ) : Type 0 where
   pub moves : List Move
   pub sids_of : sids_of_moves moves ≡ sids
-  pub cost : cost_of v start moves ≡ Some (cost_with (length list) hops)
+  pub cost : cost_of v start moves ≡ Some (cost_with (length list) (v.sid_cost * length sids) hops)
   pub steps : map (step_of v) moves ≡ take (length sids) (steps_in list)

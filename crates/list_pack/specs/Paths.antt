@@ -2,5 +2,5 @@
 use Rattle.std.specs.Prelude.{ℕ}
 use Rattle.list_pack.specs.declared.types.Cost.{Cost}
 
-abbrev pub cost_with : ℕ → ℕ → Cost
-cost_with containers hops = record { containers = containers; hops = hops }
+abbrev pub cost_with : ℕ → ℕ → ℕ → Cost
+cost_with containers sids hops = record { containers = containers; sids = sids; hops = hops }

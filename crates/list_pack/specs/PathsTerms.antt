@@ -1,6 +1,6 @@
 -- Need not be believed: helps proofs and other laws.
 -- Terms beside those of `specs/Paths.antt`.
-use Rattle.std.specs.Prelude.{◌≡◌, ℕ, ◌+◌, ◌-◌, ◌≤◌, Bool, true, false, if◌then◌else◌, List, [], ◌∷◌, map, Option, Some, None, IsTrue, IsSome, ◌↔◌}
+use Rattle.std.specs.Prelude.{◌≡◌, ℕ, ◌+◌, ◌-◌, ◌*◌, ◌≤◌, Bool, true, false, if◌then◌else◌, List, [], ◌∷◌, length, map, Option, Some, None, IsTrue, IsSome, ◌↔◌}
 use Rattle.std.specs.Option.{option_map}
 use Rattle.v6_addr.specs.Address.{PrefixValue}
 use Rattle.srv6_rules.specs.declared.sid.Csid.TheVariants.{Replace}
@@ -42,10 +42,13 @@ abbrev pub opened : List Move → ℕ
 opened [] = 0
 opened (m ∷ ms) = (if m.stays then 0 else 1) + opened ms
 
--- what a path costs, by rooms and legs apart: where each SID can stand as its move says, the containers that are opened and the hops
+-- what a path costs, by rooms and legs apart: where each SID can stand as its move says, the containers that are opened, its SIDs by what
+-- one costs, and the hops
 abbrev pub split_cost : LegsValue → ℕ → Option ℕ → ℕ → List Move → Option Cost
 split_cost v position via room moves =
-    if may_move v via room moves then option_map (cost_with (opened moves)) (hops_of v position via (sids_of_moves moves)) else None
+    if may_move v via room moves
+    then option_map (cost_with (opened moves) (v.sid_cost * length moves)) (hops_of v position via (sids_of_moves moves))
+    else None
 
 -- the SIDs of a search are SIDs of lists, by their prefixes: they lie in the same blocks, a middle one has the flavour of its prefix, and
 -- they may come directly after one another in a container where their prefixes may

@@ -1,7 +1,7 @@
 //! Laws of costs, potentials, paths as lists, and SIDs of lists, each the contract of a function
 //! that does nothing.
 
-ghost use Rattle.std.specs.Prelude.{◌≡◌, ◌<◌, ℕ, List, Option, Some, None, All, length, map, take};
+ghost use Rattle.std.specs.Prelude.{◌≡◌, ◌*◌, ◌<◌, ℕ, List, Option, Some, None, All, length, map, take};
 ghost use Rattle.list_pack.specs.declared.types.Cost.{Cost};
 ghost use Rattle.list_pack.specs.declared.types.State.{State};
 ghost use Rattle.list_pack.specs.LegsValue.{LegsValue};
@@ -44,13 +44,15 @@ pub fn least_costs_are_good()
 {}
 
 /// A path's cost is told by rooms and legs apart: it has one exactly where each SID can stand as
-/// its move says and its legs lead to a finish; it costs as many containers as moves open, and the
-/// hops of the legs.
-pub fn a_cost_is_containers_and_hops()
+/// its move says and its legs lead to a finish; it costs as many containers as moves open, what its
+/// SIDs cost, and the hops of the legs.
+pub fn a_cost_is_containers_sids_and_hops()
     ensures splits { (v : LegsValue) (s : State) (moves : List Move) →
         cost_of v s moves ≡ split_cost v s.position s.via s.room moves }
     ensures containers { (v : LegsValue) (s : State) (moves : List Move) (c : Cost) →
         cost_of v s moves ≡ Some c → c.containers ≡ opened moves }
+    ensures sids { (v : LegsValue) (s : State) (moves : List Move) (c : Cost) →
+        cost_of v s moves ≡ Some c → c.sids ≡ v.sid_cost * length moves }
     ensures hops { (v : LegsValue) (s : State) (moves : List Move) (c : Cost) →
         cost_of v s moves ≡ Some c →
         hops_of v s.position s.via (sids_of_moves moves) ≡ Some c.hops }
@@ -65,8 +67,8 @@ pub fn a_path_is_a_legal_list()
 {}
 
 /// SIDs whose prefixes are the first of a legal list's, up to one in its last container, and whose
-/// legs lead to a finish are a path: it has the list's steps, and costs its containers and the hops
-/// of the legs (RFC 9800 sections 6.2 to 6.4, and own rule).
+/// legs lead to a finish are a path: it has the list's steps, and costs its containers, what its
+/// SIDs cost, and the hops of the legs (RFC 9800 sections 6.2 to 6.4, and own rule).
 pub fn a_legal_list_is_a_path()
     ensures { (v : LegsValue) (net : Network) (list : List Container) (sids : List ℕ) (hops : ℕ) →
         KeepsLaws v → SuitsLists v (list_sid net) (MayFollow net) → IsLegal (list_in net list) →

@@ -19,6 +19,11 @@ pub trait Legs {
         ensures value { result ≡ (seen self.now).steps }
         ensures laws { KeepsLaws (seen self.now) };
 
+    /// What each SID of a list costs, between its containers and its hops: 1 where lists of fewer
+    /// SIDs are preferred, else 0.
+    fn sid_cost(&self) -> u32
+        ensures { result ≡ (seen self.now).sid_cost };
+
     /// The SIDs that may be executed last at a position, at most `steps`: each once, in the order
     /// of prefix value, prefix length and node; at most 128. Who implements this says which they
     /// are.
@@ -55,8 +60,8 @@ pub trait Legs {
 
 /// Legs that mean something: each path of theirs is a legal list of a network that realizes what
 /// the legs are for with the path's hops as its need, and for each legal list that realizes it
-/// there is a path of as many containers and of no more hops. So the least path is the least list.
-/// What the search and certificates do needs no meaning.
+/// there is a path of as many containers, of no more SIDs and of no more hops. So the least path is
+/// the least list. What the search and certificates do needs no meaning.
 pub trait ListLegs: Legs {
     /// The network of the lists.
     ghost network: { Self → Network };

@@ -3,9 +3,10 @@
 //!
 //! A list of SIDs is a path of states. A state says how many steps of an intent are done, which SID
 //! was executed last, and how much room is left in its container. An edge executes one more SID, in
-//! the same container or in a new one; it costs one container where it opens one, and as many hops
-//! as its leg lowers the hop limit. The last edge is a finish, which exposes the packet inside.
-//! Costs are compared by containers first, then by hops.
+//! the same container or in a new one; it costs one container where it opens one, what the legs say
+//! that a SID costs, and as many hops as its leg lowers the hop limit. The last edge is a finish,
+//! which exposes the packet inside. Costs are compared by containers first, then by SIDs, then by
+//! hops.
 //!
 //! A path of states is a legal list of containers, and the other way round: `list_of` makes the
 //! list of a path, `values` the segments of a legal list over SIDs of a flat network, `is_legal`
@@ -37,9 +38,10 @@ mod types;
 pub use costs::{is_below, move_cost, plus, step_before};
 pub use flavours::flavour_of;
 pub use laws::{
-    a_cost_is_containers_and_hops, a_legal_list_is_a_path, a_legal_list_is_the_list_of_its_steps,
-    a_path_is_a_legal_list, a_path_of_tight_edges_is_least, a_search_has_one_solution,
-    least_costs_are_good, sids_of_a_flat_network_suit_lists, unlisted_states_have_no_path,
+    a_cost_is_containers_sids_and_hops, a_legal_list_is_a_path,
+    a_legal_list_is_the_list_of_its_steps, a_path_is_a_legal_list, a_path_of_tight_edges_is_least,
+    a_search_has_one_solution, least_costs_are_good, sids_of_a_flat_network_suit_lists,
+    unlisted_states_have_no_path,
 };
 pub use legs::{Legs, ListLegs};
 pub use lists::{header_bytes, list_of};

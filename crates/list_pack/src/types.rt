@@ -16,11 +16,13 @@ pub struct State {
     pub room: u8,
 }
 
-/// What a path of states costs. Costs are compared by containers, then by hops.
+/// What a path of states costs. Costs are compared by containers, then by SIDs, then by hops.
 #[derive(Clone, Copy, Debug, PartialEq, Eq)]
 pub struct Cost {
     /// How many containers of 16 bytes the list has.
     pub containers: u32,
+    /// What its SIDs cost: as many as they are where the legs count them, else 0.
+    pub sids: u32,
     /// How often the hop limit is lowered.
     pub hops: u32,
 }

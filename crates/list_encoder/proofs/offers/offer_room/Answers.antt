@@ -1,4 +1,4 @@
-use Rattle.std.proofs.Common.{◌≡◌, ◌+◌, ◌*◌, Some, sym, ◌∙◌, ap, subst, arith}
+use Rattle.std.proofs.Common.{◌≡◌, ℕ, ◌+◌, ◌*◌, Some, sym, ◌∙◌, ap, subst, arith}
 use Rattle.list_pack.specs.declared.types.Cost.{Cost}
 use Rattle.list_pack.specs.Costs.{AtMost, plus, move_cost}
 use Rattle.list_encoder.specs.Waiting.{IsLoweredAt}
@@ -13,7 +13,16 @@ plus-cost-requires-clause-containers g c =
     c.requires.left
     (c.in-Some.is ∙ ap Some c.if-after-offer.false) c.args.offer.rest c.requires.offer.rest_is in
     let same = ap (λ (x : Cost). x.containers) c.move_cost.ensures in
-    omega (arith, few.0, same)
+    omega (arith, few.containers, same)
+
+pub plus-cost-requires-clause-sids : goal.plus-cost-requires-clause-sids
+plus-cost-requires-clause-sids g c =
+    let few = sum_few (g.L.Legs.seen c.args.legs.now) c.requires.laws c.args.cells.now c.requires.cells c.args.table.now c.args.offer.edge
+    c.args.offer.stays c.args.room c.args.left c.args.offer.left c.requires.offer.is_edge c.requires.offer.sound c.requires.room
+    c.requires.left
+    (c.in-Some.is ∙ ap Some c.if-after-offer.false) c.args.offer.rest c.requires.offer.rest_is in
+    let same = ap (λ (x : Cost). x.sids) c.move_cost.ensures in
+    omega (arith, few.sids, same, c.sid_cost.ensures)
 
 pub plus-cost-requires-clause-hops : goal.plus-cost-requires-clause-hops
 plus-cost-requires-clause-hops g c =
@@ -22,7 +31,7 @@ plus-cost-requires-clause-hops g c =
     c.requires.left
     (c.in-Some.is ∙ ap Some c.if-after-offer.false) c.args.offer.rest c.requires.offer.rest_is in
     let same = ap (λ (x : Cost). x.hops) c.move_cost.ensures in
-    omega (arith, few.1, same)
+    omega (arith, few.hops, same)
 
 pub lower_open-requires-clause-within : goal.lower_open-requires-clause-within
 lower_open-requires-clause-within g c =
@@ -37,9 +46,10 @@ returns g c =
     let offer = c.args.offer in
     let t = c.args.table.now in
     let new = c.lower_open.new in
-    let moved = move_cost offer.stays offer.edge.hops in
+    let moved = move_cost v.sid_cost offer.stays offer.edge.hops in
     let cost : c.plus-cost.result ≡ plus moved offer.rest =
-    c.plus-cost.ensures ∙ ap (λ (x : Cost). plus x offer.rest) c.move_cost.ensures in
+    c.plus-cost.ensures ∙ ap (λ (x : Cost). plus x offer.rest) c.move_cost.ensures
+    ∙ ap (λ (n : ℕ). plus (move_cost n offer.stays offer.edge.hops) offer.rest) c.sid_cost.ensures in
     let lowered : IsLoweredAt t new.table new.queue.waiting new.queue.done.items offer.rest (8 * offer.edge.from + c.args.room)
     (plus moved offer.rest) c.in_ok-lower_open.field-0 =
     subst (λ (x : Cost). IsLoweredAt t new.table new.queue.waiting new.queue.done.items offer.rest (8 * offer.edge.from + c.args.room) x
