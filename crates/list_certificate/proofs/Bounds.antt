@@ -15,12 +15,14 @@ use Rattle.list_pack.specs.LegsValue.{LegsValue}
 use Rattle.list_pack.specs.LegsValueTerms.{KeepsLaws}
 use Rattle.list_pack.specs.Costs.{Move, Edge, AtMost, Under, plus, move_cost, behind, cost_of, IsState, IsStateBy}
 use Rattle.list_pack.specs.Least.{state_key, IsBefore, IsLeast, IsListing}
-use Rattle.list_pack.proofs.PublicLaws.{at_most_both, edge_parts, last_parts}
+use Rattle.list_pack.proofs.PublicLaws.{at_most_both, edge_parts, last_parts, split_of}
 use Rattle.list_pack.proofs.Costing.{edge_state}
 use Rattle.list_pack.proofs.ListOrders.{lex_itself}
+use Rattle.list_certificate.specs.declared.certificate_types.Form.TheVariants.{First, Second}
+use Rattle.list_certificate.specs.Spelling.{form_of}
 use Rattle.list_certificate.proofs.MovesPassing.{place_in}
 use Rattle.list_certificate.proofs.States.{state_made}
-use Rattle.list_certificate.proofs.LineWords.{room_few, position_few}
+use Rattle.list_certificate.proofs.LineWords.{HasSids, room_few, position_few}
 use Rattle.list_certificate.proofs.OneVerdict.{Onward, onward}
 
 -- ---- a number for each state
@@ -118,7 +120,7 @@ any_at f (y ∷ ys) zero q x e h =
 any_at f (y ∷ ys) (suc i) q x e h = or_right (eqb q (f y)) (list_any (eqb q) (map f ys)) (any_at f ys i q x e h)
 
 no_potential : Potential
-no_potential = record { state = record { position = 0; via = None; room = 0 }; cost = record { containers = 0; hops = 0 } }
+no_potential = record { state = record { position = 0; via = None; room = 0 }; cost = record { containers = 0; sids = 0; hops = 0 } }
 
 contained : (qs : List Potential) (i : ℕ) (d : Potential) → i < length qs → Contains qs (get_or qs i d)
 contained qs i d h = (i, h, same_default qs i (get_or qs i d) d h)
@@ -173,7 +175,11 @@ module _ (v : LegsValue) (laws : KeepsLaws v) (qs : List Potential) (is : IsList
 under_left : (e left : Cost) (o : Option Cost) → Under (Some (plus e left)) (option_map (plus e) o) → Under (Some left) o
 under_left e left None h = tt
 under_left e left (Some d) h =
-    record { containers = omega (arith, h.containers); hops = λ same. omega (arith, h.hops (omega (arith, same))) }
+    record {
+      containers = omega (arith, h.containers);
+      sids = λ same. omega (arith, h.sids (omega (arith, same)));
+      hops = λ same also. omega (arith, h.hops (omega (arith, same)) (omega (arith, also)));
+    }
 
 tail_least : (v : LegsValue) (s : State) (m n : Move) (more : List Move) (c : Cost) → IsLeast v s (Some c)
     → (on : Onward v s m (n ∷ more) c)
@@ -195,9 +201,9 @@ least_same v s c d h k =
 
 -- ---- numbers of costs, which a move raises by at most 1000
 
-record IsNumber (f : Cost → ℕ) : Type 0 where
+record IsNumber (v : LegsValue) (f : Cost → ℕ) : Type 0 where
   adds : (a b : Cost) → f (plus a b) ≡ f a + f b
-  small : (stays : Bool) (hops : ℕ) → hops ≤ 1000 → f (move_cost stays hops) ≤ 1000
+  small : (stays : Bool) (hops : ℕ) → hops ≤ 1000 → f (move_cost v.sid_cost stays hops) ≤ 1000
 
 -- a state whose least cost has a number within a part
 record Stands (v : LegsValue) (f : Cost → ℕ) (part : ℕ) : Type 0 where
@@ -207,7 +213,7 @@ record Stands (v : LegsValue) (f : Cost → ℕ) (part : ℕ) : Type 0 where
   least : IsLeast v state (Some cost)
   at : f cost / 1001 ≡ part
 
-module _ (v : LegsValue) (laws : KeepsLaws v) (f : Cost → ℕ) (is_number : IsNumber f) where
+module _ (v : LegsValue) (laws : KeepsLaws v) (f : Cost → ℕ) (is_number : IsNumber v f) where
   walk : (s : State) (ms : List Move) (c : Cost) (part : ℕ) → IsState v s → IsLeast v s (Some c) → cost_of v s ms ≡ Some c
       → 1001 * part ≤ f c
       → Stands v f part
@@ -252,9 +258,9 @@ module _ (v : LegsValue) (laws : KeepsLaws v) (f : Cost → ℕ) (is_number : Is
           slice_get-get_or qs listed.1.0 p listed.1.1 ∙ ap (λ (x : Potential). Some x) listed.1.2 in
           any_at (λ (x : Potential). f x.cost / 1001) qs listed.1.0 part p here (ap (λ (x : Cost). f x / 1001) same ∙ there.at)
 
-cost_one : (stays : Bool) (hops : ℕ) → (move_cost stays hops).containers ≤ 1000
-cost_one true hops = omega arith
-cost_one false hops = omega arith
+cost_one : (sids : ℕ) (stays : Bool) (hops : ℕ) → (move_cost sids stays hops).containers ≤ 1000
+cost_one sids true hops = omega arith
+cost_one sids false hops = omega arith
 
 -- the numbers of a listing's costs have 32 bits
 pub containers_few : (v : LegsValue) → KeepsLaws v → (qs : List Potential) → IsListing v qs → (q : Potential) → Contains qs q
@@ -262,8 +268,36 @@ pub containers_few : (v : LegsValue) → KeepsLaws v → (qs : List Potential) �
 containers_few v laws qs is q among =
     number_few v laws (λ (c : Cost). c.containers) (record {
       adds = λ a b. refl;
-      small = λ stays hops h. cost_one stays hops;
+      small = λ stays hops h. cost_one v.sid_cost stays hops;
     }) qs is q among
+
+sids_few : (v : LegsValue) → KeepsLaws v → (qs : List Potential) → IsListing v qs → (q : Potential) → Contains qs q
+    → q.cost.sids < 2 ^ 32
+sids_few v laws qs is q among =
+    number_few v laws (λ (c : Cost). c.sids) (record {
+      adds = λ a b. refl;
+      small = λ stays hops h. omega (arith, laws.sid_cost);
+    }) qs is q among
+
+-- where a SID costs nothing, no cost of a listing has SIDs
+sids_none : (v : LegsValue) (qs : List Potential) → IsListing v qs → (q : Potential) → Contains qs q → v.sid_cost ≡ 0
+    → q.cost.sids ≡ 0
+sids_none v qs is q among free =
+    let path = (is.exact q among).1.attains in
+    let sids = (split_of v q.state path.0 q.cost path.1).sids in
+    let none : v.sid_cost * length path.0 ≡ 0 * length path.0 = ap (λ (x : ℕ). x * length path.0) free in
+    omega (arith, sids, none)
+
+-- the SIDs of a listing's costs, as the form has them
+shown_by : (free : Bool) (sid_cost sids : ℕ) → (sid_cost == 0) ≡ free → (sid_cost ≡ 0 → sids ≡ 0) → sids < 2 ^ 32
+    → HasSids (cond free First Second) sids
+shown_by true sid_cost sids e none few = none (eqb-true sid_cost 0 e)
+shown_by false sid_cost sids e none few = few
+
+pub sids_shown : (v : LegsValue) → KeepsLaws v → (qs : List Potential) → IsListing v qs → (q : Potential) → Contains qs q
+    → HasSids (form_of v.sid_cost) q.cost.sids
+sids_shown v laws qs is q among =
+    shown_by (v.sid_cost == 0) v.sid_cost q.cost.sids refl (sids_none v qs is q among) (sids_few v laws qs is q among)
 
 pub hops_few : (v : LegsValue) → KeepsLaws v → (qs : List Potential) → IsListing v qs → (q : Potential) → Contains qs q
     → q.cost.hops < 2 ^ 32

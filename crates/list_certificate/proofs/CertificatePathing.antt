@@ -10,6 +10,7 @@ use Rattle.list_pack.specs.declared.types.Leg.{Leg}
 use Rattle.list_pack.specs.LegsValue.{LegsValue}
 use Rattle.list_pack.specs.LegsValueTerms.{KeepsLaws}
 use Rattle.list_pack.specs.Costs.{Move, Edge, plus, move_cost, room_of, edge_by, edge_of, last_of, behind, cost_of, start, IsState}
+use Rattle.list_pack.specs.Paths.{cost_with}
 use Rattle.list_pack.specs.Least.{step_of}
 use Rattle.list_pack.proofs.PublicLaws.{edge_parts, edge_made, last_parts, last_made}
 use Rattle.list_pack.proofs.Costing.{edge_state}
@@ -17,27 +18,33 @@ use Rattle.list_certificate.specs.declared.certificate_types.PathLine.{PathLine}
 use Rattle.list_certificate.specs.declared.path_lines.Reached.{Reached}
 use Rattle.list_certificate.specs.declared.path_lines.Spent.{Spent}
 use Rattle.list_certificate.specs.Verdicts.{GoesAlong, Leads, IsAstray, steps_of, BreaksAt, PathCosts}
-use Rattle.list_certificate.specs.Tests.{edge_value, IsEdgeOf, IsEdgeTo, IsEdgeBy, IsLastBy, IsLastOf, Run, spent_value, Adds, move_of}
+use Rattle.list_certificate.specs.Tests.{edge_value, IsEdgeOf, IsEdgeTo, IsEdgeBy, IsLastBy, IsLastOf, IsSmall, Run, spent_value, Adds, move_of}
 use Rattle.list_certificate.proofs.MovesPassing.{place_in}
 
-cost_one : (stays : Bool) (hops : ℕ) → (move_cost stays hops).containers ≤ 1
-cost_one true hops = omega arith
-cost_one false hops = omega arith
+cost_one : (sids : ℕ) (stays : Bool) (hops : ℕ) → (move_cost sids stays hops).containers ≤ 1
+cost_one sids true hops = omega arith
+cost_one sids false hops = omega arith
+
+-- what a move costs is small
+cost_small : (v : LegsValue) → KeepsLaws v → (stays : Bool) (hops : ℕ) (cost : Cost) → hops ≤ 1000 → cost ≡ move_cost v.sid_cost stays hops
+    → IsSmall cost
+cost_small v laws stays hops cost few is =
+    subst IsSmall (sym is) (record { containers = cost_one v.sid_cost stays hops; sids = laws.sid_cost; hops = few })
 
 -- a move that was found
 pub edge_stands : (v : LegsValue) → KeepsLaws v → (s : State) (step : PathStep) (to n room : ℕ) (leg : Leg) (cost : Cost) → IsState v s
     → (v.shape n).prefix ≡ step.prefix
     → v.leg s.position s.via n ≡ Some leg → leg.to ≡ to → room_of v s (move_of n step.stays) ≡ Some room
-    → cost ≡ move_cost step.stays leg.hops
+    → cost ≡ move_cost v.sid_cost step.stays leg.hops
     → IsEdgeBy v s step to n (Some (record { state = record { position = to; via = Some n; room = room }; cost = cost }))
 edge_stands v laws s step to n room leg cost is_s prefix is_leg at is_room is_cost =
     let m : Move = move_of n step.stays in
     let e : Edge = record { to = record { position = to; via = Some n; room = room }; cost = cost } in
-    let made : edge_of v s m ≡ Some (edge_by m room leg) = edge_made v s m room leg is_room is_leg in
-    let same : edge_by m room leg ≡ e =
+    let made : edge_of v s m ≡ Some (edge_by v m room leg) = edge_made v s m room leg is_room is_leg in
+    let same : edge_by v m room leg ≡ e =
     ap (λ (x : ℕ). let y : Edge = record {
       to = record { position = x; via = Some n; room = room };
-      cost = move_cost step.stays leg.hops;
+      cost = move_cost v.sid_cost step.stays leg.hops;
     } in y) at
     ∙ ap (λ (x : Cost). let y : Edge = record { to = record { position = to; via = Some n; room = room }; cost = x } in y) (sym is_cost) in
     let edge : edge_of v s m ≡ Some e = made ∙ ap (λ (x : Edge). Some x) same in
@@ -45,13 +52,12 @@ edge_stands v laws s step to n room leg cost is_s prefix is_leg at is_room is_co
     ap (λ (p : _). let y : PathStep = record { stays = step.stays; prefix = p } in y) prefix in
     let along : GoesAlong v s step e = record { move = m; is_step = is_step; edge = edge } in
     let hops = (laws.leg s.position s.via n leg is_leg).hops in
-    let few : cost.containers ≤ 1 = subst (λ (x : Cost). x.containers ≤ 1) (sym is_cost) (cost_one step.stays leg.hops) in
-    let low : cost.hops ≤ 1000 = subst (λ (x : Cost). x.hops ≤ 1000) (sym is_cost) hops in
-    (along, edge_state v laws s m e is_s edge, few, low)
+    (along, edge_state v laws s m e is_s edge, cost_small v laws step.stays leg.hops cost hops is_cost)
 
 pub last_stands : (v : LegsValue) → KeepsLaws v → (s : State) (step : PathStep) (n room hops : ℕ) (cost : Cost)
     → (v.shape n).prefix ≡ step.prefix
-    → v.finish s.position s.via n ≡ Some hops → room_of v s (move_of n step.stays) ≡ Some room → cost ≡ move_cost step.stays hops
+    → v.finish s.position s.via n ≡ Some hops → room_of v s (move_of n step.stays) ≡ Some room
+    → cost ≡ move_cost v.sid_cost step.stays hops
     → IsLastBy v s step n (Some cost)
 last_stands v laws s step n room hops cost prefix is_finish is_room is_cost =
     let m : Move = move_of n step.stays in
@@ -61,8 +67,7 @@ last_stands v laws s step n room hops cost prefix is_finish is_room is_cost =
     ap (λ (p : _). let y : PathStep = record { stays = step.stays; prefix = p } in y) prefix in
     let low = (laws.finish s.position s.via n hops is_finish).hops in (
       record { move = m; is_step = is_step; last = last },
-      subst (λ (x : Cost). x.containers ≤ 1) (sym is_cost) (cost_one step.stays hops),
-      subst (λ (x : Cost). x.hops ≤ 1000) (sym is_cost) low,
+      cost_small v laws step.stays hops cost low is_cost,
     )
 
 module _ (v : LegsValue) (s : State) (step : PathStep) where
@@ -159,10 +164,13 @@ map_end f (y ∷ ys) x = ap (λ zs. f y ∷ zs) (map_end f ys x)
 plus_three : (a b : Cost) (o : Option Cost) → option_map (plus a) (option_map (plus b) o) ≡ option_map (plus (plus a b)) o
 plus_three a b None = refl
 plus_three a b (Some c) =
-    let one : a.containers + (b.containers + c.containers) ≡ a.containers + b.containers + c.containers = omega arith in
-    let two : a.hops + (b.hops + c.hops) ≡ a.hops + b.hops + c.hops = omega arith in
-    ap (λ (x : ℕ). let y : Cost = record { containers = x; hops = a.hops + (b.hops + c.hops) } in Some y) one
-    ∙ ap (λ (x : ℕ). let y : Cost = record { containers = a.containers + b.containers + c.containers; hops = x } in Some y) two
+    let left = plus a (plus b c) in
+    let right = plus (plus a b) c in
+    let one : left.containers ≡ right.containers = omega arith in
+    let two : left.sids ≡ right.sids = omega arith in
+    let three : left.hops ≡ right.hops = omega arith in
+    ap (λ (x : ℕ). Some (cost_with x left.sids left.hops)) one ∙ ap (λ (x : ℕ). Some (cost_with right.containers x left.hops)) two
+    ∙ ap (λ (x : ℕ). Some (cost_with right.containers right.sids x)) three
 
 leads_more : (v : LegsValue) (s t : State) (steps : List PathStep) (step : PathStep) (e : Edge) → Leads v s steps t → GoesAlong v t step e
     → Leads v s (steps ++ step ∷ []) e.to
@@ -191,6 +199,7 @@ pub record Walking (v : LegsValue) (lines : List PathLine) (k : ℕ) (state : St
   pub run : Run v start (steps_of (take k lines)) (spent_value spent) state
   pub is_state : IsState v state
   pub containers : spent.containers ≤ k
+  pub sids : spent.sids ≤ k
   pub hops : spent.hops ≤ 1000 * k
 
 steps_one : (lines : List PathLine) (k : ℕ) (l : PathLine) → slice_get lines k ≡ Some l
@@ -204,14 +213,16 @@ pub walking_more : (v : LegsValue) (lines : List PathLine) (k : ℕ) (l : PathLi
 walking_more v lines k l state spent after r e so edge adds =
     let more = run_more v start state (steps_of (take k lines)) (spent_value spent) l.step (edge_value r) so.run edge.0 in
     let containers : after.containers ≡ spent.containers + r.cost.containers = ap (λ (c : Cost). c.containers) adds in
+    let sids : after.sids ≡ spent.sids + r.cost.sids = ap (λ (c : Cost). c.sids) adds in
     let hops : after.hops ≡ spent.hops + r.cost.hops = ap (λ (c : Cost). c.hops) adds in
     record {
       run =
           subst (λ (xs : List PathStep). Run v start xs (spent_value after) r.state) (sym (steps_one lines k l e))
           (subst (λ (c : Cost). Run v start (steps_of (take k lines) ++ l.step ∷ []) c r.state) (sym adds) more);
       is_state = edge.1;
-      containers = omega (arith, so.containers, containers, edge.2);
-      hops = omega (arith, so.hops, hops, edge.3);
+      containers = omega (arith, so.containers, containers, edge.2.containers);
+      sids = omega (arith, so.sids, sids, edge.2.sids);
+      hops = omega (arith, so.hops, hops, edge.2.hops);
     }
 
 -- a line that goes astray

@@ -15,7 +15,7 @@ use Rattle.list_pack.proofs.ListOrders.{lex_itself, lex_not_both, lex_longer, le
 -- what an index past the lines would give
 abbrev pub no_line : PotentialLine
 no_line = record {
-  potential = record { state = record { position = 0; via = None; room = 0 }; cost = record { containers = 0; hops = 0 } };
+  potential = record { state = record { position = 0; via = None; room = 0 }; cost = record { containers = 0; sids = 0; hops = 0 } };
   line = 0;
 }
 

@@ -275,7 +275,7 @@ module _ (v : LegsValue) (c : Cert) (laws : KeepsLaws v) (cert : IsCert v c) whe
   of_edge line (No m Path) h k = bad_line_all line h k.0
   of_edge line (No m Tight) h k = bad_line_all line h k.0
   of_edge line NoList h k = bad_line_all line h k.0
-  of_edge line (Least containers hops) h k = bad_line_all line h k.0
+  of_edge line (Least containers sids hops) h k = bad_line_all line h k.0
 
   of_state : (line : ℕ) (s : State) (b : Verdict) → IsBadState v c line s → IsVerdict v c b → No line (Unlisted s) ≡ b
   of_state line s (No m BadEdge) h k = absurd (bad_line_fails v c m k h.listed)
@@ -285,7 +285,7 @@ module _ (v : LegsValue) (c : Cert) (laws : KeepsLaws v) (cert : IsCert v c) whe
   of_state line s (No m Path) h k = bad_state_all line s h k.0
   of_state line s (No m Tight) h k = bad_state_all line s h k.0
   of_state line s NoList h k = bad_state_all line s h k.0
-  of_state line s (Least containers hops) h k = bad_state_all line s h k.0
+  of_state line s (Least containers sids hops) h k = bad_state_all line s h k.0
 
   of_path : (line : ℕ) (b : Verdict) → AllPass v c → IsBadWay v c c.none line → IsVerdict v c b → No line Path ≡ b
   of_path line (No m BadEdge) pass h k = bad_line_all m k pass
@@ -293,8 +293,8 @@ module _ (v : LegsValue) (c : Cert) (laws : KeepsLaws v) (cert : IsCert v c) whe
   of_path line (No m Path) pass h k = ap (λ (x : ℕ). No x Path) (way_same v laws c c.none line m h k.1)
   of_path line (No m Tight) pass h k = absurd (way_costs_not v laws c line k.1.cost h k.1.written k.1.costs)
   of_path line NoList pass h k = absurd (way_is_some v c c.none line h k.1 k.2)
-  of_path line (Least containers hops) pass h k =
-      absurd (way_costs_not v laws c line (record { containers = containers; hops = hops }) h k.1.written k.1.costs)
+  of_path line (Least containers sids hops) pass h k =
+      absurd (way_costs_not v laws c line (record { containers = containers; sids = sids; hops = hops }) h k.1.written k.1.costs)
 
   of_tight : (line : ℕ) (b : Verdict) → AllPass v c → IsNotTight v c line → IsVerdict v c b → No line Tight ≡ b
   of_tight line (No m BadEdge) pass h k = bad_line_all m k pass
@@ -302,8 +302,8 @@ module _ (v : LegsValue) (c : Cert) (laws : KeepsLaws v) (cert : IsCert v c) whe
   of_tight line (No m Path) pass h k = absurd (way_costs_not v laws c m h.cost k.1 h.written h.costs)
   of_tight line (No m Tight) pass h k = ap (λ (x : ℕ). No x Tight) (h.line_is ∙ sym k.1.line_is)
   of_tight line NoList pass h k = absurd (some_not_none c.none k.1 h.written)
-  of_tight line (Least containers hops) pass h k =
-      let cost : Cost = record { containers = containers; hops = hops } in
+  of_tight line (Least containers sids hops) pass h k =
+      let cost : Cost = record { containers = containers; sids = sids; hops = hops } in
       let same : cost ≡ h.cost = path_costs_same v laws start c.path cost h.cost k.1.costs h.costs in
       absurd (h.differs (k.1.same ∙ ap (λ (x : Cost). Some x) same))
 
@@ -313,22 +313,22 @@ module _ (v : LegsValue) (c : Cert) (laws : KeepsLaws v) (cert : IsCert v c) whe
   of_none (No m Path) pass h e k = absurd (way_is_some v c c.none m k.1 h e)
   of_none (No m Tight) pass h e k = absurd (some_not_none c.none h k.1.written)
   of_none NoList pass h e k = refl
-  of_none (Least containers hops) pass h e k = absurd (some_not_none c.none h k.1.written)
+  of_none (Least containers sids hops) pass h e k = absurd (some_not_none c.none h k.1.written)
 
-  of_least : (containers hops : ℕ) (b : Verdict) → AllPass v c → IsTight v c (record { containers = containers; hops = hops })
+  of_least : (containers sids hops : ℕ) (b : Verdict) → AllPass v c → IsTight v c (record { containers = containers; sids = sids; hops = hops })
       → IsVerdict v c b
-      → Least containers hops ≡ b
-  of_least containers hops (No m BadEdge) pass h k = bad_line_all m k pass
-  of_least containers hops (No m (Unlisted t)) pass h k = bad_state_all m t k pass
-  of_least containers hops (No m Path) pass h k =
-      absurd (way_costs_not v laws c m (record { containers = containers; hops = hops }) k.1 h.written h.costs)
-  of_least containers hops (No m Tight) pass h k = sym (of_tight m (Least containers hops) pass k.1 (pass, h))
-  of_least containers hops NoList pass h k = absurd (some_not_none c.none k.1 h.written)
-  of_least containers hops (Least more_containers more_hops) pass h k =
-      let cost : Cost = record { containers = containers; hops = hops } in
-      let other : Cost = record { containers = more_containers; hops = more_hops } in
+      → Least containers sids hops ≡ b
+  of_least containers sids hops (No m BadEdge) pass h k = bad_line_all m k pass
+  of_least containers sids hops (No m (Unlisted t)) pass h k = bad_state_all m t k pass
+  of_least containers sids hops (No m Path) pass h k =
+      absurd (way_costs_not v laws c m (record { containers = containers; sids = sids; hops = hops }) k.1 h.written h.costs)
+  of_least containers sids hops (No m Tight) pass h k = sym (of_tight m (Least containers sids hops) pass k.1 (pass, h))
+  of_least containers sids hops NoList pass h k = absurd (some_not_none c.none k.1 h.written)
+  of_least containers sids hops (Least more_containers more_sids more_hops) pass h k =
+      let cost : Cost = record { containers = containers; sids = sids; hops = hops } in
+      let other : Cost = record { containers = more_containers; sids = more_sids; hops = more_hops } in
       let same : cost ≡ other = path_costs_same v laws start c.path cost other h.costs k.1.costs in
-      ap (λ (x : Cost). Least x.containers x.hops) same
+      ap (λ (x : Cost). Least x.containers x.sids x.hops) same
 
   verdicts_same : (a b : Verdict) → IsVerdict v c a → IsVerdict v c b → a ≡ b
   verdicts_same (No line BadEdge) b h k = of_edge line b h k
@@ -336,7 +336,7 @@ module _ (v : LegsValue) (c : Cert) (laws : KeepsLaws v) (cert : IsCert v c) whe
   verdicts_same (No line Path) b h k = of_path line b h.0 h.1 k
   verdicts_same (No line Tight) b h k = of_tight line b h.0 h.1 k
   verdicts_same NoList b h k = of_none b h.0 h.1 h.2 k
-  verdicts_same (Least containers hops) b h k = of_least containers hops b h.0 h.1 k
+  verdicts_same (Least containers sids hops) b h k = of_least containers sids hops b h.0 h.1 k
 
 pub one_verdict : (v : LegsValue) (c : Cert) (a b : Verdict) → KeepsLaws v → IsCert v c → IsVerdict v c a → IsVerdict v c b → a ≡ b
 one_verdict v c a b laws cert h k = verdicts_same v c laws cert a b h k

@@ -1,9 +1,10 @@
 -- The text of a solution's certificate, after comments, is read as that certificate.
 use Rattle.std.proofs.Common.{◌≡◌, ℕ, zero, suc, ◌+◌, ◌-◌, ◌<◌, Bool, true, ◌==◌, List, [], ◌∷◌, ◌++◌, length, All, AllPairs, Contains, Option, Some, None, Ok, codes, get_or, slice_get, slice_index, flat_map, refl, sym, ◌∙◌, ap, subst, arith, append_assoc, append-nil, length-append}
 use Rattle.std.specs.List.{slice_split}
-use Rattle.std.proofs.lemmas.Bool.{eq-eqb, ne_eqb, cond-true}
+use Rattle.std.proofs.lemmas.Bool.{eq-eqb, ne_eqb, cond-true, cond-false}
 use Rattle.std.proofs.lemmas.List.Elements.{All-nil, All-cons, All-head, All-tail, All-map}
 use Rattle.std.proofs.lemmas.List.Splits.{length-slice_split}
+use Rattle.std.proofs.lemmas.Slice.Eq.{bytes_eq-Decides}
 use Rattle.v6_addr.specs.AddressTerms.{IsPrefix}
 use Rattle.v6_addr.specs.Text.{prefix_text}
 use Rattle.net_model.specs.Network.{Network}
@@ -26,15 +27,15 @@ use Rattle.list_certificate.specs.declared.item.Item.TheVariants as items
 use Rattle.list_certificate.specs.declared.draft.Progress.{Progress}
 use Rattle.list_certificate.specs.declared.draft.Progress.TheVariants as stages
 use Rattle.list_certificate.specs.CertsTerms.{potential_lines, path_lines, none_line, way_count, certificate_of}
-use Rattle.list_certificate.specs.Spelling.{potential_text, step_text, none_text, way_text, head_text, end_text, spelled}
+use Rattle.list_certificate.specs.Spelling.{form_of, potential_text, step_text, none_text, way_text, head_words, head_text, end_text, spelled}
 use Rattle.list_certificate.specs.CertificateReading.{Read, nothing_read, is_behind, is_next, with_line, item_in, go_on, reads, read_of, cert_of, ended_by}
 use Rattle.list_certificate.specs.CertificateReadingTerms.{IsNetworkOf}
 use Rattle.list_certificate.specs.CertificateLaws.{IsComment, lines_text}
 use Rattle.list_certificate.proofs.Marks.{Lacks, split_line}
 use Rattle.list_certificate.proofs.SidWords.{entry}
-use Rattle.list_certificate.proofs.LineWords.{HasNumbers, plain_lacks, words_of, potential_read, words_feed, item_potential, turn_text, step_read, item_step, potential_line, step_line, step_feed, potential_feed}
+use Rattle.list_certificate.proofs.LineWords.{HasNumbers, plain_lacks, head_feed, head_hash, end_no_head, none_no_head, words_of, potential_read, words_feed, item_potential, turn_text, step_read, item_step, potential_line, step_line, step_feed, potential_feed}
 use Rattle.list_certificate.proofs.OneVerdict.{onward}
-use Rattle.list_certificate.proofs.Bounds.{containers_few, hops_few}
+use Rattle.list_certificate.proofs.Bounds.{containers_few, sids_shown, hops_few}
 use Rattle.list_certificate.proofs.OneReading.{reads_go}
 
 -- ---- one line more
@@ -95,13 +96,26 @@ module _ (net : Network) (v : LegsValue) where
   read_so stage head potentials path none =
       record { stage = stage; head = head; potentials = potentials; path = path; none = none; end = 0 }
 
+  -- the head of the form that the legs ask for
+  head_item : item_in net v (head_words (form_of v.sid_cost)) ≡ items.Head
+  unfolding item_in
+  head_item =
+      let words = head_words (form_of v.sid_cost) in
+      cond-false _ _ _ (head_hash (form_of v.sid_cost)) ∙ cond-true _ _ _ ((bytes_eq-Decides words words).1 refl)
+
+  with_head : (n : ℕ) → with_line v nothing_read n items.Head ≡ Some (read_so stages.AfterHead n [] [] None)
+  unfolding with_line
+  with_head n = refl
+
   head_read : (rest : List ℕ) (n : ℕ)
-      → reads net v (slice_split is_feed (head_text ++ rest)) n nothing_read
+      → reads net v (slice_split is_feed (head_text (form_of v.sid_cost) ++ rest)) n nothing_read
       ≡ reads net v (slice_split is_feed rest) (n + 1) (read_so stages.AfterHead n [] [] None)
-  unfolding head_text item_in with_line
+  unfolding head_text
   head_read rest n =
-      reads_item (codes "srv6 certificate 1") rest n nothing_read (read_so stages.AfterHead n [] [] None) items.Head
-      (plain_lacks 10 (codes "srv6 certificate 1") refl) refl refl
+      let words = head_words (form_of v.sid_cost) in
+      ap (λ (text : List ℕ). reads net v (slice_split is_feed text) n nothing_read) (append_assoc words (10 ∷ []) rest)
+      ∙ reads_item words rest n nothing_read (read_so stages.AfterHead n [] [] None) items.Head (head_feed (form_of v.sid_cost)) head_item
+      (with_head n)
 
   -- ---- the path, and the end
 
@@ -167,11 +181,11 @@ module _ (net : Network) (v : LegsValue) where
 
   end_item : item_in net v (codes "end") ≡ items.End
   unfolding item_in
-  end_item = refl
+  end_item = cond-false _ _ _ (end_no_head (form_of v.sid_cost))
 
   none_item : item_in net v (codes "none") ≡ items.NoPath
   unfolding item_in
-  none_item = refl
+  none_item = cond-false _ _ _ (none_no_head (form_of v.sid_cost))
 
   end_read : (n : ℕ) (r next : Read) → with_line v r n items.End ≡ Some next → next.stage ≡ stages.AtEnd
       → reads net v (slice_split is_feed end_text) n r ≡ Ok (cert_of next)
@@ -253,7 +267,7 @@ next_by v ls q n (p ∷ ps) h =
 -- what is asked of a potential whose line is read back
 record IsReadable (v : LegsValue) (q : Potential) : Type 0 where
   is_state : IsState v q.state
-  few : HasNumbers q
+  few : HasNumbers (form_of v.sid_cost) q.cost
 
 module _ (net : Network) (v : LegsValue) (rules : IsNetwork net) (laws : KeepsLaws v) (is_net : IsNetworkOf net v) where
   with_listed : (head n : ℕ) (ls : List PotentialLine) (q : Potential) → is_next v ls q.state ≡ true
@@ -263,7 +277,8 @@ module _ (net : Network) (v : LegsValue) (rules : IsNetwork net) (laws : KeepsLa
   with_listed head n ls q next = cond-true _ _ _ next
 
   potentials_read : (qs : List Potential) (rest : List ℕ) (head n : ℕ) (ls : List PotentialLine) → All (IsReadable v) qs → Follow v ls qs
-      → reads net v (slice_split is_feed (flat_map (potential_text net) qs ++ rest)) n (read_so net v stages.AfterHead head ls [] None)
+      → reads net v (slice_split is_feed (flat_map (potential_text net (form_of v.sid_cost)) qs ++ rest)) n
+      (read_so net v stages.AfterHead head ls [] None)
       ≡ reads net v (slice_split is_feed rest) (n + length qs)
       (read_so net v stages.AfterHead head (ls ++ potential_lines n qs) [] None)
   potentials_read [] rest head n ls all follow =
@@ -273,14 +288,15 @@ module _ (net : Network) (v : LegsValue) (rules : IsNetwork net) (laws : KeepsLa
       (sym (append-nil ls))
   potentials_read (q ∷ qs) rest head n ls all follow =
       let is : IsReadable v q = All-head (IsReadable v) q qs all in
-      let more = flat_map (potential_text net) qs ++ rest in
+      let form = form_of v.sid_cost in
+      let more = flat_map (potential_text net form) qs ++ rest in
       let line : PotentialLine = record { potential = q; line = n } in
       let now = read_so net v stages.AfterHead head ls [] None in
       let next = read_so net v stages.AfterHead head (ls ++ line ∷ []) [] None in
       let words = words_of net v rules laws is_net q in
       let same : n + 1 + length qs ≡ n + length (q ∷ qs) = omega arith in
       ap (λ (text : List ℕ). reads net v (slice_split is_feed text) n now)
-      (append_assoc (potential_text net q) (flat_map (potential_text net) qs) rest ∙ potential_line net v q more is.is_state)
+      (append_assoc (potential_text net form q) (flat_map (potential_text net form) qs) rest ∙ potential_line net v form q more is.is_state)
       ∙ reads_item net v (codes "potential" ++ 32 ∷ words) more n now next (items.Listed q)
       (potential_feed words (words_feed net v rules laws is_net q is.is_state is.few))
       (item_potential net v words q (potential_read net v rules laws is_net q is.is_state is.few))
@@ -330,7 +346,12 @@ module _ (net : Network) (v : LegsValue) (rules : IsNetwork net) (laws : KeepsLa
       let among : Contains qs q = (k, h, same_default qs k q d h) in
       record {
         is_state = (is.exact q among).0;
-        few = record { containers = containers_few v laws qs is q among; hops = hops_few v laws qs is q among };
+        few =
+            record {
+              containers = containers_few v laws qs is q among;
+              sids = sids_shown v laws qs is q among;
+              hops = hops_few v laws qs is q among;
+            };
       }
     where
       same_default : (xs : List Potential) (i : ℕ) (a b : Potential) → i < length xs → get_or xs i a ≡ get_or xs i b
@@ -339,16 +360,17 @@ module _ (net : Network) (v : LegsValue) (rules : IsNetwork net) (laws : KeepsLa
       same_default (x ∷ xs) (suc i) a b h = same_default xs i a b (omega (arith, h))
 
   pub printed_read : (comments : List (List ℕ)) (s : Solution) → IsSolution v s → All IsComment comments
-      → read_of net v (lines_text comments ++ spelled net s) ≡ Ok (certificate_of (1 + length comments) s)
+      → read_of net v (lines_text comments ++ spelled net v.sid_cost s) ≡ Ok (certificate_of (1 + length comments) s)
   unfolding read_of
   printed_read comments s is all =
       let head : ℕ = 1 + length comments in
       let first : ℕ = head + 1 in
       let way = way_text s.path ++ end_text in
-      comments_read net v comments (spelled net s) 1 all
+      let form = form_of v.sid_cost in
+      comments_read net v comments (spelled net v.sid_cost s) 1 all
       ∙ ap (λ (text : List ℕ). reads net v (slice_split is_feed text) head nothing_read)
-      (four_parts head_text (flat_map (potential_text net) s.potentials) (way_text s.path) end_text)
-      ∙ head_read net v (flat_map (potential_text net) s.potentials ++ way) head
+      (four_parts (head_text form) (flat_map (potential_text net form) s.potentials) (way_text s.path) end_text)
+      ∙ head_read net v (flat_map (potential_text net form) s.potentials ++ way) head
       ∙ potentials_read s.potentials way head first [] (readable s.potentials is.potentials)
       (follow_from v s.potentials is.potentials.order)
       ∙ way_read net v s.path head (first + length s.potentials) (potential_lines first s.potentials) (path_prefixes s.path is.path)
@@ -357,5 +379,5 @@ pub what_is_read : (net : Network) (v : LegsValue) (comments : List (List ℕ)) 
     → IsNetworkOf net v
     → IsSolution v s
     → All IsComment comments
-    → read_of net v (lines_text comments ++ spelled net s) ≡ Ok (certificate_of (1 + length comments) s)
+    → read_of net v (lines_text comments ++ spelled net v.sid_cost s) ≡ Ok (certificate_of (1 + length comments) s)
 what_is_read net v comments s rules laws is_net is all = printed_read net v rules laws is_net comments s is all

@@ -28,8 +28,9 @@ pub is_start : (v : LegsValue) → IsState v start
 is_start v = (refl, refl)
 
 pub shows : (v : LegsValue) (c : Cert) (verdict : Verdict) → KeepsLaws v → IsVerdict v c verdict → Shows v verdict
-shows v c (Least containers hops) laws h =
-    tight_least v (potential_at c.potentials) start h.1.costs.moves (record { containers = containers; hops = hops }) laws h.0 (is_start v)
+shows v c (Least containers sids hops) laws h =
+    tight_least v (potential_at c.potentials) start h.1.costs.moves (record { containers = containers; sids = sids; hops = hops }) laws h.0
+    (is_start v)
     h.1.same
     h.1.costs.cost_is
 shows v c NoList laws h =

@@ -14,14 +14,14 @@ use Rattle.list_certificate.specs.Verdicts.{IsVerdict}
 
 -- what a verdict shows of the start: its least cost, or that there is no path
 abbrev pub Shows : LegsValue → Verdict → Type 0
-Shows v (Least containers hops) = IsLeast v start (Some (record { containers = containers; hops = hops }))
+Shows v (Least containers sids hops) = IsLeast v start (Some (record { containers = containers; sids = sids; hops = hops }))
 Shows v NoList = IsLeast v start None
 Shows v (No line why) = Unit {0}
 
 -- the verdict on the certificate of a solution: without a path that there is none, else what the start's least path costs
 pub record IsAccepted (v : LegsValue) (head : ℕ) (s : Solution) (cost : Cost) : Type 0 where
   pub least : IsLeast v start (Some cost)
-  pub verdict : IsVerdict v (certificate_of head s) (Least cost.containers cost.hops)
+  pub verdict : IsVerdict v (certificate_of head s) (Least cost.containers cost.sids cost.hops)
 
 abbrev pub IsAcceptedBy : LegsValue → ℕ → Solution → List PathStep → Type 0
 IsAcceptedBy v head s [] = IsVerdict v (certificate_of head s) NoList

@@ -23,7 +23,9 @@ use Rattle.list_certificate.specs.declared.item.Item.{Item}
 use Rattle.list_certificate.specs.declared.item.Item.TheVariants as items
 use Rattle.list_certificate.specs.declared.draft.Progress.{Progress}
 use Rattle.list_certificate.specs.declared.draft.Progress.TheVariants as stages
-use Rattle.list_certificate.specs.Spelling.{is_shared, name_by}
+use Rattle.list_certificate.specs.declared.certificate_types.Form.{Form}
+use Rattle.list_certificate.specs.declared.certificate_types.Form.TheVariants.{First, Second}
+use Rattle.list_certificate.specs.Spelling.{form_of, is_shared, name_by, head_words}
 
 infixl 10 ◌>>=◌
 abbrev pub ◌>>=◌ : {A B : Type 0} → Option A → (A → Option B) → Option B
@@ -53,24 +55,43 @@ unfoldable pub number_in : List ℕ → Option ℕ
 number_in word =
     if (length word == 0) || (nat_lt 1 (length word) && (slice_index word 0 == 48)) then None else digits_from 0 word
 
--- five words of a line: a position, a SID, a room and a cost
+-- a cost: its containers, in the second form its SIDs, and its hops
+unfoldable pub first_cost_in : List ℕ → Option Cost
+first_cost_in text = do
+  a ← cut_at 32 text
+  containers ← number_in a.front
+  hops ← number_in a.rest
+  Some (record { containers = containers; sids = 0; hops = hops })
+
+unfoldable pub second_cost_in : List ℕ → Option Cost
+second_cost_in text = do
+  a ← cut_at 32 text
+  b ← cut_at 32 a.rest
+  containers ← number_in a.front
+  sids ← number_in b.front
+  hops ← number_in b.rest
+  Some (record { containers = containers; sids = sids; hops = hops })
+
+abbrev pub cost_in : Form → List ℕ → Option Cost
+cost_in First text = first_cost_in text
+cost_in Second text = second_cost_in text
+
+-- words of a line: a position, a SID, a room and a cost
 pub record RowValue : Type 0 where
   pub position : ℕ
   pub sid : List ℕ
   pub room : ℕ
   pub cost : Cost
 
-unfoldable pub row_in : List ℕ → Option RowValue
-row_in text = do
+unfoldable pub row_in : Form → List ℕ → Option RowValue
+row_in form text = do
   a ← cut_at 32 text
   b ← cut_at 32 a.rest
   c ← cut_at 32 b.rest
-  d ← cut_at 32 c.rest
   position ← number_in a.front
   room ← number_in c.front
-  containers ← number_in d.front
-  hops ← number_in d.rest
-  Some (record { position = position; sid = b.front; room = room; cost = record { containers = containers; hops = hops } })
+  cost ← cost_in form c.rest
+  Some (record { position = position; sid = b.front; room = room; cost = cost })
 
 -- a SID of a position by its prefix, and by its node's name after `@` exactly where another SID of the network has the prefix
 abbrev pub node_of : Network → Option SidEntry → List ℕ
@@ -117,7 +138,7 @@ state_in net v row =
 
 unfoldable pub potential_in : Network → LegsValue → List ℕ → Option Potential
 potential_in net v text = do
-  row ← row_in text
+  row ← row_in (form_of v.sid_cost) text
   state ← state_in net v row
   Some (record { state = state; cost = row.cost })
 
@@ -133,7 +154,7 @@ step_in text = do
   prefix ← prefix_of_text parts.rest
   step_by parts.front prefix
 
--- what a line is
+-- what a line is, in a certificate of the form that the legs ask for
 abbrev pub listed_item : Option Potential → Item
 listed_item None = items.Other
 listed_item (Some q) = items.Listed q
@@ -152,7 +173,7 @@ item_by net v (Some parts) =
 unfoldable pub item_in : Network → LegsValue → List ℕ → Item
 item_in net v line =
     if slice_index line 0 == 35 then items.Comment
-    else if bytes_eq line (codes "srv6 certificate 1") then items.Head
+    else if bytes_eq line (head_words (form_of v.sid_cost)) then items.Head
     else if bytes_eq line (codes "none") then items.NoPath
     else if bytes_eq line (codes "end") then items.End
     else item_by net v (cut_at 32 line)

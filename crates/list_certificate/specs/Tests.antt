@@ -193,18 +193,24 @@ abbrev pub BadLine : LegsValue → List PotentialLine → Option ℕ → Type 0
 BadLine v lines None = LinesPass v lines (length lines)
 BadLine v lines (Some line) = FirstBadLine v lines line
 
+-- what a move costs is small
+pub record IsSmall (c : Cost) : Type 0 where
+  pub containers : c.containers ≤ 1
+  pub sids : c.sids ≤ 1
+  pub hops : c.hops ≤ 1000
+
 -- the edge of a step, none where it goes along none
 abbrev pub edge_value : Reached → Edge
 edge_value r = record { to = r.state; cost = r.cost }
 
 abbrev pub IsEdgeOf : LegsValue → State → PathStep → Option Reached → Type 0
 IsEdgeOf v s step None = (e : Edge) → GoesAlong v s step e → ⊥
-IsEdgeOf v s step (Some r) = GoesAlong v s step (edge_value r) × IsState v r.state × (r.cost.containers ≤ 1) × (r.cost.hops ≤ 1000)
+IsEdgeOf v s step (Some r) = GoesAlong v s step (edge_value r) × IsState v r.state × IsSmall r.cost
 
 -- the same of the edges that end at a position
 abbrev pub IsEdgeTo : LegsValue → State → PathStep → ℕ → Option Reached → Type 0
 IsEdgeTo v s step to None = (e : Edge) → GoesAlong v s step e → e.to.position ≡ to → ⊥
-IsEdgeTo v s step to (Some r) = GoesAlong v s step (edge_value r) × IsState v r.state × (r.cost.containers ≤ 1) × (r.cost.hops ≤ 1000)
+IsEdgeTo v s step to (Some r) = GoesAlong v s step (edge_value r) × IsState v r.state × IsSmall r.cost
 
 -- a step is that of a move to the end
 pub record Finishes (v : LegsValue) (s : State) (step : PathStep) (c : Cost) : Type 0 where
@@ -214,11 +220,11 @@ pub record Finishes (v : LegsValue) (s : State) (step : PathStep) (c : Cost) : T
 
 abbrev pub IsLastOf : LegsValue → State → PathStep → Option Cost → Type 0
 IsLastOf v s step None = (c : Cost) → Finishes v s step c → ⊥
-IsLastOf v s step (Some c) = Finishes v s step c × (c.containers ≤ 1) × (c.hops ≤ 1000)
+IsLastOf v s step (Some c) = Finishes v s step c × IsSmall c
 
 -- what lines of a path cost together, as whole numbers
 abbrev pub spent_value : Spent → Cost
-spent_value s = record { containers = s.containers; hops = s.hops }
+spent_value s = record { containers = s.containers; sids = s.sids; hops = s.hops }
 
 abbrev pub IsWalked : LegsValue → List PathLine → Result Spent ℕ → Type 0
 IsWalked v lines (Ok spent) = PathCosts v start lines (spent_value spent)
@@ -240,8 +246,8 @@ IsSidAt v position n = Contains (v.sids_at position) n
 -- the edge of a step to a SID at a position
 abbrev pub IsEdgeBy : LegsValue → State → PathStep → ℕ → ℕ → Option Reached → Type 0
 IsEdgeBy v s step to n None = (e : Edge) (m : Move) → step_of v m ≡ step → m.sid ≡ n → edge_of v s m ≡ Some e → e.to.position ≡ to → ⊥
-IsEdgeBy v s step to n (Some r) = GoesAlong v s step (edge_value r) × IsState v r.state × (r.cost.containers ≤ 1) × (r.cost.hops ≤ 1000)
+IsEdgeBy v s step to n (Some r) = GoesAlong v s step (edge_value r) × IsState v r.state × IsSmall r.cost
 
 abbrev pub IsLastBy : LegsValue → State → PathStep → ℕ → Option Cost → Type 0
 IsLastBy v s step n None = (c : Cost) (m : Move) → step_of v m ≡ step → m.sid ≡ n → last_of v s m ≡ Some c → ⊥
-IsLastBy v s step n (Some c) = Finishes v s step c × (c.containers ≤ 1) × (c.hops ≤ 1000)
+IsLastBy v s step n (Some c) = Finishes v s step c × IsSmall c

@@ -105,4 +105,5 @@ IsVerdict v c (No line (Unlisted s)) = IsBadState v c line s
 IsVerdict v c (No line Path) = AllPass v c × IsBadWay v c c.none line
 IsVerdict v c (No line Tight) = AllPass v c × IsNotTight v c line
 IsVerdict v c NoList = AllPass v c × IsSome c.none × (potential_at c.potentials start ≡ None)
-IsVerdict v c (Least containers hops) = AllPass v c × IsTight v c (record { containers = containers; hops = hops })
+IsVerdict v c (Least containers sids hops) =
+    AllPass v c × IsTight v c (record { containers = containers; sids = sids; hops = hops })

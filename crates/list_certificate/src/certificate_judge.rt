@@ -34,9 +34,11 @@ fn verdict_on_path<L: Legs>(legs: &L, cert: &Cert, potential: Option<Cost>) -> V
     match potential {
         Some(cost)
             if u128::from(cost.containers) == spent.containers
+                && u128::from(cost.sids) == spent.sids
                 && u128::from(cost.hops) == spent.hops => {
             Verdict::Least {
                 containers: cost.containers,
+                sids: cost.sids,
                 hops: cost.hops,
             }
         }
@@ -72,8 +74,8 @@ fn first_fault<L: Legs>(legs: &L, cert: &Cert) -> Option<Verdict>
 }
 
 /// What a certificate shows of legs: the first of its tests that fails with its line, or what it
-/// shows where none does. Costs are compared by containers, then by hops, and added as whole
-/// numbers.
+/// shows where none does. Each edge and each move to the end costs what a SID costs by the legs.
+/// Costs are compared by containers, then by SIDs, then by hops, and added as whole numbers.
 ///
 /// 1. For each line with a potential, in order: along each edge from its state to a listed state or
 ///    to the end, the potential is at most the edge's cost and the potential there. Else `Edge`

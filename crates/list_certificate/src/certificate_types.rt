@@ -1,4 +1,7 @@
-//! Certificates as they are read, and verdicts.
+//! Certificates as they are read, their forms, and verdicts.
+
+ghost use Rattle.std.specs.Prelude.{◌≡◌};
+ghost use Rattle.list_certificate.specs.Spelling.{form_of};
 
 use base::{NoMemory, Seq};
 use list_pack::{PathStep, Potential, State};
@@ -61,6 +64,8 @@ pub enum Verdict {
     Least {
         /// How many containers of 16 bytes the list has.
         containers: u32,
+        /// What its SIDs cost: as many as they are where the legs count them, else 0.
+        sids: u32,
         /// How often the hop limit is lowered.
         hops: u32,
     },
@@ -73,6 +78,26 @@ pub enum Verdict {
         /// What is wrong there.
         why: Why,
     },
+}
+
+/// The form of a certificate's text, which the head tells.
+#[derive(Clone, Copy, Debug, PartialEq, Eq)]
+pub enum Form {
+    /// `srv6 certificate 1`: a cost is its containers and its hops. SIDs cost nothing.
+    First,
+    /// `srv6 certificate 2`: a cost is its containers, its SIDs and its hops.
+    Second,
+}
+
+/// The form of certificates for legs by which a SID costs so much.
+pub(crate) fn form_of(sid_cost: u32) -> Form
+    ensures { result ≡ form_of sid_cost }
+{
+    if sid_cost == 0 {
+        Form::First
+    } else {
+        Form::Second
+    }
 }
 
 /// Why a text gives no certificate.

@@ -30,9 +30,14 @@ fn is_under_sum(potential: Option<Cost>, edge: Cost, rest: Cost) -> bool
         return false;
     };
     let containers = u64::from(edge.containers) + u64::from(rest.containers);
-    let hops = u64::from(edge.hops) + u64::from(rest.hops);
-    let own = u64::from(cost.containers);
-    own < containers || (own == containers && u64::from(cost.hops) <= hops)
+    if u64::from(cost.containers) != containers {
+        return u64::from(cost.containers) < containers;
+    }
+    let sids = u64::from(edge.sids) + u64::from(rest.sids);
+    if u64::from(cost.sids) != sids {
+        return u64::from(cost.sids) < sids;
+    }
+    u64::from(cost.hops) <= u64::from(edge.hops) + u64::from(rest.hops)
 }
 
 /// A potential is there and at most a cost
@@ -101,7 +106,10 @@ pub fn passes_move<L: Legs>(
     };
     match potential_in(legs, lines, next, room) {
         None => true,
-        Some(rest) => is_under_sum(costed_state.potential, move_cost(stays, leg.hops), rest),
+        Some(rest) => {
+            let edge = move_cost(legs.sid_cost(), stays, leg.hops);
+            is_under_sum(costed_state.potential, edge, rest)
+        }
     }
 }
 
@@ -131,7 +139,10 @@ pub fn passes_last<L: Legs>(
     if room_behind(stays, &costed_state.from, costed_state.state.room, &next).is_none() {
         return true;
     }
-    is_under(costed_state.potential, move_cost(stays, hops))
+    is_under(
+        costed_state.potential,
+        move_cost(legs.sid_cost(), stays, hops),
+    )
 }
 
 /// All moves by legs to a position pass

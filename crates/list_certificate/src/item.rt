@@ -4,10 +4,11 @@ ghost use Rattle.std.specs.Prelude.{◌≡◌, ◌≤◌, ◌<◌, length, slice
 ghost use Rattle.v6_addr.specs.Text.{prefix_of_text};
 ghost use Rattle.list_pack.specs.LegsValueTerms.{IsSid};
 ghost use Rattle.list_pack.specs.Costs.{IsState};
-ghost use Rattle.list_certificate.specs.Spelling.{is_shared};
+ghost use Rattle.list_certificate.specs.Spelling.{is_shared, form_of, head_words};
 ghost use Rattle.list_certificate.specs.CertificateReading as reading;
 ghost use Rattle.list_certificate.specs.CertificateReadingTerms as reading_terms;
 
+use crate::certificate_types::{Form, form_of};
 use crate::line_words::{Row, cut, row_of};
 use crate::spelling::{is_same_prefix, is_shared};
 use list_pack::{Legs, PathStep, Potential, State, top_room};
@@ -19,7 +20,7 @@ use v6_addr::{Prefix, parse_prefix};
 pub enum Item {
     /// It begins with `#`.
     Comment,
-    /// The head.
+    /// The head, of the form that certificates for the legs have.
     Head,
     /// The potential of a state.
     Listed(Potential),
@@ -179,7 +180,7 @@ fn potential_of<L: Legs>(net: &Net, legs: &L, text: &[u8]) -> Option<Potential>
     ensures value { result ≡ reading.potential_in net.now (L.seen legs.now) text.now }
     ensures state { IfSome result (λ q. IsState (L.seen legs.now) q.state) }
 {
-    let row = row_of(text)?;
+    let row = row_of(form_of(legs.sid_cost()), text)?;
     let state = state_of(net, legs, &row)?;
     Some(Potential {
         state,
@@ -233,6 +234,16 @@ fn item_by<L: Legs>(net: &Net, legs: &L, line: &[u8]) -> Item
     Item::Other
 }
 
+/// The head of a certificate of a form
+fn is_head(form: Form, line: &[u8]) -> bool
+    ensures { result ≡ bytes_eq line.now (head_words form) }
+{
+    match form {
+        Form::First => is_word(line, b"srv6 certificate 1"),
+        Form::Second => is_word(line, b"srv6 certificate 2"),
+    }
+}
+
 fn is_comment(line: &[u8]) -> bool
     ensures { result ≡ (slice_index line.now 0 == 35) }
 {
@@ -242,7 +253,7 @@ fn is_comment(line: &[u8]) -> bool
     }
 }
 
-/// What a line says.
+/// What a line says, in a certificate of the form that certificates for the legs have.
 #[tactic(auto, unfolding(crate::specs::CertificateReading::item_in))]
 pub fn item_of<L: Legs>(net: &Net, legs: &L, line: &[u8]) -> Item
     requires { reading_terms.IsNetworkOf net.now (L.seen legs.now) }
@@ -252,7 +263,7 @@ pub fn item_of<L: Legs>(net: &Net, legs: &L, line: &[u8]) -> Item
     if is_comment(line) {
         return Item::Comment;
     }
-    if is_word(line, b"srv6 certificate 1") {
+    if is_head(form_of(legs.sid_cost()), line) {
         return Item::Head;
     }
     if is_word(line, b"none") {

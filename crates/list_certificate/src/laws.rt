@@ -16,8 +16,8 @@ ghost use Rattle.list_certificate.specs.CertificateReading.{read_of};
 ghost use Rattle.list_certificate.specs.CertificateReadingTerms.{IsNetworkOf};
 ghost use Rattle.list_certificate.specs.CertificateLaws.{Shows, IsAcceptedBy, IsComment, lines_text};
 
-/// What a certificate from anywhere shows holds: with `Least` the two numbers are the least cost of
-/// a path from the start to the end, with `NoList` no path leads there.
+/// What a certificate from anywhere shows holds: with `Least` its numbers are the least cost of a
+/// path from the start to the end, with `NoList` no path leads there.
 pub fn a_certificate_that_is_least_is_least()
     ensures { (v : LegsValue) (c : Cert) (verdict : Verdict) → KeepsLaws v → IsVerdict v c verdict
         → Shows v verdict }
@@ -40,12 +40,12 @@ pub fn a_solution_is_good()
         → IsAcceptedBy v head s s.path }
 {}
 
-/// What `print` spells of a solution is read back as its certificate, after any lines that begin
-/// with `#`, where the SIDs of the legs are those of the network. The head stands in the line after
-/// the comments.
+/// What `print` spells of a solution, with what a SID costs by the legs, is read back as its
+/// certificate, after any lines that begin with `#`, where the SIDs of the legs are those of the
+/// network. The head stands in the line after the comments.
 pub fn what_is_printed_is_read_back()
     ensures { (net : Network) (v : LegsValue) (comments : List (List ℕ)) (s : Solution)
         → IsNetwork net → KeepsLaws v → IsNetworkOf net v → IsSolution v s → All IsComment comments
-        → read_of net v (lines_text comments ++ spelled net s)
+        → read_of net v (lines_text comments ++ spelled net v.sid_cost s)
         ≡ Ok (certificate_of (1 + length comments) s) }
 {}

@@ -5,7 +5,8 @@
 //! edge by more than the edge costs, no edge leads from a state that is not listed to a listed one
 //! or to the end, and the path goes along edges and costs the start's potential. What passes shows
 //! the least cost of a path, wherever the certificate comes from. `print` spells the certificate of
-//! a solution, and `read` reads a text for the legs of a network.
+//! a solution, and `read` reads a text for the legs of a network. A text has one of two forms, by
+//! whether SIDs cost something by the legs.
 //!
 //! `specs/Certs.antt` has what lines say of states, `specs/Verdicts.antt` the tests and verdicts in
 //! their order, `specs/CertificateLaws.antt` what a verdict shows, `specs/Spelling.antt` the text of a

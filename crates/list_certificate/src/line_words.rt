@@ -2,9 +2,10 @@
 
 ghost use Rattle.std.specs.Prelude.{◌≡◌, ◌==◌, ◌<◌, length, position, IfSome};
 ghost use Rattle.std.specs.Option.{option_map};
-ghost use Rattle.list_certificate.specs.CertificateReading.{cut_at, number_in, digit_after, digits_from, row_in};
+ghost use Rattle.list_certificate.specs.CertificateReading.{cut_at, number_in, digit_after, digits_from, first_cost_in, second_cost_in, cost_in, row_in};
 ghost use Rattle.list_certificate.specs.CertificateReadingTerms.{row_value, cut_value};
 
+use crate::certificate_types::Form;
 use list_pack::Cost;
 
 /// A position, a SID, a room and a cost, as the words of a line say them.
@@ -89,23 +90,63 @@ pub fn number(word: &[u8]) -> Option<u32>
     digits(word)
 }
 
-/// The five words of a line, parted by single spaces.
+/// A cost of the first form: containers and hops
+#[tactic(auto, unfolding(crate::specs::CertificateReading::first_cost_in))]
+fn first_cost_of(text: &[u8]) -> Option<Cost>
+    ensures { result ≡ first_cost_in text.now }
+{
+    let parts = cut(text, b' ')?;
+    let containers = number(parts.front)?;
+    let hops = number(parts.rest)?;
+    Some(Cost {
+        containers,
+        sids: 0,
+        hops,
+    })
+}
+
+/// A cost of the second form: containers, SIDs and hops
+#[tactic(auto, unfolding(crate::specs::CertificateReading::second_cost_in))]
+fn second_cost_of(text: &[u8]) -> Option<Cost>
+    ensures { result ≡ second_cost_in text.now }
+{
+    let first = cut(text, b' ')?;
+    let second = cut(first.rest, b' ')?;
+    let containers = number(first.front)?;
+    let sids = number(second.front)?;
+    let hops = number(second.rest)?;
+    Some(Cost {
+        containers,
+        sids,
+        hops,
+    })
+}
+
+fn cost_of(form: Form, text: &[u8]) -> Option<Cost>
+    ensures { result ≡ cost_in form text.now }
+{
+    match form {
+        Form::First => first_cost_of(text),
+        Form::Second => second_cost_of(text),
+    }
+}
+
+/// The words of a line, parted by single spaces: five with a cost of the first form, six with one
+/// of the second.
 #[tactic(auto, unfolding(crate::specs::CertificateReading::row_in))]
-pub fn row_of(text: &[u8]) -> Option<Row<'_>>
-    ensures { option_map row_value result ≡ row_in text.now }
+pub fn row_of(form: Form, text: &[u8]) -> Option<Row<'_>>
+    ensures { option_map row_value result ≡ row_in form text.now }
 {
     let first = cut(text, b' ')?;
     let second = cut(first.rest, b' ')?;
     let third = cut(second.rest, b' ')?;
-    let fourth = cut(third.rest, b' ')?;
     let position = number(first.front)?;
     let room = number(third.front)?;
-    let containers = number(fourth.front)?;
-    let hops = number(fourth.rest)?;
+    let cost = cost_of(form, third.rest)?;
     Some(Row {
         position,
         sid: second.front,
         room,
-        cost: Cost { containers, hops },
+        cost,
     })
 }

@@ -24,6 +24,8 @@ pub struct Reached {
 pub struct Spent {
     /// How many containers.
     pub containers: u128,
+    /// What the SIDs cost.
+    pub sids: u128,
     /// How often the hop limit is lowered.
     pub hops: u128,
 }
@@ -72,7 +74,7 @@ fn edge_by<L: Legs>(
             via: Some(n),
             room,
         },
-        cost: move_cost(step.stays, leg.hops),
+        cost: move_cost(legs.sid_cost(), step.stays, leg.hops),
     })
 }
 
@@ -136,7 +138,7 @@ fn last_by<L: Legs>(
         return None;
     }
     room_behind(step.stays, from, state.room, &next)?;
-    Some(move_cost(step.stays, hops))
+    Some(move_cost(legs.sid_cost(), step.stays, hops))
 }
 
 /// What a step costs that is the last
@@ -156,11 +158,13 @@ fn last_of<L: Legs>(legs: &L, state: State, step: &PathStep) -> Option<Cost>
 /// A cost more
 fn add(spent: Spent, cost: Cost) -> Spent
     requires containers { spent.containers + cost.containers < 2 ^ 128 }
+    requires sids { spent.sids + cost.sids < 2 ^ 128 }
     requires hops { spent.hops + cost.hops < 2 ^ 128 }
     ensures { tests.Adds spent cost result }
 {
     Spent {
         containers: spent.containers + u128::from(cost.containers),
+        sids: spent.sids + u128::from(cost.sids),
         hops: spent.hops + u128::from(cost.hops),
     }
 }
@@ -179,6 +183,7 @@ pub fn walked<L: Legs>(legs: &L, lines: &[PathLine]) -> Result<Spent, u32>
     };
     let mut spent = Spent {
         containers: 0,
+        sids: 0,
         hops: 0,
     };
     let last = lines.len() - 1;

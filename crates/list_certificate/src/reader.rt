@@ -35,13 +35,15 @@ fn finished(draft: Draft, line: u32, last: &[u8]) -> Result<Cert, CertFault>
     }
 }
 
-/// The certificate that a text of at most 4 MiB spells, for legs of the network. Lines that begin
+/// The certificate that a text of at most 4 MiB spells, for legs of the network; its form is the
+/// second where SIDs cost something by the legs, else the first (see `print`). Lines that begin
 /// with `#` may stand before its head; the states of its potentials ascend by position, prefix
 /// value, prefix length, node and room, and the start comes first; a SID is named by any text of
 /// its prefix, and where another SID of the network has that prefix too, by `@` and the name of its
-/// node after it. `BadCert` has the first line that is outside the grammar or names no state of
-/// the legs, counted from 1; where there is none and the text ends too early, the line after the
-/// last. `NoMemory` says nothing about the text.
+/// node after it. `BadCert` has the first line that is outside the grammar of this form or names
+/// no state of the legs, counted from 1, so the head of a text of the other form; where there is
+/// none and the text ends too early, the line after the last. `NoMemory` says nothing about the
+/// text.
 pub fn read<L: Legs>(alloc: Global, net: &Net, legs: &L, text: &[u8]) -> Result<Cert, CertFault>
     requires net { reading_terms.IsNetworkOf net.now (L.seen legs.now) }
     requires few { length text.now ≤ MAX_TEXT_BYTES }

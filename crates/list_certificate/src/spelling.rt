@@ -3,9 +3,10 @@
 ghost use Rattle.std.specs.Prelude.{◌≡◌, ◌++◌, ◌<◌, length, flat_map, All, OnOk, OnErr, IfOk, string_bytes};
 ghost use Rattle.net_model.specs.NetworkRules.{same_prefix};
 ghost use Rattle.list_pack.specs.declared.types.Potential.{Potential};
-ghost use Rattle.list_certificate.specs.Spelling.{is_shared, sid_text, state_text, potential_text, potential_of_text, placed_text, start_text, step_text, way_text, head_text, end_text, none_text, spelled};
+ghost use Rattle.list_certificate.specs.Spelling.{form_of, is_shared, sid_text, state_text, potential_text, potential_of_text, cost_text, placed_text, start_text, step_text, way_text, head_text, end_text, none_text, spelled};
 ghost use Rattle.list_certificate.specs.SpellingTerms.{IsKnown};
 
+use crate::certificate_types::{Form, form_of};
 use base::NoMemory;
 use list_pack::{Cost, PathStep, Potential, Solution, State};
 use net_model::Net;
@@ -87,32 +88,53 @@ pub fn append_state(net: &Net, state: State, out: &mut String) -> Result<(), All
     }
 }
 
-/// The line of a potential
-#[tactic(auto, unfolding(crate::specs::Spelling::potential_of_text))]
-fn append_potential(net: &Net, state: State, cost: Cost, out: &mut String) -> Result<(), AllocError>
-    requires { IsKnown net.now state }
-    ensures { OnOk result (string_bytes out.new ≡ string_bytes out.old
-        ++ potential_of_text (state_text net.now state) cost.containers cost.hops) }
+/// The numbers of a cost
+#[tactic(auto, unfolding(crate::specs::Spelling::cost_text))]
+fn append_cost(form: Form, cost: Cost, out: &mut String) -> Result<(), AllocError>
+    ensures { OnOk result (string_bytes out.new ≡ string_bytes out.old ++ cost_text form cost) }
 {
     let containers = cost.containers;
+    let sids = cost.sids;
     let hops = cost.hops;
+    match form {
+        Form::First => write!(out, "{containers} {hops}"),
+        Form::Second => write!(out, "{containers} {sids} {hops}"),
+    }
+}
+
+/// The line of a potential
+#[tactic(auto, unfolding(crate::specs::Spelling::potential_of_text))]
+fn append_potential(
+    net: &Net,
+    form: Form,
+    state: State,
+    cost: Cost,
+    out: &mut String,
+) -> Result<(), AllocError>
+    requires { IsKnown net.now state }
+    ensures { OnOk result (string_bytes out.new ≡ string_bytes out.old
+        ++ potential_of_text (state_text net.now state) (cost_text form cost)) }
+{
     write!(out, "potential ")?;
     append_state(net, state, out)?;
-    writeln!(out, " {containers} {hops}")
+    write!(out, " ")?;
+    append_cost(form, cost, out)?;
+    writeln!(out)
 }
 
 /// The lines of potentials
 fn append_potentials(
     net: &Net,
+    form: Form,
     potentials: &[Potential],
     out: &mut String,
 ) -> Result<(), AllocError>
     requires { All (λ (q : Potential). IsKnown net.now q.state) potentials.now }
     ensures { OnOk result (string_bytes out.new
-        ≡ string_bytes out.old ++ flat_map (potential_text net.now) potentials.now) }
+        ≡ string_bytes out.old ++ flat_map (potential_text net.now form) potentials.now) }
 {
     for potential in potentials {
-        append_potential(net, potential.state, potential.cost, out)?;
+        append_potential(net, form, potential.state, potential.cost, out)?;
     }
     Ok(())
 }
@@ -159,10 +181,13 @@ fn append_way(path: &[PathStep], out: &mut String) -> Result<(), AllocError>
 }
 
 #[tactic(auto, unfolding(crate::specs::Spelling::head_text))]
-fn append_head(out: &mut String) -> Result<(), AllocError>
-    ensures { OnOk result (string_bytes out.new ≡ string_bytes out.old ++ head_text) }
+fn append_head(form: Form, out: &mut String) -> Result<(), AllocError>
+    ensures { OnOk result (string_bytes out.new ≡ string_bytes out.old ++ head_text form) }
 {
-    writeln!(out, "srv6 certificate 1")
+    match form {
+        Form::First => writeln!(out, "srv6 certificate 1"),
+        Form::Second => writeln!(out, "srv6 certificate 2"),
+    }
 }
 
 #[tactic(auto, unfolding(crate::specs::Spelling::end_text))]
@@ -173,33 +198,43 @@ fn append_end(out: &mut String) -> Result<(), AllocError>
 }
 
 /// The text of a solution's certificate
-fn text_of(alloc: Global, net: &Net, solution: &Solution) -> Result<String, AllocError>
+fn text_of(
+    alloc: Global,
+    net: &Net,
+    sid_cost: u32,
+    solution: &Solution,
+) -> Result<String, AllocError>
     requires { All (λ (q : Potential). IsKnown net.now q.state) solution.now.potentials }
-    ensures { IfOk result (λ text. string_bytes text ≡ spelled net.now solution.now) }
+    ensures { IfOk result (λ text. string_bytes text ≡ spelled net.now sid_cost solution.now) }
 {
+    let form = form_of(sid_cost);
     let mut text = String::new(alloc);
-    append_head(&mut text)?;
-    append_potentials(net, solution.potentials.as_slice(), &mut text)?;
+    append_head(form, &mut text)?;
+    append_potentials(net, form, solution.potentials.as_slice(), &mut text)?;
     append_way(solution.path.as_slice(), &mut text)?;
     append_end(&mut text)?;
     Ok(text)
 }
 
-/// Appends the text of a solution's certificate: the head `srv6 certificate 1`, a line
-/// `potential POSITION PREFIX ROOM CONTAINERS HOPS` for each potential, lines `path new PREFIX` and
-/// `path stay PREFIX` for the path or the line `none`, and `end`. `NoMemory` leaves the bytes as
-/// they were.
+/// Appends the text of a solution's certificate, for legs by which a SID costs so much: the head, a
+/// line for each potential, lines `path new PREFIX` and `path stay PREFIX` for the path or the line
+/// `none`, and `end`. Where SIDs cost nothing it has the first form: the head is
+/// `srv6 certificate 1`, the line of a potential
+/// `potential POSITION PREFIX ROOM CONTAINERS HOPS`. Else it has the second: the head is
+/// `srv6 certificate 2`, the line of a potential
+/// `potential POSITION PREFIX ROOM CONTAINERS SIDS HOPS`. `NoMemory` leaves the bytes as they were.
 pub fn print(
     alloc: Global,
     net: &Net,
+    sid_cost: u32,
     solution: &Solution,
     out: &mut Vec<u8>,
 ) -> Result<(), NoMemory>
     requires { All (λ (q : Potential). IsKnown net.now q.state) solution.now.potentials }
-    ensures ok { OnOk result (out.new.items ≡ out.old.items ++ spelled net.now solution.now) }
+    ensures ok { OnOk result (out.new.items ≡ out.old.items ++ spelled net.now sid_cost solution.now) }
     ensures err { OnErr result (out.new.items ≡ out.old.items) }
 {
-    let text = text_of(alloc, net, solution)?;
+    let text = text_of(alloc, net, sid_cost, solution)?;
     out.extend_from_slice(text.as_bytes())?;
     Ok(())
 }

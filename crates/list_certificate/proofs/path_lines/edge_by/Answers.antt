@@ -1,5 +1,6 @@
-use Rattle.std.proofs.Common.{◌≡◌, [], sym, ◌∙◌, ap, subst, Some}
+use Rattle.std.proofs.Common.{◌≡◌, ℕ, [], sym, ◌∙◌, ap, subst, Some}
 use Rattle.list_pack.specs.declared.types.Shape.{Shape}
+use Rattle.list_pack.specs.Costs.{move_cost}
 use Rattle.list_certificate.specs.Tests.{Tells}
 use Rattle.list_certificate.proofs.MovesPassing.{room_is}
 use Rattle.list_certificate.proofs.CertificatePathing.{edge_stands}
@@ -15,4 +16,4 @@ returns g c =
     (room_is v [] c.args.state c.args.n c.args.step.now.stays c.args.from.now c.shape-next.result c.room_behind.result
     (Some c.in_ok-room.room) c.requires.from c.shape-next.ensures (sym c.is_barred.ensures ∙ c.if-is_barred.false)
     c.room_behind.ensures c.in_ok-room.was)
-    c.move_cost.ensures
+    (c.move_cost.ensures ∙ ap (λ (x : ℕ). move_cost x c.args.step.now.stays c.in_ok-leg.leg.hops) c.sid_cost.ensures)

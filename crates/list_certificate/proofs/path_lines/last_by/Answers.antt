@@ -1,5 +1,6 @@
-use Rattle.std.proofs.Common.{◌≡◌, [], sym, ◌∙◌, ap, subst, Some}
+use Rattle.std.proofs.Common.{◌≡◌, ℕ, [], sym, ◌∙◌, ap, subst, Some}
 use Rattle.list_pack.specs.declared.types.Shape.{Shape}
+use Rattle.list_pack.specs.Costs.{move_cost}
 use Rattle.list_certificate.specs.Tests.{Tells}
 use Rattle.list_certificate.proofs.MovesPassing.{room_is}
 use Rattle.list_certificate.proofs.CertificatePathing.{last_stands}
@@ -16,4 +17,4 @@ returns g c =
     (Some c.in_ok-room_behind.field-0) c.requires.from c.shape-next.ensures (sym c.is_barred.ensures ∙ c.if-is_barred.false)
     c.room_behind.ensures
     c.in_ok-room_behind.was)
-    c.move_cost.ensures
+    (c.move_cost.ensures ∙ ap (λ (x : ℕ). move_cost x c.args.step.now.stays c.in_ok-hops.hops) c.sid_cost.ensures)
