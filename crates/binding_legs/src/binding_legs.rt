@@ -137,6 +137,10 @@ impl<'a> Legs for BindingLegs<'a> {
         self.strict().steps()
     }
 
+    fn sid_cost(&self) -> u32 {
+        self.strict().sid_cost()
+    }
+
     fn sids_at(&self, position: u32) -> &[u32] {
         self.strict().sids_at(position)
     }

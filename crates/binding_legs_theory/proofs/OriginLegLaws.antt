@@ -160,6 +160,7 @@ module _ (net : Network) (keeps : Keeps net) (intent : Intent) (is_intent : IsIn
   binding_laws strict =
       record {
         steps = strict.steps;
+        sid_cost = strict.sid_cost;
         sids_count = strict.sids_count;
         sids_order = λ position within. same_ascends net intent (sids_of net intent position) (strict.sids_order position within);
         shapes = λ n is_sid. same_shape net n (strict.shapes n is_sid);

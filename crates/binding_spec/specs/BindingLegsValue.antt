@@ -2,6 +2,7 @@
 use Rattle.std.specs.Prelude.{ℕ, if◌then◌else◌, length, Option, None}
 use Rattle.net_model.specs.Network.{Network}
 use Rattle.intent_reader.specs.declared.intent.Intent.{Intent}
+use Rattle.intent_reader.specs.Preferences.{sid_cost_of}
 use Rattle.list_pack.specs.declared.types.Leg.{Leg}
 use Rattle.list_pack.specs.declared.types.Shape.{Shape}
 use Rattle.list_pack.specs.LegsValue.{LegsValue}
@@ -35,4 +36,5 @@ binding_legs_value net intent =
       leg = binding_leg net intent;
       finish = binding_finish net intent;
       stays = stays_of net;
+      sid_cost = sid_cost_of intent.prefer;
     }

@@ -1,6 +1,6 @@
 -- The paths of legs of any kind are the legal lists that realize what the legs are for.
-use Rattle.std.proofs.Common.{◌≡◌, ℕ, ◌+◌, ◌<◌, ◌≤◌, arith, List, [], ◌∷◌, length, map, All, Option, Some, None, refl, sym, ◌∙◌, ap, subst}
-use Rattle.std.proofs.lemmas.List.{length-map, take_all}
+use Rattle.std.proofs.Common.{◌≡◌, ℕ, ◌+◌, ◌*◌, ◌<◌, ◌≤◌, arith, List, [], ◌∷◌, length, map, take, drop, All, Option, Some, None, refl, sym, ◌∙◌, ap, subst}
+use Rattle.std.proofs.lemmas.List.{length-map, length-append, take_all, take-append-drop}
 use Rattle.v6_addr.specs.Address.{PrefixValue}
 use Rattle.srv6_rules.specs.Packet.{Packet, Content}
 use Rattle.list_pack.specs.declared.types.Container.{Container}
@@ -64,6 +64,32 @@ module _ (k : LegKind) (Longest : Option ℕ → Packet → (ℕ → ℕ) → �
         packs.list_path k.legs k.net list (p.first ∷ p.more) p.need laws.legs laws.suits legal.rules legal.nests p.is_path p.names
         (omega (arith, last, same))
 
+    -- it has as many moves as SIDs, which are the first ones of the list
+    many : (inner : Content) (hop : ℕ) → (p : PathAlong k Longest laws list legal inner hop)
+        → length (moves_along inner hop p).moves ≡ length (p.first ∷ p.more)
+    many inner hop p =
+        let along = moves_along inner hop p in
+        sym (length-map along.moves (λ (m : Move). m.sid)) ∙ ap (λ (ns : List ℕ). length ns) along.sids_of
+
+    costs : (inner : Content) (hop : ℕ) → (p : PathAlong k Longest laws list legal inner hop)
+        → cost_of k.legs start (moves_along inner hop p).moves
+        ≡ Some (cost_with (length list) (k.legs.sid_cost * length (moves_along inner hop p).moves) p.need)
+    costs inner hop p =
+        (moves_along inner hop p).cost
+        ∙ ap (λ (n : ℕ). Some (cost_with (length list) (k.legs.sid_cost * n) p.need)) (sym (many inner hop p))
+
+    sids_few : (inner : Content) (hop : ℕ) → (p : PathAlong k Longest laws list legal inner hop)
+        → length (moves_along inner hop p).moves ≤ length (prefixes_in list)
+    sids_few inner hop p =
+        let sids : List ℕ = p.first ∷ p.more in
+        let named : length sids ≡ length (take (length sids) (prefixes_in list))
+        = sym (length-map sids (prefix_in k)) ∙ ap (λ (ps : List PrefixValue). length ps) p.names in
+        let front = take (length sids) (prefixes_in list) in
+        let behind = drop (length sids) (prefixes_in list) in
+        let whole : length front + length behind ≡ length (prefixes_in list)
+        = sym (length-append front behind) ∙ ap (λ (ps : List PrefixValue). length ps) (take-append-drop (length sids) (prefixes_in list)) in
+        omega (arith, many inner hop p, named, whole)
+
     -- where all SIDs are executed the path has the list's steps, and its hops are the need
     whole_path : (inner : Content) (hop need : ℕ) → IsRealizing k list need → (p : PathAlong k Longest laws list legal inner hop)
         → p.need ≤ need → length (p.first ∷ p.more) ≡ length (prefixes_in list)
@@ -94,7 +120,8 @@ module _ (k : LegKind) (Longest : Option ℕ → Packet → (ℕ → ℕ) → �
         record {
           moves = (moves_along inner hop p).moves;
           hops = p.need;
-          cost = (moves_along inner hop p).cost;
+          cost = costs inner hop p;
+          sids = sids_few inner hop p;
           within = within;
           whole = λ executes.
               whole_path inner hop need real p within
@@ -105,7 +132,13 @@ module _ (k : LegKind) (Longest : Option ℕ → Packet → (ℕ → ℕ) → �
     path_below hop hands =
         let p = list_path k Longest laws list legal hands.inner hop hands.marks hands.positive hands.always in
         let got = moves_along hands.inner hop p in
-        record { moves = got.moves; hops = p.need; cost = got.cost; below = p.below }
+        record {
+          moves = got.moves;
+          hops = p.need;
+          cost = costs hands.inner hop p;
+          sids = sids_few hands.inner hop p;
+          below = p.below;
+        }
 
     -- where a list hands over even one inner packet at a hop limit, one of as many containers realizes with a need below that
     pub hands_realizes : (hop : ℕ) → IsHanding k list hop
@@ -113,7 +146,7 @@ module _ (k : LegKind) (Longest : Option ℕ → Packet → (ℕ → ℕ) → �
         × (need < hop)
     hands_realizes hop hands =
         let path = path_below hop hands in
-        let made = realized path.moves (cost_with (length list) path.hops) path.cost in
+        let made = realized path.moves (cost_with (length list) (k.legs.sid_cost * length path.moves) path.hops) path.cost in
         (list_of k.net (map (step_of k.legs) path.moves), path.hops, made.legal, made.realizes, made.of_path.count, path.below)
 
   -- legs that keep the laws of their kind mean the lists that realize, as it is said apart from the kind
@@ -143,6 +176,7 @@ module _ (k : LegKind) (Longest : Option ℕ → Packet → (ℕ → ℕ) → �
               moves = path.moves;
               hops = path.hops;
               cost = path.cost;
+              sids = path.sids;
               within = path.within;
               whole = λ executes. path.whole (of.1 executes);
             };

@@ -8,6 +8,7 @@ use Rattle.net_model.specs.Network.{Network}
 use Rattle.net_model.specs.NetworkKeeps.{Keeps}
 use Rattle.intent_reader.specs.IntentRulesTerms.{IsIntent}
 use Rattle.intent_reader.specs.declared.intent.Intent.{Intent}
+use Rattle.intent_reader.proofs.PublicLaws.{sid_costs_few}
 use Rattle.list_pack.specs.declared.types.Leg.{Leg}
 use Rattle.leg_table.specs.Transits.{Transit, transit_of}
 use Rattle.leg_table.specs.PositionSids.{comes_before, sid_goes_on, is_middle, first_address, sid_address, sid_before, sids_of, is_sid_at}
@@ -185,6 +186,7 @@ module _ (net : Network) (keeps : Keeps net) (intent : Intent) (is_intent : IsIn
   laws facts =
       record {
         steps = (intent_stands net intent is_intent).1;
+        sid_cost = sid_costs_few intent.prefer;
         sids_count = λ position within. let few = sids_few net keeps intent position in omega arith;
         sids_order = λ position within. ascends_from net intent (sids_of net intent position) (are_sids net keeps intent position).order;
         shapes = λ n is_sid. shape_is net keeps facts n;

@@ -6,6 +6,7 @@ use Rattle.list_pack.specs.LegsValue.{LegsValue}
 use Rattle.net_model.specs.Network.{Network}
 use Rattle.walk_rules.specs.Walk.{free_walk_of as walk_of}
 use Rattle.intent_reader.specs.declared.intent.Intent.{Intent}
+use Rattle.intent_reader.specs.Preferences.{sid_cost_of}
 use Rattle.leg_table.specs.PositionSids.{is_binding, sids_of}
 use Rattle.leg_table.specs.StrictLegs.{place_from}
 use Rattle.leg_table.specs.StrictLegsTerms.{leg_of, finish_of}
@@ -25,6 +26,7 @@ legs_value net intent =
       leg = leg_of net intent;
       finish = finish_of net intent;
       stays = stays_of net;
+      sid_cost = sid_cost_of intent.prefer;
     }
 
 -- the legs of strict steps: a packet goes on from the headend, or from the SID that was executed last, and no SID may bind a policy

@@ -188,6 +188,10 @@ impl<'a> Legs for LooseLegs<'a> {
         self.count()
     }
 
+    fn sid_cost(&self) -> u32 {
+        self.intent.prefer.sid_cost()
+    }
+
     fn sids_at(&self, position: u32) -> &[u32] {
         self.row(position)
     }

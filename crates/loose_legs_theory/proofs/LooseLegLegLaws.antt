@@ -13,6 +13,7 @@ use Rattle.walk_rules.specs.declared.place.Place.{Place}
 use Rattle.walk_rules.specs.Walk.{free_walk_of}
 use Rattle.walk_rules.proofs.PublicLaws.{way_into}
 use Rattle.intent_reader.specs.declared.intent.Intent.{Intent}
+use Rattle.intent_reader.proofs.PublicLaws.{sid_costs_few}
 use Rattle.list_pack.specs.declared.types.Leg.{Leg}
 use Rattle.list_pack.specs.LegsValueTerms.{IsFinishOf, IsLegOf, IsVia, KeepsLaws, comes_to}
 use Rattle.intent_traces.specs.declared.trace_steps.TraceStep.{TraceStep}
@@ -238,6 +239,7 @@ module _ (net : Network) (keeps : Keeps net) (intent : Intent) (steps : List Tra
   loose_laws facts few =
       record {
         steps = are.few;
+        sid_cost = sid_costs_few intent.prefer;
         sids_count = λ position within. (let l = sids_few net keeps intent steps position in omega (arith, l, few));
         sids_order = λ position within. sids_ordered net keeps intent steps position;
         shapes = λ n is_sid. shape_is net keeps facts n;

@@ -2,6 +2,7 @@
 use Rattle.std.specs.Prelude.{ℕ, zero, suc, Bool, if◌then◌else◌, List, [], ◌∷◌, length}
 use Rattle.net_model.specs.Network.{Network}
 use Rattle.intent_reader.specs.declared.intent.Intent.{Intent}
+use Rattle.intent_reader.specs.Preferences.{sid_cost_of}
 use Rattle.list_pack.specs.ListOrder.{lex_before}
 use Rattle.list_pack.specs.LegsValue.{LegsValue}
 use Rattle.intent_traces.specs.declared.trace_steps.TraceStep.{TraceStep}
@@ -45,4 +46,5 @@ loose_legs_value net intent steps =
       leg = leg_of net intent steps;
       finish = finish_of net intent steps;
       stays = stays_of net;
+      sid_cost = sid_cost_of intent.prefer;
     }
