@@ -37,28 +37,29 @@ module _ (net : Network) (Realizes Executes Others Also : OfLists) (real : AreAl
     executes = (all list _).1 w.executes;
   }
 
-  chosen_alike : (list : List Container) (need : ℕ) → IsChosen net Realizes Executes list need → IsChosen net Others Also list need
-  chosen_alike list need c = record {
+  chosen_alike : (sid_cost : ℕ) (list : List Container) (need : ℕ) → IsChosen sid_cost net Realizes Executes list need → IsChosen sid_cost net Others Also list need
+  chosen_alike sid_cost list need c = record {
     whole = whole_alike list need c.whole;
     least = λ other n legal its. c.least other n legal ((real other n).1 its);
     first = λ other whole same. c.first other (whole_back other need whole) same;
   }
 
-  pub says_alike : (verdict : Verdict) → Says net Realizes Executes verdict → Says net Others Also verdict
-  says_alike (Least containers need) pair = record {
-    list = pair.list;
-    whole = whole_alike pair.list need pair.whole;
-    count = pair.count;
-    least = λ other n legal its. pair.least other n legal ((real other n).1 its);
+  pub says_alike : (sid_cost : ℕ) (verdict : Verdict) → Says sid_cost net Realizes Executes verdict → Says sid_cost net Others Also verdict
+  says_alike sid_cost (Least containers sids need) is = record {
+    list = is.list;
+    whole = whole_alike is.list need is.whole;
+    costs = is.costs;
+    least = λ other n legal its. is.least other n legal ((real other n).1 its);
   }
-  says_alike NoList none = λ list need legal its. none list need legal ((real list need).1 its)
-  says_alike (No line why) says = tt
+  says_alike sid_cost NoList none = λ list need legal its. none list need legal ((real list need).1 its)
+  says_alike sid_cost (No line why) says = tt
 
   module _ (v : LegsValue) where
     found_alike : (reduced : Bool) (c : Compiled) → IsFound v net Realizes Executes reduced c → IsFound v net Others Also reduced c
     found_alike reduced c found = record {
-      chosen = chosen_alike c.list c.need found.chosen;
+      chosen = chosen_alike v.sid_cost c.list c.need found.chosen;
       containers = found.containers;
+      sids = found.sids;
       header = found.header;
       fewest = λ other n legal its. found.fewest other n legal ((real other n).1 its);
       path = found.path;
@@ -98,15 +99,15 @@ module _ (net : Network) (Realizes Executes Others Also : OfLists) (real : AreAl
     answers_alike intent (Err faults.NoMemory) a = tt
 
 -- of the lists that hand over even one packet
-module _ (net : Network) (Hands Others : OfLists) (alike : AreAlike Hands Others) where
-  least_alike : (reduced : Bool) (c : Compiled) → IsLeastOver net Hands reduced c → IsLeastOver net Others reduced c
+module _ (sid_cost : ℕ) (net : Network) (Hands Others : OfLists) (alike : AreAlike Hands Others) where
+  least_alike : (reduced : Bool) (c : Compiled) → IsLeastOver sid_cost net Hands reduced c → IsLeastOver sid_cost net Others reduced c
   least_alike reduced c is = record {
     fewest = λ list hop legal its. is.fewest list hop legal ((alike list hop).1 its);
     least = λ list hop legal its. is.least list hop legal ((alike list hop).1 its);
   }
 
-  pub none_less_alike : (reduced : Bool) (answer : Result Compiled CompileFault) → NoneLessOver net Hands reduced answer
-      → NoneLessOver net Others reduced answer
+  pub none_less_alike : (reduced : Bool) (answer : Result Compiled CompileFault) → NoneLessOver sid_cost net Hands reduced answer
+      → NoneLessOver sid_cost net Others reduced answer
   none_less_alike reduced (Ok c) is = least_alike reduced c is
   none_less_alike reduced (Err (faults.NotFlat why)) is = tt
   none_less_alike reduced (Err (faults.NoList s)) none = λ list hop legal its. none list hop legal ((alike list hop).1 its)
@@ -114,7 +115,7 @@ module _ (net : Network) (Hands Others : OfLists) (alike : AreAlike Hands Others
   none_less_alike reduced (Err (faults.HopLimit c)) is = least_alike reduced c is
   none_less_alike reduced (Err faults.NoMemory) is = tt
 
-  pub over_alike : (verdict : Verdict) → SaysOver net Hands verdict → SaysOver net Others verdict
-  over_alike (Least containers need) least = λ list hop legal its. least list hop legal ((alike list hop).1 its)
+  pub over_alike : (verdict : Verdict) → SaysOver sid_cost net Hands verdict → SaysOver sid_cost net Others verdict
+  over_alike (Least containers sids need) least = λ list hop legal its. least list hop legal ((alike list hop).1 its)
   over_alike NoList none = λ list hop legal its. none list hop legal ((alike list hop).1 its)
   over_alike (No line why) says = tt

@@ -7,13 +7,14 @@ use Rattle.net_flatness.specs.Flat.{IsFlat}
 use Rattle.intent_reader.specs.IntentRules.{has_reach}
 use Rattle.intent_reader.specs.IntentRulesTerms.{IsIntent}
 use Rattle.intent_reader.specs.declared.intent.Intent.{Intent}
+use Rattle.intent_reader.specs.Preferences.{sid_cost_of}
 use Rattle.intent_reader.proofs.IntentKeepsLemmas.{keeps_from_intent}
 use Rattle.list_pack.specs.declared.types.Solution.{Solution}
 use Rattle.list_pack.specs.Least.{IsSolution}
 use Rattle.list_pack.specs.Meaning.{Means}
 use Rattle.list_pack.specs.LegsValueTerms.{KeepsLaws}
 use Rattle.list_certificate.specs.declared.certificate_types.Verdict.{Verdict}
-use Rattle.list_certificate.specs.declared.certificate_types.Verdict.TheVariants.{Least, NoList}
+use Rattle.list_certificate.specs.declared.certificate_types.Verdict.TheVariants.{NoList}
 use Rattle.list_certificate.specs.CertificateReadingTerms.{IsNetworkOf}
 use Rattle.leg_table.proofs.FlatNets.{flat_facts}
 use Rattle.leg_table.proofs.PublicLaws.{strict_laws}
@@ -24,6 +25,7 @@ use Rattle.loose_legs.proofs.StepLaws.{are_steps}
 use Rattle.path_compiler.specs.declared.compiled.Compiled.{Compiled}
 use Rattle.path_compiler.specs.declared.compiled.CompileFault.{CompileFault}
 use Rattle.path_compiler.specs.declared.compiled.CompileFault.TheVariants as faults
+use Rattle.path_compiler.specs.CheckedTerms.{least_of}
 use Rattle.path_compiler.specs.Compiled.{IsFound}
 use Rattle.path_compiler.proofs.PublicLaws.{answers_same, certifies_by, says_over, verdict_found, verdict_none}
 use Rattle.intent_compiler.specs.CompilerAnswers.{IntentAnswers}
@@ -63,9 +65,17 @@ module _ (net : Network) (intent : Intent) (network : IsNetwork net) (flat : IsF
       let s = means_for.sids n is_sid in
       record { sid = s.0; here = s.1; prefix = s.2.prefix; node = sym s.3 }
 
+cost_if : (b : Bool) (net : Network) (intent : Intent) → (legs_if b net intent).sid_cost ≡ sid_cost_of intent.prefer
+cost_if true net intent = refl
+cost_if false net intent = refl
+
+-- a SID costs what the intent prefers
+pub cost_for : (net : Network) (intent : Intent) → (intent_legs_value net intent).sid_cost ≡ sid_cost_of intent.prefer
+cost_for net intent = cost_if (has_reach intent.steps) net intent
+
 pub found_for : (net : Network) (intent : Intent) (reduced : Bool) (c : Compiled) → IsNetwork net → IsFlat net → IsIntent net intent
     → IsFound (intent_legs_value net intent) net (ListRealizesFor net intent) (ListExecutesFor net intent) reduced c
-    → CertifiesFor net intent c.solution (Least c.containers c.need)
+    → CertifiesFor net intent c.solution (least_of (intent_legs_value net intent) c)
 found_for net intent reduced c network flat is found =
     verdict_found (intent_legs_value net intent) net (ListRealizesFor net intent) (ListExecutesFor net intent) (ListHandsFor net intent)
     (means_for net intent network flat is) (laws_for net intent network flat is) reduced c found

@@ -2,6 +2,7 @@
 use Rattle.std.proofs.Common.{◌≡◌, ◌↔◌, length, slice_get, Result, sym, ◌∙◌, subst}
 use Rattle.net_model.specs.Network.{Network}
 use Rattle.intent_reader.specs.declared.intent.Intent.{Intent}
+use Rattle.intent_reader.specs.Preferences.{sid_cost_of}
 use Rattle.list_pack.specs.SidLists.{list_values}
 use Rattle.list_pack.specs.LegsValue.{LegsValue}
 use Rattle.list_certificate.specs.declared.certificate_types.Verdict.{Verdict}
@@ -49,6 +50,7 @@ module _ (net : Network) (intent : Intent) (none : BindsNothing net) where
     leg = λ position via next. leg_strict net none intent next position via i;
     finish = λ position via next. finish_strict net none intent next position via i;
     stays = stays_of net;
+    sid_cost = sid_cost_of intent.prefer;
   }
 
   own_realizes : AreAlike (OwnListRealizes net intent) (ListRealizes net intent)
@@ -85,25 +87,25 @@ module _ (net : Network) (intent : Intent) (none : BindsNothing net) where
   )
 
   own_none_less : (answer : Result Compiled CompileFault)
-      → NoneLessOver net (OwnListHands net intent) intent.reduced answer ↔ NoLessHandsOver net intent answer
+      → NoneLessOver (sid_cost_of intent.prefer) net (OwnListHands net intent) intent.reduced answer ↔ NoLessHandsOver net intent answer
   own_none_less answer = (
-    none_less_alike net (OwnListHands net intent) (ListHands net intent) own_hands intent.reduced answer,
-    none_less_alike net (ListHands net intent) (OwnListHands net intent) (turned _ _ own_hands) intent.reduced answer,
+    none_less_alike (sid_cost_of intent.prefer) net (OwnListHands net intent) (ListHands net intent) own_hands intent.reduced answer,
+    none_less_alike (sid_cost_of intent.prefer) net (ListHands net intent) (OwnListHands net intent) (turned _ _ own_hands) intent.reduced answer,
   )
 
-  own_says : (verdict : Verdict) → Says net (OwnListRealizes net intent) (OwnListExecutes net intent) verdict
-      ↔ Says net (ListRealizes net intent) (ListExecutes net intent) verdict
+  own_says : (verdict : Verdict) → Says (sid_cost_of intent.prefer) net (OwnListRealizes net intent) (OwnListExecutes net intent) verdict
+      ↔ Says (sid_cost_of intent.prefer) net (ListRealizes net intent) (ListExecutes net intent) verdict
   own_says verdict = (
     says_alike net (OwnListRealizes net intent) (OwnListExecutes net intent) (ListRealizes net intent) (ListExecutes net intent)
-        own_realizes own_executes verdict,
+        own_realizes own_executes (sid_cost_of intent.prefer) verdict,
     says_alike net (ListRealizes net intent) (ListExecutes net intent) (OwnListRealizes net intent) (OwnListExecutes net intent)
-        (turned _ _ own_realizes) (turned _ _ own_executes) verdict,
+        (turned _ _ own_realizes) (turned _ _ own_executes) (sid_cost_of intent.prefer) verdict,
   )
 
-  own_handing : (verdict : Verdict) → SaysOver net (OwnListHands net intent) verdict ↔ SaysOfHanding net intent verdict
+  own_handing : (verdict : Verdict) → SaysOver (sid_cost_of intent.prefer) net (OwnListHands net intent) verdict ↔ SaysOfHanding net intent verdict
   own_handing verdict = (
-    over_alike net (OwnListHands net intent) (ListHands net intent) own_hands verdict,
-    over_alike net (ListHands net intent) (OwnListHands net intent) (turned _ _ own_hands) verdict,
+    over_alike (sid_cost_of intent.prefer) net (OwnListHands net intent) (ListHands net intent) own_hands verdict,
+    over_alike (sid_cost_of intent.prefer) net (ListHands net intent) (OwnListHands net intent) (turned _ _ own_hands) verdict,
   )
 
   -- ---- of the intent, none of whose steps is to reach a node
@@ -128,7 +130,7 @@ module _ (net : Network) (intent : Intent) (none : BindsNothing net) where
     none_less_strict answer = joined (none_less_own net intent reach answer) (own_none_less answer)
 
     pub says_strict : (verdict : Verdict)
-        → SaysFor net intent verdict ↔ Says net (ListRealizes net intent) (ListExecutes net intent) verdict
+        → SaysFor net intent verdict ↔ Says (sid_cost_of intent.prefer) net (ListRealizes net intent) (ListExecutes net intent) verdict
     says_strict verdict = joined (says_own net intent reach verdict) (own_says verdict)
 
     pub handing_strict : (verdict : Verdict) → SaysOfHandingFor net intent verdict ↔ SaysOfHanding net intent verdict

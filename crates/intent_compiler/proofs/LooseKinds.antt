@@ -3,6 +3,7 @@ use Rattle.std.proofs.Common.{◌≡◌, ◌↔◌, ℕ, Bool, true, false, List
 use Rattle.net_model.specs.Network.{Network}
 use Rattle.intent_reader.specs.declared.intent.Intent.{Intent}
 use Rattle.intent_reader.specs.IntentRules.{has_reach}
+use Rattle.intent_reader.specs.Preferences.{sid_cost_of}
 use Rattle.list_pack.specs.declared.types.Container.{Container}
 use Rattle.list_certificate.specs.declared.certificate_types.Verdict.{Verdict}
 use Rattle.binding_spec.specs.BindingRealizes.{OwnListExecutes, OwnListRealizes}
@@ -31,13 +32,13 @@ module _ (net : Network) (intent : Intent) where
   AnswersIf answer b = AnswersOver (legs_if b net intent) net (RealizesIf b net intent) (ExecutesIf b net intent) intent answer
 
   abbrev NoneLessIf : Result Compiled CompileFault → Bool → Type 0
-  NoneLessIf answer b = NoneLessOver net (HandsIf b net intent) intent.reduced answer
+  NoneLessIf answer b = NoneLessOver (legs_if b net intent).sid_cost net (HandsIf b net intent) intent.reduced answer
 
   abbrev SaysIf : Verdict → Bool → Type 0
-  SaysIf verdict b = Says net (RealizesIf b net intent) (ExecutesIf b net intent) verdict
+  SaysIf verdict b = Says (legs_if b net intent).sid_cost net (RealizesIf b net intent) (ExecutesIf b net intent) verdict
 
   abbrev SaysOfHandingIf : Verdict → Bool → Type 0
-  SaysOfHandingIf verdict b = SaysOver net (HandsIf b net intent) verdict
+  SaysOfHandingIf verdict b = SaysOver (legs_if b net intent).sid_cost net (HandsIf b net intent) verdict
 
   module _ (none : ReachesNothing intent) where
     pub legs_own : intent_legs_value net intent ≡ binding_legs_value net intent
@@ -57,14 +58,14 @@ module _ (net : Network) (intent : Intent) where
     answers_own answer = either_bool (AnswersIf answer) (has_reach intent.steps) false none
 
     pub none_less_own : (answer : Result Compiled CompileFault)
-        → NoneLessFor net intent answer ↔ NoneLessOver net (OwnListHands net intent) intent.reduced answer
+        → NoneLessFor net intent answer ↔ NoneLessOver (sid_cost_of intent.prefer) net (OwnListHands net intent) intent.reduced answer
     none_less_own answer = either_bool (NoneLessIf answer) (has_reach intent.steps) false none
 
     pub says_own : (verdict : Verdict)
-        → SaysFor net intent verdict ↔ Says net (OwnListRealizes net intent) (OwnListExecutes net intent) verdict
+        → SaysFor net intent verdict ↔ Says (sid_cost_of intent.prefer) net (OwnListRealizes net intent) (OwnListExecutes net intent) verdict
     says_own verdict = either_bool (SaysIf verdict) (has_reach intent.steps) false none
 
-    pub handing_own : (verdict : Verdict) → SaysOfHandingFor net intent verdict ↔ SaysOver net (OwnListHands net intent) verdict
+    pub handing_own : (verdict : Verdict) → SaysOfHandingFor net intent verdict ↔ SaysOver (sid_cost_of intent.prefer) net (OwnListHands net intent) verdict
     handing_own verdict = either_bool (SaysOfHandingIf verdict) (has_reach intent.steps) false none
 
   module _ (some : has_reach intent.steps ≡ true) where
@@ -81,13 +82,13 @@ module _ (net : Network) (intent : Intent) where
     answers_loose answer = either_bool (AnswersIf answer) (has_reach intent.steps) true some
 
     pub none_less_loose : (answer : Result Compiled CompileFault)
-        → NoneLessFor net intent answer ↔ NoneLessOver net (LooseListHands net intent (trace_steps intent)) intent.reduced answer
+        → NoneLessFor net intent answer ↔ NoneLessOver (sid_cost_of intent.prefer) net (LooseListHands net intent (trace_steps intent)) intent.reduced answer
     none_less_loose answer = either_bool (NoneLessIf answer) (has_reach intent.steps) true some
 
     pub says_loose : (verdict : Verdict) → SaysFor net intent verdict
-        ↔ Says net (LooseListRealizes net intent (trace_steps intent)) (LooseListExecutes net intent (trace_steps intent)) verdict
+        ↔ Says (sid_cost_of intent.prefer) net (LooseListRealizes net intent (trace_steps intent)) (LooseListExecutes net intent (trace_steps intent)) verdict
     says_loose verdict = either_bool (SaysIf verdict) (has_reach intent.steps) true some
 
     pub handing_loose : (verdict : Verdict)
-        → SaysOfHandingFor net intent verdict ↔ SaysOver net (LooseListHands net intent (trace_steps intent)) verdict
+        → SaysOfHandingFor net intent verdict ↔ SaysOver (sid_cost_of intent.prefer) net (LooseListHands net intent (trace_steps intent)) verdict
     handing_loose verdict = either_bool (SaysOfHandingIf verdict) (has_reach intent.steps) true some

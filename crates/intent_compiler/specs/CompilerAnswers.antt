@@ -21,10 +21,10 @@ IsCompiledFor net intent c =
 
 -- what an answer says of them
 abbrev pub NoneLessFor : Network → Intent → Result Compiled CompileFault → Type 0
-NoneLessFor net intent answer = NoneLessOver net (ListHandsFor net intent) intent.reduced answer
+NoneLessFor net intent answer = NoneLessOver (intent_legs_value net intent).sid_cost net (ListHandsFor net intent) intent.reduced answer
 
 -- ---- the lists that hand over even one packet of the intent
 
 -- the chosen list is the least of these
 abbrev pub IsLeastFor : Network → Intent → Compiled → Type 0
-IsLeastFor net intent c = IsLeastOver net (ListHandsFor net intent) intent.reduced c
+IsLeastFor net intent c = IsLeastOver (intent_legs_value net intent).sid_cost net (ListHandsFor net intent) intent.reduced c

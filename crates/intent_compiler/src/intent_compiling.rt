@@ -25,8 +25,9 @@ use std::alloc::Global;
 /// each SID is executed at one node and after one number of finished steps, whichever next hop is
 /// chosen. `NotFlat` comes exactly where the network is not flat, before all other answers. Of the
 /// legal lists that hand over even one inner packet at one hop limit so, none needs fewer header
-/// bytes than the list that is found, nor has fewer containers, or as many at a hop limit that is
-/// not above its need; where none is found there are none of them.
+/// bytes than the list that is found, nor has fewer containers, or as many and, where the intent
+/// prefers few SIDs, fewer SIDs, or as many of both at a hop limit that is not above its need; where
+/// none is found there are none of them.
 pub fn compile(alloc: Global, net: &Net, intent: &Intent) -> Result<Compiled, CompileFault>
     requires whole { net.now.hidden ≡ [] }
     requires intent { IsIntent net.now intent.now }
@@ -45,8 +46,8 @@ pub fn compile(alloc: Global, net: &Net, intent: &Intent) -> Result<Compiled, Co
 }
 
 /// What a certificate shows over the legs of an intent, by `checked_over`: the first of its tests
-/// that fails, or the least pair of containers and need of a legal list that realizes the intent,
-/// or that none does. It takes no memory.
+/// that fails, or the least cost of a legal list that realizes the intent, by its preference, or
+/// that none does. It takes no memory.
 pub fn check(legs: &IntentLegs<'_>, cert: &Cert) -> Verdict
     requires { IsCert (intent_legs_value legs.now.net legs.now.intent) cert.now }
     ensures verdict { IsVerdict (intent_legs_value legs.now.net legs.now.intent) cert.now result }

@@ -126,6 +126,14 @@ impl<'a> Legs for IntentLegs<'a> {
         self.count()
     }
 
+    fn sid_cost(&self) -> u32 {
+        match &self.kind {
+            Kind::Strict(legs) => legs.sid_cost(),
+            Kind::Binding(legs) => legs.sid_cost(),
+            Kind::Loose(legs) => legs.sid_cost(),
+        }
+    }
+
     fn sids_at(&self, position: u32) -> &[u32] {
         match &self.kind {
             Kind::Strict(legs) => legs.sids_at(position),

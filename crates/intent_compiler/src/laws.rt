@@ -8,13 +8,14 @@ ghost use Rattle.net_flatness.specs.Flat.{IsFlat};
 ghost use Rattle.intent_reader.specs.IntentRules.{has_reach};
 ghost use Rattle.intent_reader.specs.IntentRulesTerms.{IsIntent};
 ghost use Rattle.intent_reader.specs.declared.intent.Intent.{Intent};
+ghost use Rattle.intent_reader.specs.Preferences.{sid_cost_of};
 ghost use Rattle.list_pack.specs.declared.types.Container.{Container};
 ghost use Rattle.list_pack.specs.declared.types.Solution.{Solution};
 ghost use Rattle.list_pack.specs.Least.{IsSolution};
 ghost use Rattle.list_pack.specs.Meaning.{Means};
 ghost use Rattle.list_pack.specs.LegsValueTerms.{KeepsLaws};
 ghost use Rattle.list_certificate.specs.declared.certificate_types.Verdict.{Verdict};
-ghost use Rattle.list_certificate.specs.declared.certificate_types.Verdict.TheVariants.{Least, NoList};
+ghost use Rattle.list_certificate.specs.declared.certificate_types.Verdict.TheVariants.{NoList};
 ghost use Rattle.list_certificate.specs.CertificateReadingTerms.{IsNetworkOf};
 ghost use Rattle.leg_table.specs.Realizes.{ListRealizes};
 ghost use Rattle.leg_table.specs.RealizesTerms.{ListExecutes, ListHands};
@@ -31,7 +32,7 @@ ghost use Rattle.path_compiler.specs.declared.compiled.Compiled.{Compiled};
 ghost use Rattle.path_compiler.specs.declared.compiled.CompileFault.{CompileFault};
 ghost use Rattle.path_compiler.specs.declared.compiled.CompileFault.TheVariants as faults;
 ghost use Rattle.path_compiler.specs.Checked.{Says, SaysOver};
-ghost use Rattle.path_compiler.specs.CheckedTerms.{SaysOfHanding};
+ghost use Rattle.path_compiler.specs.CheckedTerms.{SaysOfHanding, least_of};
 ghost use Rattle.path_compiler.specs.Compiled.{AnswersOver, IsFound, NoneLessOver};
 ghost use Rattle.path_compiler.specs.CompiledTerms.{CompileAnswers, NoLessHandsOver};
 ghost use Rattle.intent_compiler.specs.CompilerAnswers.{IntentAnswers, NoneLessFor};
@@ -44,7 +45,8 @@ ghost use Rattle.intent_compiler.specs.IntentVerdicts.{SaysFor, SaysOfHandingFor
 ghost use Rattle.intent_compiler.specs.IntentVerdictsTerms.{CertifiesAnswerFor, CertifiesFor};
 
 /// In a flat network the legs of an intent keep the laws of legs, their SIDs are SIDs of the
-/// network, and they mean the legal lists that realize the intent.
+/// network, and they mean the legal lists that realize the intent. A SID costs what the intent
+/// prefers.
 pub fn the_legs_of_an_intent_mean_its_lists()
     ensures laws { (net : Network) (intent : Intent)
         → IsNetwork net → IsFlat net → IsIntent net intent
@@ -56,18 +58,21 @@ pub fn the_legs_of_an_intent_mean_its_lists()
     ensures sids { (net : Network) (intent : Intent)
         → IsNetwork net → IsFlat net → IsIntent net intent
         → IsNetworkOf net (intent_legs_value net intent) }
+    ensures sid_cost { (net : Network) (intent : Intent)
+        → (intent_legs_value net intent).sid_cost ≡ sid_cost_of intent.prefer }
 {}
 
 /// In a flat network the certificate of what the search found over the legs of an intent, wherever
-/// its head stands, is judged `Least` with exactly the chosen list's containers and need, in either
-/// form of the header, and `NoList` where no path was found. So it is for each answer of `compile`,
+/// its head stands, is judged `Least` with exactly the chosen list's containers, SIDs and need, in
+/// either form of the header, and `NoList` where no path was found. So it is for each answer of `compile`,
 /// also where the least list is too long or its need not below the hop limit.
 pub fn a_certificate_tells_what_was_compiled()
     ensures found { (net : Network) (intent : Intent) (reduced : Bool) (c : Compiled)
         → IsNetwork net → IsFlat net → IsIntent net intent
         → IsFound (intent_legs_value net intent) net (ListRealizesFor net intent)
         (ListExecutesFor net intent) reduced c
-        → CertifiesFor net intent c.solution (Least c.containers c.need) }
+        → CertifiesFor net intent c.solution
+        (least_of (intent_legs_value net intent) c) }
     ensures none { (net : Network) (intent : Intent) (s : Solution)
         → IsNetwork net → IsFlat net → IsIntent net intent
         → IsSolution (intent_legs_value net intent) s → s.path ≡ []
@@ -86,7 +91,7 @@ pub fn an_intent_has_one_answer()
 {}
 
 /// What a verdict says of the legal lists that realize an intent holds in a flat network of those
-/// too that hand over even one inner packet at one hop limit: `Least` gives the least pair of
+/// too that hand over even one inner packet at one hop limit: `Least` gives the least cost of
 /// these, with a hop limit in the place of a need one higher, and with `NoList` there are none.
 pub fn a_verdict_speaks_of_lists_that_hand_over()
     ensures { (net : Network) (intent : Intent) (verdict : Verdict)
@@ -131,14 +136,14 @@ pub fn without_a_reach_answers_are_of_own_hand_overs()
     ensures none_less { (net : Network) (intent : Intent) (answer : Result Compiled CompileFault)
         → ReachesNothing intent
         → NoneLessFor net intent answer
-        ↔ NoneLessOver net (OwnListHands net intent) intent.reduced answer }
+        ↔ NoneLessOver (sid_cost_of intent.prefer) net (OwnListHands net intent) intent.reduced answer }
     ensures says { (net : Network) (intent : Intent) (verdict : Verdict) → ReachesNothing intent
         → SaysFor net intent verdict
-        ↔ Says net (OwnListRealizes net intent) (OwnListExecutes net intent) verdict }
+        ↔ Says (sid_cost_of intent.prefer) net (OwnListRealizes net intent) (OwnListExecutes net intent) verdict }
     ensures handing { (net : Network) (intent : Intent) (verdict : Verdict)
         → ReachesNothing intent
         → SaysOfHandingFor net intent verdict
-        ↔ SaysOver net (OwnListHands net intent) verdict }
+        ↔ SaysOver (sid_cost_of intent.prefer) net (OwnListHands net intent) verdict }
 {}
 
 /// Where a step of an intent is loose, all of this is over the legs along such steps and
@@ -156,16 +161,16 @@ pub fn with_a_reach_answers_are_loose()
     ensures none_less { (net : Network) (intent : Intent) (answer : Result Compiled CompileFault)
         → has_reach intent.steps ≡ true
         → NoneLessFor net intent answer
-        ↔ NoneLessOver net (LooseListHands net intent (trace_steps intent)) intent.reduced answer }
+        ↔ NoneLessOver (sid_cost_of intent.prefer) net (LooseListHands net intent (trace_steps intent)) intent.reduced answer }
     ensures says { (net : Network) (intent : Intent) (verdict : Verdict)
         → has_reach intent.steps ≡ true
         → SaysFor net intent verdict
-        ↔ Says net (LooseListRealizes net intent (trace_steps intent))
+        ↔ Says (sid_cost_of intent.prefer) net (LooseListRealizes net intent (trace_steps intent))
         (LooseListExecutes net intent (trace_steps intent)) verdict }
     ensures handing { (net : Network) (intent : Intent) (verdict : Verdict)
         → has_reach intent.steps ≡ true
         → SaysOfHandingFor net intent verdict
-        ↔ SaysOver net (LooseListHands net intent (trace_steps intent)) verdict }
+        ↔ SaysOver (sid_cost_of intent.prefer) net (LooseListHands net intent (trace_steps intent)) verdict }
 {}
 
 /// Where no step of an intent is to reach a node and the network has no binding SID, all of
@@ -193,7 +198,7 @@ pub fn without_binding_sids_answers_are_strict()
     ensures says { (net : Network) (intent : Intent) (verdict : Verdict)
         → ReachesNothing intent → BindsNothing net
         → SaysFor net intent verdict
-        ↔ Says net (ListRealizes net intent) (ListExecutes net intent) verdict }
+        ↔ Says (sid_cost_of intent.prefer) net (ListRealizes net intent) (ListExecutes net intent) verdict }
     ensures handing { (net : Network) (intent : Intent) (verdict : Verdict)
         → ReachesNothing intent → BindsNothing net
         → SaysOfHandingFor net intent verdict ↔ SaysOfHanding net intent verdict }

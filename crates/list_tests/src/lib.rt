@@ -4,8 +4,9 @@
 //!
 //! `legal_list_tests` has lists by their paths and segments, `list_pack_tests` rooms and costs,
 //! `leg_table_tests` tables of legs, of SIDs, positions and numbers that there aren't too, and
-//! `intent_compiler_tests` the laws of all legs at those of an intent; `choice_graph_tests` has a graph
-//! that was gone through by hand.
+//! `intent_compiler_tests` the laws of all legs at those of an intent, `prefer_tests` how many SIDs a
+//! compiled list has by the intent's preference; `choice_graph_tests` has a graph that was gone through
+//! by hand.
 #![tactic(auto)]
 
 #[cfg(test)]
@@ -18,3 +19,5 @@ mod leg_table_tests;
 mod legal_list_tests;
 #[cfg(test)]
 mod list_pack_tests;
+#[cfg(test)]
+mod prefer_tests;

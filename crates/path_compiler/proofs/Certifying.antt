@@ -1,5 +1,5 @@
 -- The certificate of what the search found is judged as the list was.
-use Rattle.std.proofs.Common.{◌≡◌, ℕ, Bool, List, [], ◌∷◌, length, Some, Result, Ok, Err, IsOk, refl, sym, ◌∙◌, ap, subst}
+use Rattle.std.proofs.Common.{◌≡◌, ℕ, ◌*◌, Bool, List, [], ◌∷◌, Some, Result, Ok, Err, IsOk, refl, sym, ◌∙◌, subst}
 use Rattle.net_model.specs.Network.{Network}
 use Rattle.net_flatness.specs.Flat.{flatness_of, IsFlat}
 use Rattle.net_flatness.specs.declared.not_flat.NotFlat.{NotFlat}
@@ -24,39 +24,41 @@ use Rattle.path_compiler.specs.declared.compiled.Compiled.{Compiled}
 use Rattle.list_pack.proofs.PublicLaws.{at_most_both}
 use Rattle.path_compiler.specs.declared.compiled.CompileFault.{CompileFault}
 use Rattle.path_compiler.specs.declared.compiled.CompileFault.TheVariants as faults
-use Rattle.path_compiler.specs.CheckedTerms.{CertifiesAnswerOver, CertifiesOver}
+use Rattle.path_compiler.specs.CheckedTerms.{CertifiesAnswerOver, CertifiesOver, least_of}
 use Rattle.path_compiler.specs.Compiled.{AnswersOver, IsChosen, IsFound}
+use Rattle.path_compiler.specs.ListCosts.{list_cost}
 use Rattle.path_compiler.proofs.CompilerAnswering.{none_realizes}
-use Rattle.path_compiler.proofs.CompilerChecking.{under_list}
+use Rattle.path_compiler.proofs.ListCosting.{found_costs, list_costs, under_list}
 
 module _ (v : LegsValue) (net : Network) (Realizes Executes Hands : List Container → ℕ → Type 0)
     (means : Means v net Realizes Executes Hands)
     (laws : KeepsLaws v) where
   -- the least cost of a path is that of a chosen list
-  least_chosen : (list : List Container) (need : ℕ) (cost : Cost) → IsChosen net Realizes Executes list need → IsLeast v start (Some cost)
-      → cost ≡ cost_with (length list) need
+  least_chosen : (list : List Container) (need : ℕ) (cost : Cost) → IsChosen v.sid_cost net Realizes Executes list need
+      → IsLeast v start (Some cost) → cost ≡ list_cost v.sid_cost list need
   least_chosen list need cost chosen least =
-      let down : AtMost cost (cost_with (length list) need)
-      = under_list v net Realizes Executes Hands means (Some cost) least list need chosen.whole.legal chosen.whole.realizes in
+      let down : AtMost cost (list_cost v.sid_cost list need)
+      = under_list v net Realizes Executes Hands means (Some cost) least.least list need chosen.whole.legal chosen.whole.realizes in
       let path = least.attains in
       let made = means.lists path.0 cost path.1 in
-      let up : AtMost (cost_with (length list) need) cost
-      = subst (λ (n : ℕ). AtMost (cost_with (length list) need) (cost_with n cost.hops)) made.of_path.count
+      let up : AtMost (list_cost v.sid_cost list need) cost
+      = subst (λ (c : Cost). AtMost (list_cost v.sid_cost list need) c) (list_costs v net path.0 cost path.1 made.of_path)
       (chosen.least _ cost.hops made.legal made.realizes) in
-      at_most_both cost (cost_with (length list) need) down up
+      at_most_both cost (list_cost v.sid_cost list need) down up
 
   module _ (reduced : Bool) (c : Compiled) (found : IsFound v net Realizes Executes reduced c) (head : ℕ) where
     least_by : (path : List PathStep) → c.solution.path ≡ path → IsAcceptedBy v head c.solution path
-        → IsVerdict v (certificate_of head c.solution) (Least c.containers c.need)
+        → IsVerdict v (certificate_of head c.solution) (least_of v c)
     least_by [] is accepted =
         absurd (none_realizes v net Realizes Executes Hands means c.solution found.solution is c.list c.need found.chosen.whole.legal
         found.chosen.whole.realizes)
     least_by (p ∷ ps) is accepted =
-        let same : accepted.0 ≡ cost_with c.containers c.need
-        = least_chosen c.list c.need accepted.0 found.chosen accepted.1.least ∙ ap (λ (n : ℕ). cost_with n c.need) (sym found.containers) in
-        subst (λ (cost : Cost). IsVerdict v (certificate_of head c.solution) (Least cost.containers cost.hops)) same accepted.1.verdict
+        let same : accepted.0 ≡ cost_with c.containers (v.sid_cost * c.sids) c.need
+        = least_chosen c.list c.need accepted.0 found.chosen accepted.1.least ∙ found_costs v net Realizes Executes reduced c found in
+        subst (λ (cost : Cost). IsVerdict v (certificate_of head c.solution) (Least cost.containers cost.sids cost.hops)) same
+        accepted.1.verdict
 
-    pub verdict_found : IsVerdict v (certificate_of head c.solution) (Least c.containers c.need)
+    pub verdict_found : IsVerdict v (certificate_of head c.solution) (least_of v c)
     verdict_found = least_by c.solution.path refl (solution_accepted v head c.solution laws found.solution)
 
 pub verdict_none : (v : LegsValue) (s : Solution) (head : ℕ) → KeepsLaws v → IsSolution v s → s.path ≡ []
@@ -70,7 +72,7 @@ flat_by net whole is = (flatness_ok net whole).0 (subst (λ (r : Result (Unit {0
 module _ (v : LegsValue) (net : Network) (Realizes Executes Hands : List Container → ℕ → Type 0)
     (holds : IsFlat net → KeepsLaws v × Means v net Realizes Executes Hands) where
   found_certified : (reduced : Bool) (c : Compiled) → IsFlat net → IsFound v net Realizes Executes reduced c
-      → CertifiesOver v c.solution (Least c.containers c.need)
+      → CertifiesOver v c.solution (least_of v c)
   found_certified reduced c flat found =
       verdict_found v net Realizes Executes Hands (holds flat).1 (holds flat).0 reduced c found
 

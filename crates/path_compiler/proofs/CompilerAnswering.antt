@@ -1,5 +1,5 @@
 -- From the least path over legs to the chosen list.
-use Rattle.std.proofs.Common.{◌≡◌, ℕ, ◌+◌, ◌<◌, ◌≤◌, arith, Bool, true, false, ◌==◌, eqb-true, List, [], ◌∷◌, length, map, Option, Some, Result, Ok, Err, refl, sym, ◌∙◌, ap, subst}
+use Rattle.std.proofs.Common.{◌≡◌, ℕ, ◌+◌, ◌<◌, ◌≤◌, arith, Bool, true, false, ◌==◌, eqb-true, List, [], ◌∷◌, length, map, Some, Result, Ok, Err, refl, sym, ◌∙◌, ap, subst}
 use Rattle.std.specs.Prelude.{IfOk, ◌*◌, nat_lt, if◌then◌else◌}
 use Rattle.std.proofs.lemmas.Bool.{ltb-true, ltb-false}
 use Rattle.base.specs.declared.no_memory.NoMemory.{NoMemory}
@@ -11,16 +11,18 @@ use Rattle.list_pack.specs.declared.types.Cost.{Cost}
 use Rattle.list_pack.specs.declared.types.PathStep.{PathStep}
 use Rattle.list_pack.specs.declared.types.Solution.{Solution}
 use Rattle.list_pack.specs.LegsValue.{LegsValue}
-use Rattle.list_pack.specs.Costs.{Move, AtMost, Under, start}
+use Rattle.list_pack.specs.Costs.{Move, AtMost, start}
 use Rattle.list_pack.specs.Least.{IsFirstLeast, IsPathOrNone, IsSolution, IsWithoutPath, step_of, path_before}
-use Rattle.list_pack.specs.Meaning.{Means, IsPathOf}
+use Rattle.list_pack.specs.Meaning.{Means}
 use Rattle.list_pack.specs.Paths.{cost_with}
 use Rattle.list_pack.specs.PathLists.{list_of}
-use Rattle.list_pack.specs.SidLists.{IsLegalList, steps_in}
+use Rattle.list_pack.specs.SidLists.{IsLegalList, prefixes_in, steps_in}
 use Rattle.path_compiler.specs.declared.compiled.Compiled.{Compiled}
 use Rattle.path_compiler.specs.Compiled.{IsWhole, IsChosen, IsFound, IsNoList}
 use Rattle.path_compiler.specs.CompiledTerms.{IsListIn}
+use Rattle.path_compiler.specs.ListCosts.{list_cost}
 use Rattle.path_compiler.proofs.FirstCosts.{is_path_law, cost_read}
+use Rattle.path_compiler.proofs.ListCosting.{list_costs, moves_many, steps_many, under_list}
 
 nil_by : (path : List PathStep) → (length path == 0) ≡ true → path ≡ []
 nil_by [] h = refl
@@ -47,68 +49,54 @@ bytes_by true few many most = by_sizes (nat_lt 1 few) refl (nat_lt 1 many) refl
 module _ (v : LegsValue) (net : Network) (Realizes Executes Hands : List Container → ℕ → Type 0)
     (means : Means v net Realizes Executes Hands) where
   module _ (moves : List Move) (c : Cost) (first : IsFirstLeast v start c moves) where
-    -- a list that realizes costs no less than the least path
-    path_at_most : (other : List Container) (need : ℕ) (path : IsPathOf v Executes other need)
-        → AtMost c (cost_with (length other) path.hops)
-    path_at_most other need path = subst (λ (o : Option Cost). Under (Some c) o) path.cost (first.least path.moves)
-
-    least_list : (other : List Container) (n : ℕ) → IsLegalList net other → Realizes other n → AtMost c (cost_with (length other) n)
-    least_list other n legal real =
-        let path = means.paths other n legal real in
-        let most = path_at_most other n path in
-        let few = most.containers in
-        let within = path.within in
-        record { containers = few; hops = λ same. let h = most.hops same in omega (arith, h, within) }
-
-    first_list : (list other : List Container) → steps_in list ≡ map (step_of v) moves → length list ≡ c.containers
-        → IsWhole net Realizes Executes other c.hops → length other ≡ length list
-        → path_before (steps_in other) (steps_in list) ≡ false
-    first_list list other steps containers whole same =
+    first_list : (list other : List Container) → steps_in list ≡ map (step_of v) moves → IsWhole net Realizes Executes other c.hops
+        → list_cost v.sid_cost other c.hops ≡ c → path_before (steps_in other) (steps_in list) ≡ false
+    first_list list other steps whole same =
         let path = means.paths other c.hops whole.legal whole.realizes in
-        let most = path_at_most other c.hops path in
-        let count : length other ≡ c.containers = same ∙ containers in
-        let above = most.hops (sym count) in
-        let within = path.within in
-        let need : path.hops ≡ c.hops = omega (arith, above, within) in
-        let its : cost_with (length other) path.hops ≡ c
-        = ap (λ (n : ℕ). cost_with n path.hops) count ∙ ap (cost_with c.containers) need in
+        let along = path.whole whole.executes in
+        let many : length path.moves ≡ length (prefixes_in other) = sym (moves_many v path.moves other (sym along.0)) in
+        let its : cost_with (length other) (v.sid_cost * length path.moves) path.hops ≡ c
+        = ap (λ (n : ℕ). cost_with (length other) (v.sid_cost * n) path.hops) many
+        ∙ ap (cost_with (length other) (v.sid_cost * length (prefixes_in other))) along.1 ∙ same in
         let before = first.first path.moves (path.cost ∙ ap Some its) in
-        let all : map (step_of v) path.moves ≡ steps_in other = (path.whole whole.executes).0 in
         subst (λ (xs : List PathStep). path_before (steps_in other) xs ≡ false) (sym steps)
-        (subst (λ (xs : List PathStep). path_before xs (map (step_of v) moves) ≡ false) all before)
+        (subst (λ (xs : List PathStep). path_before xs (map (step_of v) moves) ≡ false) along.0 before)
 
     -- the list of the first least path is the chosen one
-    chosen_list : IsChosen net Realizes Executes (list_of net (map (step_of v) moves)) c.hops
+    chosen_list : IsChosen v.sid_cost net Realizes Executes (list_of net (map (step_of v) moves)) c.hops
     chosen_list =
         let made = means.lists moves c first.cost in
         let list : List Container = list_of net (map (step_of v) moves) in
+        let costs = list_costs v net moves c first.cost made.of_path in
         record {
           whole = record { legal = made.legal; realizes = made.realizes; executes = made.executes };
           least = λ other n legal real.
-              subst (λ (k : ℕ). AtMost (cost_with k c.hops) (cost_with (length other) n)) (sym made.of_path.count)
-              (least_list other n legal real);
-          first = λ other whole same. first_list list other made.of_path.steps made.of_path.count whole same;
+              subst (λ (k : Cost). AtMost k (list_cost v.sid_cost other n)) (sym costs)
+              (under_list v net Realizes Executes Hands means (Some c) first.least other n legal real);
+          first = λ other whole same. first_list list other made.of_path.steps whole (same ∙ costs);
         }
 
     found_by : (reduced : Bool) (s : Solution) (d : Compiled) → IsSolution v s → s.path ≡ map (step_of v) moves
         → IsListIn net reduced s d → IsFound v net Realizes Executes reduced d
     found_by reduced s d is path list =
-        let read = cost_read v s.potentials moves c d.containers d.need is.potentials first list.cost in
+        let read = cost_read v s.potentials moves c list.cost is.potentials first list.first in
+        let containers : d.containers ≡ c.containers = list.containers ∙ ap (λ (x : Cost). x.containers) read in
+        let need : d.need ≡ c.hops = list.need ∙ ap (λ (x : Cost). x.hops) read in
         let made = means.lists moves c first.cost in
         let its : d.list ≡ list_of net (map (step_of v) moves) = list.list ∙ ap (list_of net) path in
+        let steps : s.path ≡ steps_in d.list = path ∙ sym made.of_path.steps ∙ sym (ap steps_in its) in
         record {
           chosen =
-              subst (λ (n : ℕ). IsChosen net Realizes Executes d.list n) (sym read.1)
-              (subst (λ (l : List Container). IsChosen net Realizes Executes l c.hops) (sym its) chosen_list);
-          containers = read.0 ∙ sym made.of_path.count ∙ sym (ap length its);
+              subst (λ (n : ℕ). IsChosen v.sid_cost net Realizes Executes d.list n) (sym need)
+              (subst (λ (l : List Container). IsChosen v.sid_cost net Realizes Executes l c.hops) (sym its) chosen_list);
+          containers = containers ∙ sym made.of_path.count ∙ sym (ap length its);
+          sids = list.sids ∙ ap length steps ∙ steps_many d.list;
           header = list.header;
           fewest = λ other n legal real.
-              let containers : d.containers ≡ c.containers = read.0 in
-              let most = (least_list other n legal real).containers in
+              let most = (under_list v net Realizes Executes Hands means (Some c) first.least other n legal real).containers in
               subst (λ (bytes : ℕ). bytes ≤ header_bytes reduced (length other)) (sym list.header)
               (bytes_by reduced d.containers (length other) (omega (arith, containers, most)));
-          path =
-              ap (λ (x : Solution). x.path) list.solution ∙ path ∙ sym made.of_path.steps ∙ sym (ap steps_in its);
+          path = ap (λ (x : Solution). x.path) list.solution ∙ steps;
           solution = subst (λ (x : Solution). IsSolution v x) (sym list.solution) is;
         }
 

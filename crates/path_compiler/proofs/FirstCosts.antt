@@ -11,7 +11,7 @@ use Rattle.list_pack.specs.ListOrder.{lex_before}
 use Rattle.list_pack.specs.LegsValue.{LegsValue}
 use Rattle.list_pack.specs.Costs.{Move, AtMost, cost_of, Under, start}
 use Rattle.list_pack.specs.Least.{IsLeast, IsFirstLeast, state_key, IsBefore, IsListing, IsPath, IsPathOrNone}
-use Rattle.list_pack.specs.Paths.{cost_with}
+use Rattle.list_pack.proofs.PublicLaws.{at_most_both}
 use Rattle.path_compiler.specs.CompiledTerms.{cost_in}
 
 -- nothing comes before the start
@@ -53,26 +53,16 @@ costs_same v s moves c d first least =
     let down : AtMost d c = subst (λ (o : Option Cost). Under (Some d) o) first.cost (least.least moves) in
     let other = least.attains in
     let up : AtMost c d = subst (λ (o : Option Cost). Under (Some c) o) other.1 (first.least other.0) in
-    let one = down.containers in
-    let two = up.containers in
-    let containers : d.containers ≡ c.containers = omega (arith, one, two) in
-    let three = down.hops containers in
-    let four = up.hops (sym containers) in
-    let hops : d.hops ≡ c.hops = omega (arith, three, four) in
-    ap (λ (x : ℕ). cost_with x d.hops) containers ∙ ap (cost_with c.containers) hops
+    at_most_both d c down up
 
 pub is_path_law : (v : LegsValue) (path : List PathStep) → 0 < length path → IsPathOrNone v path → IsPath v path
 is_path_law v [] h p = absurd (omega (arith, h))
 is_path_law v (x ∷ xs) h p = p
 
 -- the cost that is read is the least
-pub cost_read : (v : LegsValue) (ps : List Potential) (moves : List Move) (c : Cost) (containers need : ℕ) → IsListing v ps
-    → IsFirstLeast v start c moves → option_map cost_in (slice_get ps 0) ≡ Some (cost_with containers need)
-    → (containers ≡ c.containers) × (need ≡ c.hops)
-cost_read v ps moves c containers need listing first read =
+pub cost_read : (v : LegsValue) (ps : List Potential) (moves : List Move) (c d : Cost) → IsListing v ps
+    → IsFirstLeast v start c moves → option_map cost_in (slice_get ps 0) ≡ Some d → d ≡ c
+cost_read v ps moves c d listing first read =
     let begin = starts_with v ps moves c listing first.cost in
-    let least = costs_same v start moves c begin.0 first begin.1.least in
-    let its : begin.0 ≡ cost_with containers need =
-    same_Some begin.0 (cost_with containers need) (ap (option_map cost_in) (sym begin.1.is) ∙ read) in
-    let same : cost_with containers need ≡ c = sym its ∙ least in
-    (ap (λ (x : Cost). x.containers) same, ap (λ (x : Cost). x.hops) same)
+    sym (same_Some begin.0 d (ap (option_map cost_in) (sym begin.1.is) ∙ read))
+    ∙ costs_same v start moves c begin.0 first begin.1.least

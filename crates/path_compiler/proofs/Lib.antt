@@ -1,4 +1,5 @@
 pub mod FirstCosts
+pub mod ListCosting
 pub mod CompilerAnswering
 pub mod CompilerChecking
 pub mod CompilerHanding

@@ -1,5 +1,5 @@
 -- An intent has one answer of the compiler in a network.
-use Rattle.std.proofs.Common.{◌≡◌, ◌≢◌, ℕ, ◌<◌, ◌≤◌, arith, Bool, List, length, Result, Ok, Err, refl, sym, ◌∙◌, ap}
+use Rattle.std.proofs.Common.{◌≡◌, ◌≢◌, ℕ, ◌*◌, ◌<◌, ◌≤◌, arith, Bool, List, length, Result, Ok, Err, refl, sym, ◌∙◌, ap}
 use Rattle.srv6_rules.specs.Encapsulation.{header_bytes}
 use Rattle.net_model.specs.Network.{Network}
 use Rattle.net_flatness.specs.Flat.{flatness_of}
@@ -9,7 +9,7 @@ use Rattle.list_pack.specs.declared.types.Container.{Container}
 use Rattle.list_pack.specs.declared.types.Solution.{Solution}
 use Rattle.list_pack.specs.LegsValue.{LegsValue}
 use Rattle.list_pack.specs.PathLists.{list_of}
-use Rattle.list_pack.specs.SidLists.{steps_in}
+use Rattle.list_pack.specs.SidLists.{prefixes_in, steps_in}
 use Rattle.list_pack.proofs.PublicLaws.{solutions_same, steps_list}
 use Rattle.path_compiler.specs.declared.compiled.Compiled.{Compiled}
 use Rattle.path_compiler.specs.declared.compiled.CompileFault.{CompileFault}
@@ -17,11 +17,12 @@ use Rattle.path_compiler.specs.declared.compiled.CompileFault.TheVariants as fau
 use Rattle.path_compiler.specs.Compiled.{AnswersOver, IsChosen, IsFound, IsNoList}
 
 module _ (v : LegsValue) (net : Network) (Realizes Executes : List Container → ℕ → Type 0) where
-  -- of two chosen lists of as many containers none needs more
-  needs_most : (list other : List Container) (need n : ℕ) → IsChosen net Realizes Executes list need
-      → IsChosen net Realizes Executes other n → list ≡ other → need ≤ n
+  -- one chosen list has one need
+  needs_most : (list other : List Container) (need n : ℕ) → IsChosen v.sid_cost net Realizes Executes list need
+      → IsChosen v.sid_cost net Realizes Executes other n → list ≡ other → need ≤ n
   needs_most list other need n one two same =
       (one.least other n two.whole.legal two.whole.realizes).hops (ap length same)
+      (ap (λ (l : List Container). v.sid_cost * length (prefixes_in l)) same)
 
   module _ (reduced : Bool) where
     abbrev Found : Compiled → Type 0
@@ -40,6 +41,10 @@ module _ (v : LegsValue) (net : Network) (Realizes Executes : List Container →
     count_same : (c d : Compiled) → Found c → Found d → c.containers ≡ d.containers
     count_same c d one other = one.containers ∙ ap length (list_same c d one other) ∙ sym other.containers
 
+    sids_same : (c d : Compiled) → Found c → Found d → c.sids ≡ d.sids
+    sids_same c d one other =
+        one.sids ∙ ap (λ (l : List Container). length (prefixes_in l)) (list_same c d one other) ∙ sym other.sids
+
     need_same : (c d : Compiled) → Found c → Found d → c.need ≡ d.need
     need_same c d one other =
         let same = list_same c d one other in
@@ -52,7 +57,8 @@ module _ (v : LegsValue) (net : Network) (Realizes Executes : List Container →
         let header : c.header ≡ d.header = one.header ∙ ap (header_bytes reduced) (count_same c d one other) ∙ sym other.header in
         ap (λ (x : List Container). record c { list = x }) (list_same c d one other)
         ∙ ap (λ (x : ℕ). record c { list = d.list; containers = x }) (count_same c d one other)
-        ∙ ap (λ (x : ℕ). record c { list = d.list; containers = d.containers; header = x }) header
+        ∙ ap (λ (x : ℕ). record c { list = d.list; containers = d.containers; sids = x }) (sids_same c d one other)
+        ∙ ap (λ (x : ℕ). record c { list = d.list; containers = d.containers; sids = d.sids; header = x }) header
         ∙ ap (λ (x : ℕ). record d { need = x; solution = c.solution }) (need_same c d one other)
         ∙ ap (λ (x : Solution). record d { solution = x }) (solution_same c d one other)
 

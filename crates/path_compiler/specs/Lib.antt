@@ -1,3 +1,4 @@
+pub mod ListCosts
 pub mod Handing
 pub mod Compiled
 pub mod CompiledTerms

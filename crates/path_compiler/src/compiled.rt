@@ -10,6 +10,8 @@ pub struct Compiled {
     pub list: SidList,
     /// How many containers of 16 bytes the list has.
     pub containers: u32,
+    /// How many SIDs the list has, counted as the prefixes of its containers.
+    pub sids: u64,
     /// How many bytes stand in front of the inner packet: the outer header of 40 bytes, and the
     /// segment routing header, if there is one (RFC 8754 section 2, RFC 8986 sections 5.1 and 5.2).
     pub header: u64,

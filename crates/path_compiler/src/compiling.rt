@@ -38,6 +38,7 @@ fn compiled_of(
     Ok(Compiled {
         list,
         containers: cost.containers,
+        sids: solution.path.as_slice().len() as u64,
         header: header_bytes(cost.containers, reduced),
         need: cost.hops,
         solution,
@@ -97,15 +98,16 @@ fn answer_over<L: ListLegs>(
 }
 
 /// Compiles to the least list over any legs of a flat network that mean what their lists realize:
-/// no legal list of the network that realizes it has fewer containers of 16 bytes, or as many and a
-/// smaller need, and of equal ones all of whose SIDs are executed it is the first, SID by SID (own
-/// rule; containers are those of RFC 9800 sections 6.2 to 6.4, the header is that of RFC 8986
-/// sections 5.1 and 5.2). The intent gives the form of the header and the bounds: `NoList` exactly
-/// where no legal list realizes it, else `TooLong` where the least list has more than
-/// `max_containers` containers, else `HopLimit` where its need is not below `hop_limit`. Of the
-/// legal lists that hand over even one packet at one hop limit none is less either: none needs
-/// fewer header bytes, nor has fewer containers, or as many at a hop limit that is not above the
-/// need; and with `NoList` there are none.
+/// no legal list of the network that realizes it has fewer containers of 16 bytes, or as many and,
+/// where the legs count SIDs, fewer SIDs, or as many of both and a smaller need, and of equal ones
+/// all of whose SIDs are executed it is the first, SID by SID (own rule; containers are those of
+/// RFC 9800 sections 6.2 to 6.4, the header is that of RFC 8986 sections 5.1 and 5.2). The intent
+/// gives the form of the header and the bounds: `NoList` exactly where no legal list realizes it,
+/// else `TooLong` where the least list has more than `max_containers` containers, else `HopLimit`
+/// where its need is not below `hop_limit`. Of the legal lists that hand over even one packet at
+/// one hop limit none is less either: none needs fewer header bytes, nor has fewer containers, or
+/// as many and fewer SIDs where these count, or as many of both at a hop limit that is not above
+/// the need; and with `NoList` there are none.
 pub fn compile_over<L: ListLegs>(
     alloc: Global,
     net: &Net,
@@ -117,7 +119,8 @@ pub fn compile_over<L: ListLegs>(
     requires flat { flatness_of net.now ≡ Ok tt }
     ensures answer { AnswersOver (L.seen legs.now) net.now (L.realizes legs.now)
         (L.executes legs.now) intent.now result }
-    ensures handing { NoneLessOver net.now (L.hands legs.now) intent.now.reduced result }
+    ensures handing { NoneLessOver (L.seen legs.now).sid_cost net.now (L.hands legs.now)
+        intent.now.reduced result }
 {
     legs.keeps_meaning();
     answer_over(alloc, net, intent, legs)
