@@ -45,7 +45,7 @@ module _ (net : Network) (intent : Intent) (network : IsNetwork net) (flat : IsF
   knows_why cert line whys.Tight h = tt
 
   pub knows_state : (cert : Cert) (verdict : Verdict) → IsVerdict (intent_legs_value net intent) cert verdict → KnowsState net verdict
-  knows_state cert (Least containers hops) h = tt
+  knows_state cert (Least containers sids hops) h = tt
   knows_state cert NoList h = tt
   knows_state cert (No line why) h = knows_why cert line why h
 
@@ -57,14 +57,14 @@ module _ (net : Network) (intent : Intent) (network : IsNetwork net) (flat : IsF
       known_by q.state.position q.state.via q.state.room (solved.potentials.exact q (k, h, here)).0
 
 own_status : (verdict : Verdict) → IsOneOf (statuses.Done ∷ statuses.SaysNo ∷ []) (verdict_status verdict)
-own_status (Least containers hops) = inl refl
+own_status (Least containers sids hops) = inl refl
 own_status NoList = inl refl
 own_status (No line why) = inr (inl refl)
 
 -- a verdict's line and status are wanted of the certificate
 pub judges_as : (net : Network) (intent : Intent) (cert : Cert) (verdict : Verdict) (judgement : Judgement)
     → IsVerdict (intent_legs_value net intent) cert verdict → SaysFor net intent verdict → SaysOfHandingFor net intent verdict
-    → bytes_of_text judgement.line ≡ verdict_line net verdict → judgement.status ≡ verdict_status verdict
+    → bytes_of_text judgement.line ≡ verdict_line net intent.prefer verdict → judgement.status ≡ verdict_status verdict
     → JudgesAs net intent cert judgement
 judges_as net intent cert verdict judgement is says handing line status = (
   (verdict, record { is = is; says = says; handing = handing }, ap₂ (λ (bytes : List ℕ) (s : Status). reported bytes [] s) line status),

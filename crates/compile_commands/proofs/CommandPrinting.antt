@@ -1,5 +1,5 @@
 -- What `compile` prints is read by `check` as the certificate of what was compiled, and judged so.
-use Rattle.std.proofs.Common.{◌≡◌, ◌↔◌, ℕ, ◌+◌, ◌≤◌, Bool, true, false, List, [], ◌++◌, length, All, Option, None, Some, Result, Ok, Err, IsOk, refl, sym, ◌∙◌, ap, subst}
+use Rattle.std.proofs.Common.{◌≡◌, ◌↔◌, ℕ, ◌+◌, ◌*◌, ◌≤◌, Bool, true, false, List, [], ◌++◌, length, All, Option, None, Some, Result, Ok, Err, IsOk, refl, sym, ◌∙◌, ap, subst, arith}
 use Rattle.std.specs.Prelude.{IsSomeAnd, nat_lt, if◌then◌else◌}
 use Rattle.std.proofs.lemmas.Bool.{le-ltb}
 use Rattle.std.proofs.lemmas.List.{append-nil}
@@ -12,7 +12,10 @@ use Rattle.net_flatness.specs.declared.not_flat.NotFlat.{NotFlat}
 use Rattle.net_flatness.proofs.PublicLaws.{flatness_ok}
 use Rattle.toml_reader.specs.TomlReading.{◌>>=◌}
 use Rattle.net_syntax.specs.declared.intent_table.DescribedIntent.{DescribedIntent}
+use Rattle.net_syntax.specs.declared.intent_table.Prefer.{Prefer}
+use Rattle.net_syntax.specs.declared.intent_table.Prefer.TheVariants as prefers
 use Rattle.net_syntax.specs.IntentText as words
+use Rattle.intent_reader.specs.Preferences.{sid_cost_of}
 use Rattle.intent_reader.specs.declared.intent.Intent.{Intent}
 use Rattle.intent_reader.specs.declared.fault.IntentFault.{IntentFault}
 use Rattle.intent_reader.specs.IntentJudging.{judged, intent_of_text}
@@ -26,7 +29,7 @@ use Rattle.list_pack.specs.LegsValue.{LegsValue}
 use Rattle.list_pack.specs.LegsValueTerms.{KeepsLaws}
 use Rattle.list_certificate.specs.declared.certificate_types.Cert.{Cert}
 use Rattle.list_certificate.specs.declared.certificate_types.Verdict.{Verdict}
-use Rattle.list_certificate.specs.declared.certificate_types.Verdict.TheVariants.{Least, NoList}
+use Rattle.list_certificate.specs.declared.certificate_types.Verdict.TheVariants.{NoList}
 use Rattle.list_certificate.specs.CertsTerms.{certificate_of}
 use Rattle.list_certificate.specs.CertificateLaws.{IsComment, lines_text}
 use Rattle.list_certificate.specs.CertificateReading.{read_of}
@@ -37,11 +40,12 @@ use Rattle.intent_compiler.specs.IntentLegs.{ListExecutesFor, ListHandsFor, List
 use Rattle.path_compiler.specs.declared.compiled.Compiled.{Compiled}
 use Rattle.path_compiler.specs.declared.compiled.CompileFault.{CompileFault}
 use Rattle.path_compiler.specs.declared.compiled.CompileFault.TheVariants as faults
+use Rattle.path_compiler.specs.CheckedTerms.{least_of}
 use Rattle.path_compiler.proofs.PublicLaws.{says_lists}
 use Rattle.intent_compiler.specs.CompilerAnswers.{IntentAnswers}
 use Rattle.intent_compiler.specs.IntentVerdicts.{SaysFor, SaysOfHandingFor}
 use Rattle.intent_compiler.specs.IntentVerdictsTerms.{CertifiesFor}
-use Rattle.intent_compiler.proofs.PublicLaws.{certifies_for, laws_for, means_for, says_handing_for, sids_for}
+use Rattle.intent_compiler.proofs.PublicLaws.{certifies_for, cost_for, laws_for, means_for, says_handing_for, sids_for}
 use Rattle.net_model.specs.declared.limits.TheConstants.{MAX_TEXT_BYTES}
 use Rattle.command_output.specs.declared.refusal.Refusal.{Refusal}
 use Rattle.command_output.specs.declared.refusal.Refusal.TheVariants as refusals
@@ -54,7 +58,7 @@ use Rattle.compile_commands.specs.CompileCommand.{AnswerWants, NetworkWants, Int
 use Rattle.compile_commands.specs.CompileCommandTerms.{HasValues}
 use Rattle.command_inputs.specs.Judgements.{network_in, intent_in, intent_by, cert_in, cert_by}
 use Rattle.command_output.specs.OutputPieces.{Output, bytes_for_out}
-use Rattle.compile_commands.specs.Printed.{ConfirmsAnswer, ConfirmsPrinted, CheckConfirmsCompile}
+use Rattle.compile_commands.specs.Printed.{ConfirmsAnswer, ConfirmsList, ConfirmsPrinted, CheckConfirmsCompile}
 use Rattle.command_inputs.proofs.PublicLaws.{RulesAreKept, rules_kept}
 use Rattle.compile_commands.proofs.Compiling.{values_kept, values_long, values_over}
 use Rattle.compile_commands.proofs.Reporting.{report_texts, no_report_texts, report_lines, no_report_lines, report_comments, no_report_comments}
@@ -78,6 +82,23 @@ intent_of net text intent is = by (nat_lt MAX_TEXT_BYTES (length text)) (intent_
     by false (Ok i) e h = let same : i ≡ intent = cc in intent_by_law net text intent (words.intent_in text) refl (e ∙ ap Ok same)
     by false (Err fault) e h = absurd (cc)
 
+-- the line of a list's verdict has the list's SIDs where they are counted
+
+line_by : (prefer : Prefer) (containers sids need : ℕ)
+    → checks.least_line prefer containers (sid_cost_of prefer * sids) need ≡ checks.least_line prefer containers sids need
+unfolding checks.least_line
+line_by prefers.Need containers sids need = refl
+line_by prefers.Sids containers sids need =
+    ap (λ (n : ℕ). checks.least_line prefers.Sids containers n need) (let e : 1 * sids ≡ sids = omega arith in e)
+
+confirms_list : (net : Network) (intent : Intent) (c : Compiled)
+    → told_of net intent.prefer (least_of (intent_legs_value net intent) c)
+    ≡ reported (checks.least_line intent.prefer c.containers c.sids c.need) [] statuses.Done
+confirms_list net intent c =
+    ap (λ (cost : ℕ). reported (checks.least_line intent.prefer c.containers (cost * c.sids) c.need) [] statuses.Done)
+    (cost_for net intent)
+    ∙ ap (λ (bytes : List ℕ). reported bytes [] statuses.Done) (line_by intent.prefer c.containers c.sids c.need)
+
 module _ (net : Network) (intent : Intent) (network : IsNetwork net) (is_intent : IsIntent net intent) where
   abbrev v : LegsValue
   v = intent_legs_value net intent
@@ -85,25 +106,29 @@ module _ (net : Network) (intent : Intent) (network : IsNetwork net) (is_intent 
   flat_by : net.hidden ≡ [] → flatness_of net ≡ Ok tt → IsFlat net
   flat_by whole is = (flatness_ok net whole).0 (subst (λ (r : Result (Unit {0}) NotFlat). IsOk r) (sym is) refl)
 
+  -- what is spelled goes by the intent's preference
+  abbrev spelling : Solution → List ℕ
+  spelling s = spelled net (sid_cost_of intent.prefer) s
+
   laws_of : net.hidden ≡ [] → flatness_of net ≡ Ok tt → KeepsLaws v
   laws_of whole is = laws_for net intent network (flat_by whole is) is_intent
 
   -- the text is read as the certificate of the solution
   cert_read : (s : Solution) (comments : List (List ℕ)) (text : List ℕ) → KeepsLaws v → IsSolution v s → All IsComment comments
-      → text ≡ lines_text comments ++ spelled net s → length text ≤ MAX_TEXT_BYTES → IsFlat net
+      → text ≡ lines_text comments ++ spelling s → length text ≤ MAX_TEXT_BYTES → IsFlat net
       → cert_in net v text ≡ Ok (certificate_of (1 + length comments) s)
   cert_read s comments text laws is all parts small flat =
       let fits : nat_lt MAX_TEXT_BYTES (length text) ≡ false = le-ltb MAX_TEXT_BYTES (length text) small in
       let read : read_of net v text ≡ Ok (certificate_of (1 + length comments) s)
-      = ap (read_of net v) parts
+      = ap (read_of net v) (parts ∙ ap (λ (cost : ℕ). lines_text comments ++ spelled net cost s) (sym (cost_for net intent)))
       ∙ what_is_read net v comments s network laws (sids_for net intent network flat is_intent) is all in
       rw fits (ap cert_by read)
 
   -- so the verdict is the one that it certifies
   told_by : (s : Solution) (comments : List (List ℕ)) (text : List ℕ) (verdict : Verdict) (output : Output) → net.hidden ≡ []
       → flatness_of net ≡ Ok tt → IsSolution v s → CertifiesFor net intent s verdict → All IsComment comments
-      → text ≡ lines_text comments ++ spelled net s → length text ≤ MAX_TEXT_BYTES
-      → FlatWants net intent (flatness_of net) (Some text) output → output ≡ told_of net verdict
+      → text ≡ lines_text comments ++ spelling s → length text ≤ MAX_TEXT_BYTES
+      → FlatWants net intent (flatness_of net) (Some text) output → output ≡ told_of net intent.prefer verdict
   told_by s comments text verdict output whole flat is certifies all parts small wants =
       let laws = laws_of whole flat in
       let head : ℕ = 1 + length comments in
@@ -115,13 +140,13 @@ module _ (net : Network) (intent : Intent) (network : IsNetwork net) (is_intent 
       flat_wants in
       let same : read.0 ≡ verdict
       = one_verdict v (certificate_of head s) read.0 verdict laws (solution_cert v head s is) read.1.is (certifies head) in
-      read.2 ∙ ap (told_of net) same
+      read.2 ∙ ap (told_of net intent.prefer) same
 
   -- and that verdict is wanted
   told_back : (s : Solution) (comments : List (List ℕ)) (text : List ℕ) (verdict : Verdict) (output : Output) → net.hidden ≡ []
       → flatness_of net ≡ Ok tt → IsSolution v s → CertifiesFor net intent s verdict → All IsComment comments
-      → text ≡ lines_text comments ++ spelled net s → length text ≤ MAX_TEXT_BYTES
-      → output ≡ told_of net verdict → FlatWants net intent (flatness_of net) (Some text) output
+      → text ≡ lines_text comments ++ spelling s → length text ≤ MAX_TEXT_BYTES
+      → output ≡ told_of net intent.prefer verdict → FlatWants net intent (flatness_of net) (Some text) output
   told_back s comments text verdict output whole flat is certifies all parts small told =
       let laws = laws_of whole flat in
       let cert : Cert = certificate_of (1 + length comments) s in
@@ -138,11 +163,11 @@ module _ (net : Network) (intent : Intent) (network : IsNetwork net) (is_intent 
 
   -- what is for `out` of a report with a certificate after it
   out_is : (told report : List ℕ) (status : Status) (s : Solution) (comments : List (List ℕ)) (output : Output)
-      → output ≡ reported (printed net report s) told status → report ≡ lines_text comments
-      → bytes_for_out output.pieces ≡ lines_text comments ++ spelled net s
+      → output ≡ reported (printed net intent.prefer report s) told status → report ≡ lines_text comments
+      → bytes_for_out output.pieces ≡ lines_text comments ++ spelling s
   out_is told report status s comments output is lines =
-      ap (λ (o : Output). bytes_for_out o.pieces) is ∙ append-nil (report ++ spelled net s)
-      ∙ ap (λ (bytes : List ℕ). bytes ++ spelled net s) lines
+      ap (λ (o : Output). bytes_for_out o.pieces) is ∙ append-nil (report ++ spelling s)
+      ∙ ap (λ (bytes : List ℕ). bytes ++ spelling s) lines
 
   module _ (old output : Output) (small : length (bytes_for_out old.pieces) ≤ MAX_TEXT_BYTES) where
     -- what `check` wants of what was printed
@@ -150,20 +175,22 @@ module _ (net : Network) (intent : Intent) (network : IsNetwork net) (is_intent 
     Checks = FlatWants net intent (flatness_of net) (Some (bytes_for_out old.pieces)) output
 
     list_confirmed : (c : Compiled) (told : List ℕ) (status : Status) → net.hidden ≡ [] → flatness_of net ≡ Ok tt → IsSolution v c.solution
-        → CertifiesFor net intent c.solution (Least c.containers c.need) → HasValues net c
-        → old ≡ reported (printed net (report_of net c) c.solution) told status
-        → Checks ↔ (output ≡ told_of net (Least c.containers c.need))
+        → CertifiesFor net intent c.solution (least_of v c) → HasValues net c
+        → old ≡ reported (printed net intent.prefer (report_of net intent.prefer c) c.solution) told status
+        → Checks ↔ ConfirmsList intent c output
     list_confirmed c told status whole flat is certifies has e =
-        let all = report_comments net c has in
-        let parts = out_is told (report_of net c) status c.solution (report_texts net c) old e (report_lines net c) in
+        let texts = report_texts net intent.prefer c in
+        let all = report_comments net intent.prefer c has in
+        let parts = out_is told (report_of net intent.prefer c) status c.solution texts old e (report_lines net intent.prefer c) in
         let text : List ℕ = bytes_for_out old.pieces in
-        let verdict : Verdict = Least c.containers c.need in (
-          told_by c.solution (report_texts net c) text verdict output whole flat is certifies all parts small,
-          told_back c.solution (report_texts net c) text verdict output whole flat is certifies all parts small,
+        let verdict : Verdict = least_of v c in
+        let confirms = confirms_list net intent c in (
+          λ h. told_by c.solution texts text verdict output whole flat is certifies all parts small h ∙ confirms,
+          λ h. told_back c.solution texts text verdict output whole flat is certifies all parts small (h ∙ sym confirms),
         )
 
     none_confirmed : (s : Solution) (told : List ℕ) (status : Status) → net.hidden ≡ [] → flatness_of net ≡ Ok tt → IsSolution v s
-        → CertifiesFor net intent s NoList → old ≡ reported (printed net no_report s) told status → Checks ↔ (output ≡ told_of net NoList)
+        → CertifiesFor net intent s NoList → old ≡ reported (printed net intent.prefer no_report s) told status → Checks ↔ (output ≡ told_of net intent.prefer NoList)
     none_confirmed s told status whole flat is certifies e =
         let parts = out_is told no_report status s no_report_texts old e no_report_lines in
         let text : List ℕ = bytes_for_out old.pieces in (
@@ -172,7 +199,7 @@ module _ (net : Network) (intent : Intent) (network : IsNetwork net) (is_intent 
         )
 
     confirmed : (answer : Result Compiled CompileFault) → IntentAnswers net intent answer → AnswerWants net intent answer old
-        → Checks ↔ ConfirmsAnswer net answer output
+        → Checks ↔ ConfirmsAnswer net intent answer output
     confirmed (Ok c) answers e =
         list_confirmed c [] statuses.Done answers.whole answers.flat answers.found.solution
         (certifies_for net intent (Ok c) network is_intent answers) (values_kept net intent c network answers) e

@@ -8,6 +8,7 @@ use Rattle.net_model.specs.NetworkRulesTerms.{IsNetwork}
 use Rattle.net_flatness.specs.declared.not_flat.NotFlat.{NotFlat}
 use Rattle.net_flatness.specs.Flat.{flatness_of, IsFlat}
 use Rattle.net_flatness.proofs.PublicLaws.{flatness_ok}
+use Rattle.net_syntax.specs.declared.intent_table.Prefer.{Prefer}
 use Rattle.intent_reader.specs.declared.intent.Intent.{Intent}
 use Rattle.intent_reader.specs.IntentRulesTerms.{IsIntent}
 use Rattle.list_pack.specs.declared.types.Solution.{Solution}
@@ -34,12 +35,12 @@ lines_map : (values : List Addr)
 lines_map [] = refl
 lines_map (a ∷ more) = ap (λ (bytes : List ℕ). container_line a.value ++ bytes) (lines_map more)
 
-pub report_is : (net : Network) (c : Compiled) (values : List Addr) (lines numbers : List ℕ)
+pub report_is : (net : Network) (prefer : Prefer) (c : Compiled) (values : List Addr) (lines numbers : List ℕ)
     → map (λ (a : Addr). a.value) values ≡ list_values net c.list
     → lines ≡ flat_map (λ (a : Addr). container_line a.value) values
-    → numbers ≡ numbers_lines c.containers c.header c.need
-    → lines ++ numbers ≡ report_of net c
-report_is net c values lines numbers are is counts =
+    → numbers ≡ numbers_lines prefer c
+    → lines ++ numbers ≡ report_of net prefer c
+report_is net prefer c values lines numbers are is counts =
     ap₂ (λ (a b : List ℕ). a ++ b) (is ∙ (lines_map values ∙ ap (flat_map container_line) are)) counts
 
 flat_by : (net : Network) → net.hidden ≡ [] → flatness_of net ≡ Ok tt → IsFlat net

@@ -1,14 +1,16 @@
 -- The lines of a report are comments to who reads the certificate after them.
-use Rattle.std.proofs.Common.{◌≡◌, ℕ, zero, suc, ◌+◌, ◌/◌, ◌%◌, ◌^◌, ◌<◌, Bool, true, false, ◌==◌, List, [], ◌∷◌, ◌++◌, map, All, codes, slice_index, refl, sym, ◌∙◌, ap, subst, arith, append_assoc, length-append}
+use Rattle.std.proofs.Common.{◌≡◌, ℕ, zero, suc, ◌+◌, ◌/◌, ◌%◌, ◌^◌, ◌<◌, Bool, true, false, ◌==◌, List, [], ◌∷◌, ◌++◌, map, All, codes, slice_index, refl, sym, ◌∙◌, ap, ap₂, subst, arith, append_assoc, length-append}
 use Rattle.std.specs.Prelude.{if◌then◌else◌, nat_lt}
 use Rattle.std.specs.Fmt.{decimal, digits, digits_onto, digit_glyph}
 use Rattle.std.specs.List.{flat_map}
 use Rattle.std.proofs.lemmas.Bool.{ne_eqb, false≢true, cond-true, lt-ltb}
-use Rattle.std.proofs.lemmas.List.{get_or_append_left}
+use Rattle.std.proofs.lemmas.List.{append-nil, get_or_append_left}
 use Rattle.std.proofs.lemmas.List.Elements.{All-nil, All-cons, All-append, All-head, All-tail}
 use Rattle.v6_addr.specs.Address.{PrefixValue}
 use Rattle.v6_addr.specs.Text.{address_text, prefix_text, length_text}
 use Rattle.net_model.specs.Network.{Network}
+use Rattle.net_syntax.specs.declared.intent_table.Prefer.{Prefer}
+use Rattle.net_syntax.specs.declared.intent_table.Prefer.TheVariants as prefers
 use Rattle.list_pack.specs.SidLists.{list_values, list_in}
 use Rattle.sid_list_theory.proofs.PublicLaws.{legal_addresses}
 use Rattle.list_certificate.specs.CertificateLaws.{IsComment, lines_text}
@@ -16,7 +18,7 @@ use Rattle.list_certificate.proofs.Marks.{Lacks, word_feed, lacks_joined}
 use Rattle.list_certificate.proofs.LineWords.{plain_lacks}
 use Rattle.list_certificate.proofs.PrefixWords.{prefix_word}
 use Rattle.path_compiler.specs.declared.compiled.Compiled.{Compiled}
-use Rattle.compile_commands.specs.CompileCommand.{container_line, numbers_lines, no_report, report_of}
+use Rattle.compile_commands.specs.CompileCommand.{container_line, no_report, number_line, numbers_lines, report_of, sids_lines}
 use Rattle.compile_commands.specs.CompileCommandTerms.{HasValues}
 
 -- a byte of digits is no line feed
@@ -67,12 +69,20 @@ comment line hash lacks = record {
 abbrev container_text : ℕ → List ℕ
 container_text value = codes "# container " ++ address_text value
 
-abbrev numbers_texts : ℕ → ℕ → ℕ → List (List ℕ)
-numbers_texts count header need =
-    (codes "# containers " ++ decimal count) ∷ (codes "# header " ++ decimal header) ∷ (codes "# need " ++ decimal need) ∷ []
+abbrev number_text : List ℕ → ℕ → List ℕ
+number_text word number = codes "# " ++ (word ++ 32 ∷ decimal number)
 
-abbrev pub report_texts : Network → Compiled → List (List ℕ)
-report_texts net c = map container_text (list_values net c.list) ++ numbers_texts c.containers c.header c.need
+abbrev sids_texts : Prefer → ℕ → List (List ℕ)
+sids_texts prefers.Need count = []
+sids_texts prefers.Sids count = number_text (codes "sids") count ∷ []
+
+abbrev numbers_texts : Prefer → Compiled → List (List ℕ)
+numbers_texts prefer c =
+    number_text (codes "containers") c.containers ∷ sids_texts prefer c.sids
+    ++ number_text (codes "header") c.header ∷ number_text (codes "need") c.need ∷ []
+
+abbrev pub report_texts : Network → Prefer → Compiled → List (List ℕ)
+report_texts net prefer c = map container_text (list_values net c.list) ++ numbers_texts prefer c
 
 abbrev pub no_report_texts : List (List ℕ)
 no_report_texts = codes "# none" ∷ []
@@ -82,29 +92,56 @@ unfolding container_line
 containers_are [] = refl
 containers_are (v ∷ vs) = ap (λ (bytes : List ℕ). container_line v ++ bytes) (containers_are vs)
 
-one_line_law : (mark text rest : List ℕ) → ((mark ++ text) ++ 10 ∷ []) ++ rest ≡ mark ++ (text ++ 10 ∷ rest)
-one_line_law mark text rest = simp append_assoc
-
-numbers_are : (count header need : ℕ) → numbers_lines count header need ≡ lines_text (numbers_texts count header need)
-unfolding numbers_lines
-numbers_are count header need =
-    sym (one_line_law (codes "# containers ") (decimal count)
-    (lines_text ((codes "# header " ++ decimal header) ∷ (codes "# need " ++ decimal need) ∷ []))
-    ∙ ap (λ (bytes : List ℕ). codes "# containers " ++ (decimal count ++ 10 ∷ bytes))
-    (one_line_law (codes "# header ") (decimal header) (lines_text ((codes "# need " ++ decimal need) ∷ []))
-    ∙ ap (λ (bytes : List ℕ). codes "# header " ++ (decimal header ++ 10 ∷ bytes)) (one_line_law (codes "# need ") (decimal need) [])))
-
 lines_joined : (xs ys : List (List ℕ)) → lines_text xs ++ lines_text ys ≡ lines_text (xs ++ ys)
 lines_joined [] ys = refl
 lines_joined (x ∷ xs) ys =
     append_assoc (x ++ 10 ∷ []) (lines_text xs) (lines_text ys) ∙ ap (λ (bytes : List ℕ). (x ++ 10 ∷ []) ++ bytes) (lines_joined xs ys)
 
-pub report_lines : (net : Network) (c : Compiled) → report_of net c ≡ lines_text (report_texts net c)
-report_lines net c =
-    ap (λ (bytes : List ℕ). bytes ++ numbers_lines c.containers c.header c.need) (containers_are (list_values net c.list))
-    ∙ ap (λ (bytes : List ℕ). lines_text (map container_text (list_values net c.list)) ++ bytes)
-    (numbers_are c.containers c.header c.need)
-    ∙ lines_joined (map container_text (list_values net c.list)) (numbers_texts c.containers c.header c.need)
+joined : (x y : List ℕ) (xs ys : List (List ℕ)) → x ≡ lines_text xs → y ≡ lines_text ys → x ++ y ≡ lines_text (xs ++ ys)
+joined x y xs ys e f = ap₂ (λ (a b : List ℕ). a ++ b) e f ∙ lines_joined xs ys
+
+number_law : (mark word text : List ℕ) → (mark ++ (word ++ 32 ∷ text)) ++ 10 ∷ [] ≡ mark ++ (word ++ 32 ∷ (text ++ 10 ∷ []))
+number_law mark word text = simp append_assoc
+
+number_is : (word : List ℕ) (n : ℕ) → number_line word n ≡ lines_text (number_text word n ∷ [])
+unfolding number_line
+number_is word n = sym (append-nil (number_text word n ++ 10 ∷ []) ∙ number_law (codes "# ") word (decimal n))
+
+sids_are : (prefer : Prefer) (count : ℕ) → sids_lines prefer count ≡ lines_text (sids_texts prefer count)
+sids_are prefers.Need count = refl
+sids_are prefers.Sids count = number_is (codes "sids") count
+
+-- the numbers' texts, one after the other
+abbrev texts_joined : Prefer → Compiled → List (List ℕ)
+texts_joined prefer c =
+    (((number_text (codes "containers") c.containers ∷ []) ++ sids_texts prefer c.sids) ++ (number_text (codes "header") c.header ∷ []))
+    ++ (number_text (codes "need") c.need ∷ [])
+
+texts_same : (prefer : Prefer) (c : Compiled) → texts_joined prefer c ≡ numbers_texts prefer c
+texts_same prefers.Need c = refl
+texts_same prefers.Sids c = refl
+
+numbers_are : (prefer : Prefer) (c : Compiled) → numbers_lines prefer c ≡ lines_text (numbers_texts prefer c)
+numbers_are prefer c =
+    let containers : List ℕ = number_line (codes "containers") c.containers in
+    let header : List ℕ = number_line (codes "header") c.header in
+    let need : List ℕ = number_line (codes "need") c.need in
+    let first : List (List ℕ) = number_text (codes "containers") c.containers ∷ [] in
+    let next : List (List ℕ) = number_text (codes "header") c.header ∷ [] in
+    let last : List (List ℕ) = number_text (codes "need") c.need ∷ [] in
+    let front = joined containers (sids_lines prefer c.sids) first (sids_texts prefer c.sids) (number_is (codes "containers") c.containers)
+    (sids_are prefer c.sids) in
+    let more = joined (containers ++ sids_lines prefer c.sids) header (first ++ sids_texts prefer c.sids) next front
+    (number_is (codes "header") c.header) in
+    joined ((containers ++ sids_lines prefer c.sids) ++ header) need ((first ++ sids_texts prefer c.sids) ++ next) last more
+    (number_is (codes "need") c.need)
+    ∙ ap (λ (xs : List (List ℕ)). lines_text xs) (texts_same prefer c)
+
+pub report_lines : (net : Network) (prefer : Prefer) (c : Compiled) → report_of net prefer c ≡ lines_text (report_texts net prefer c)
+report_lines net prefer c =
+    ap (λ (bytes : List ℕ). bytes ++ numbers_lines prefer c) (containers_are (list_values net c.list))
+    ∙ ap (λ (bytes : List ℕ). lines_text (map container_text (list_values net c.list)) ++ bytes) (numbers_are prefer c)
+    ∙ lines_joined (map container_text (list_values net c.list)) (numbers_texts prefer c)
 
 pub no_report_lines : no_report ≡ lines_text no_report_texts
 unfolding no_report
@@ -121,26 +158,34 @@ container_comments (v ∷ vs) h =
     (plain_lacks 10 (codes "# container ") refl) (address_lacks v below)))
     (container_comments vs (All-tail (λ (a : ℕ). a < 2 ^ 128) v vs h))
 
-number_comments : (count header need : ℕ) → All IsComment (numbers_texts count header need)
-number_comments count header need =
-    let first : List ℕ = codes "# containers " ++ decimal count in
-    let second : List ℕ = codes "# header " ++ decimal header in
-    let third : List ℕ = codes "# need " ++ decimal need in
-    All-cons IsComment first (second ∷ third ∷ [])
-    (comment first refl (lacks_joined 10 (codes "# containers ") (decimal count) (plain_lacks 10 (codes "# containers ") refl)
-    (decimal_lacks count)))
-    (All-cons IsComment second (third ∷ [])
-    (comment second refl (lacks_joined 10 (codes "# header ") (decimal header) (plain_lacks 10 (codes "# header ") refl)
-    (decimal_lacks header)))
-    (All-cons IsComment third []
-    (comment third refl (lacks_joined 10 (codes "# need ") (decimal need) (plain_lacks 10 (codes "# need ") refl) (decimal_lacks need)))
-    (All-nil IsComment)))
+number_comment : (word : List ℕ) (number : ℕ) → Lacks 10 word → IsComment (number_text word number)
+number_comment word number lacks =
+    comment (number_text word number) refl
+    (lacks_joined 10 (codes "# ") (word ++ 32 ∷ decimal number) (plain_lacks 10 (codes "# ") refl)
+    (lacks_joined 10 word (32 ∷ decimal number) lacks
+    (lacks_joined 10 (32 ∷ []) (decimal number) (plain_lacks 10 (32 ∷ []) refl) (decimal_lacks number))))
 
-pub report_comments : (net : Network) (c : Compiled) → HasValues net c → All IsComment (report_texts net c)
-report_comments net c has =
-    All-append IsComment (map container_text (list_values net c.list)) (numbers_texts c.containers c.header c.need)
-    (container_comments (list_values net c.list) (legal_addresses (list_in net c.list) has.0.rules has.1))
-    (number_comments c.containers c.header c.need)
+sids_comments : (prefer : Prefer) (count : ℕ) → All IsComment (sids_texts prefer count)
+sids_comments prefers.Need count = All-nil IsComment
+sids_comments prefers.Sids count =
+    All-cons IsComment (number_text (codes "sids") count) [] (number_comment (codes "sids") count (plain_lacks 10 (codes "sids") refl))
+    (All-nil IsComment)
+
+number_comments : (prefer : Prefer) (c : Compiled) → All IsComment (numbers_texts prefer c)
+number_comments prefer c =
+    let containers : List ℕ = number_text (codes "containers") c.containers in
+    let header : List ℕ = number_text (codes "header") c.header in
+    let need : List ℕ = number_text (codes "need") c.need in
+    All-cons IsComment containers (sids_texts prefer c.sids ++ header ∷ need ∷ [])
+    (number_comment (codes "containers") c.containers (plain_lacks 10 (codes "containers") refl))
+    (All-append IsComment (sids_texts prefer c.sids) (header ∷ need ∷ []) (sids_comments prefer c.sids)
+    (All-cons IsComment header (need ∷ []) (number_comment (codes "header") c.header (plain_lacks 10 (codes "header") refl))
+    (All-cons IsComment need [] (number_comment (codes "need") c.need (plain_lacks 10 (codes "need") refl)) (All-nil IsComment))))
+
+pub report_comments : (net : Network) (prefer : Prefer) (c : Compiled) → HasValues net c → All IsComment (report_texts net prefer c)
+report_comments net prefer c has =
+    All-append IsComment (map container_text (list_values net c.list)) (numbers_texts prefer c)
+    (container_comments (list_values net c.list) (legal_addresses (list_in net c.list) has.0.rules has.1)) (number_comments prefer c)
 
 pub no_report_comments : All IsComment no_report_texts
 no_report_comments =

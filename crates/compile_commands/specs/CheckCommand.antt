@@ -4,6 +4,8 @@ use Rattle.std.specs.Fmt.{decimal}
 use Rattle.net_model.specs.Network.{Network}
 use Rattle.net_flatness.specs.Flat.{flatness_of}
 use Rattle.net_flatness.specs.declared.not_flat.NotFlat.{NotFlat}
+use Rattle.net_syntax.specs.declared.intent_table.Prefer.{Prefer}
+use Rattle.net_syntax.specs.declared.intent_table.Prefer.TheVariants as prefers
 use Rattle.intent_reader.specs.declared.intent.Intent.{Intent}
 use Rattle.list_certificate.specs.declared.certificate_types.Cert.{Cert}
 use Rattle.list_certificate.specs.declared.certificate_types.Verdict.{Verdict}
@@ -47,8 +49,11 @@ check_words words = check_by (two_words (codes "check") words)
 
 -- the line of a verdict, and its status
 
-unfoldable pub least_line : ℕ → ℕ → List ℕ
-least_line containers need = codes "least " ++ (decimal containers ++ 32 ∷ (decimal need ++ 10 ∷ []))
+-- the number of SIDs stands in it where the intent prefers few of them
+unfoldable pub least_line : Prefer → ℕ → ℕ → ℕ → List ℕ
+least_line prefers.Need containers sids need = codes "least " ++ (decimal containers ++ 32 ∷ (decimal need ++ 10 ∷ []))
+least_line prefers.Sids containers sids need =
+    codes "least " ++ (decimal containers ++ 32 ∷ (decimal sids ++ 32 ∷ (decimal need ++ 10 ∷ [])))
 
 unfoldable pub no_list_line : List ℕ
 no_list_line = line (codes "none")
@@ -71,31 +76,32 @@ bad_line net number (whys.Unlisted state) = unlisted_line number (state_text net
 bad_line net number whys.Path = path_line number
 bad_line net number whys.Tight = tight_line number
 
-abbrev pub verdict_line : Network → Verdict → List ℕ
-verdict_line net (Least containers need) = least_line containers need
-verdict_line net NoList = no_list_line
-verdict_line net (No number why) = bad_line net number why
+abbrev pub verdict_line : Network → Prefer → Verdict → List ℕ
+verdict_line net prefer (Least containers sids need) = least_line prefer containers sids need
+verdict_line net prefer NoList = no_list_line
+verdict_line net prefer (No number why) = bad_line net number why
 
 abbrev pub verdict_status : Verdict → Status
-verdict_status (Least containers need) = statuses.Done
+verdict_status (Least containers sids need) = statuses.Done
 verdict_status NoList = statuses.Done
 verdict_status (No number why) = statuses.SaysNo
 
--- the verdict on a certificate over the legs of the intent, and what it says of lists: with `Least` a legal list of so many containers
--- realizes the intent with this need, and no legal list that does so has fewer, or as many and a smaller need; with `NoList` none does; and
--- so it is of the legal lists that hand over even one inner packet
+-- the verdict on a certificate over the legs of the intent, and what it says of lists: with `Least` a legal list of so many containers, and
+-- where the intent prefers few SIDs of so many SIDs, realizes the intent with this need, and no legal list that does so has fewer containers,
+-- or as many and, where SIDs count, fewer of them, or as many of all that and a smaller need; with `NoList` none does; and so it is of the
+-- legal lists that hand over even one inner packet
 pub record IsChecked (net : Network) (intent : Intent) (cert : Cert) (verdict : Verdict) : Type 0 where
   pub is : IsVerdict (intent_legs_value net intent) cert verdict
   pub says : SaysFor net intent verdict
   pub handing : SaysOfHandingFor net intent verdict
 
-abbrev pub told_of : Network → Verdict → Output
-told_of net verdict = reported (verdict_line net verdict) [] (verdict_status verdict)
+abbrev pub told_of : Network → Prefer → Verdict → Output
+told_of net prefer verdict = reported (verdict_line net prefer verdict) [] (verdict_status verdict)
 
 -- the description is judged, then the intent, then whether the network is flat, and then the certificate
 
 abbrev pub VerdictWants : Network → Intent → Cert → Output → Type 0
-VerdictWants net intent cert output = (verdict : Verdict) × IsChecked net intent cert verdict × (output ≡ told_of net verdict)
+VerdictWants net intent cert output = (verdict : Verdict) × IsChecked net intent cert verdict × (output ≡ told_of net intent.prefer verdict)
 
 abbrev pub CertWants : Network → Intent → Result Cert Refusal → Output → Type 0
 CertWants net intent (Err refusal) output = output ≡ refused refusal

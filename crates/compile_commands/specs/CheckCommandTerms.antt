@@ -54,7 +54,7 @@ KnowsWhy net whys.Path = ⊤
 KnowsWhy net whys.Tight = ⊤
 
 abbrev pub KnowsState : Network → Verdict → Type 0
-KnowsState net (Least containers need) = ⊤
+KnowsState net (Least containers sids need) = ⊤
 KnowsState net NoList = ⊤
 KnowsState net (No number why) = KnowsWhy net why
 

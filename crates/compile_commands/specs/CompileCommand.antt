@@ -4,6 +4,9 @@ use Rattle.std.specs.List.{flat_map}
 use Rattle.std.specs.Fmt.{decimal}
 use Rattle.v6_addr.specs.Text.{address_text}
 use Rattle.net_model.specs.Network.{Network}
+use Rattle.net_syntax.specs.declared.intent_table.Prefer.{Prefer}
+use Rattle.net_syntax.specs.declared.intent_table.Prefer.TheVariants as prefers
+use Rattle.intent_reader.specs.Preferences.{sid_cost_of}
 use Rattle.intent_reader.specs.declared.intent.Intent.{Intent}
 use Rattle.list_pack.specs.declared.types.Solution.{Solution}
 use Rattle.list_pack.specs.SidLists.{list_values}
@@ -43,22 +46,31 @@ compile_words words = compile_by (two_words (codes "compile") words)
 unfoldable pub container_line : ℕ → List ℕ
 container_line value = line (codes "# container " ++ address_text value)
 
--- the report's numbers: containers, header bytes, need
-unfoldable pub numbers_lines : ℕ → ℕ → ℕ → List ℕ
-numbers_lines count header need =
-    codes "# containers " ++ (decimal count ++ 10 ∷ (codes "# header " ++ (decimal header ++ 10 ∷ (codes "# need "
-    ++ (decimal need ++ 10 ∷ [])))))
+-- a line with a number
+unfoldable pub number_line : List ℕ → ℕ → List ℕ
+number_line word number = codes "# " ++ (word ++ 32 ∷ (decimal number ++ 10 ∷ []))
+
+-- how many SIDs the list has, where the intent prefers few of them
+abbrev pub sids_lines : Prefer → ℕ → List ℕ
+sids_lines prefers.Need count = []
+sids_lines prefers.Sids count = number_line (codes "sids") count
+
+-- the report's numbers: containers, SIDs where the intent prefers few of them, header bytes, need
+abbrev pub numbers_lines : Prefer → Compiled → List ℕ
+numbers_lines prefer c =
+    number_line (codes "containers") c.containers ++ sids_lines prefer c.sids ++ number_line (codes "header") c.header
+    ++ number_line (codes "need") c.need
 
 -- a container's line has its 16 bytes as an address
-abbrev pub report_of : Network → Compiled → List ℕ
-report_of net c = flat_map container_line (list_values net c.list) ++ numbers_lines c.containers c.header c.need
+abbrev pub report_of : Network → Prefer → Compiled → List ℕ
+report_of net prefer c = flat_map container_line (list_values net c.list) ++ numbers_lines prefer c
 
 unfoldable pub no_report : List ℕ
 no_report = line (codes "# none")
 
--- the report, and the certificate of what the search found after it
-abbrev pub printed : Network → List ℕ → Solution → List ℕ
-printed net report solution = report ++ spelled net solution
+-- the report, and after it the certificate of what the search found, of the form that the intent's preference asks for
+abbrev pub printed : Network → Prefer → List ℕ → Solution → List ℕ
+printed net prefer report solution = report ++ spelled net (sid_cost_of prefer) solution
 
 unfoldable pub none_line : List ℕ
 none_line = line (codes "no answer NoList")
@@ -71,14 +83,17 @@ hop_limit_line need = line (codes "no answer HopLimit " ++ decimal need)
 
 -- the output of an answer of the compiler; want of memory has none
 abbrev pub AnswerWants : Network → Intent → Result Compiled CompileFault → Output → Type 0
-AnswerWants net intent (Ok c) output = output ≡ reported (printed net (report_of net c) c.solution) [] statuses.Done
+AnswerWants net intent (Ok c) output =
+    output ≡ reported (printed net intent.prefer (report_of net intent.prefer c) c.solution) [] statuses.Done
 AnswerWants net intent (Err (faults.NotFlat why)) output = output ≡ refused (flat_refusal net why)
 AnswerWants net intent (Err (faults.NoList solution)) output =
-    output ≡ reported (printed net no_report solution) none_line statuses.NoAnswer
+    output ≡ reported (printed net intent.prefer no_report solution) none_line statuses.NoAnswer
 AnswerWants net intent (Err (faults.TooLong found)) output =
-    output ≡ reported (printed net (report_of net found) found.solution) (too_long_line found.containers) statuses.NoAnswer
+    output ≡ reported (printed net intent.prefer (report_of net intent.prefer found) found.solution) (too_long_line found.containers)
+    statuses.NoAnswer
 AnswerWants net intent (Err (faults.HopLimit found)) output =
-    output ≡ reported (printed net (report_of net found) found.solution) (hop_limit_line found.need) statuses.NoAnswer
+    output ≡ reported (printed net intent.prefer (report_of net intent.prefer found) found.solution) (hop_limit_line found.need)
+    statuses.NoAnswer
 AnswerWants net intent (Err faults.NoMemory) output = ⊥
 
 -- the description is judged, then the intent, and then any answer of the compiler will do: a list is the least among all legal lists that

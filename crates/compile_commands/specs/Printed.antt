@@ -25,19 +25,23 @@ pub record HoldsPrinted (old new : Held) (file intent cert : List ℕ) (printed 
   pub certified : file_named new cert ≡ Some (bytes_for_out printed.pieces)
   pub small : length (bytes_for_out printed.pieces) ≤ MAX_TEXT_BYTES
 
--- the output of `check` by the compiler's answer: `least` with the list's containers and need, also where the list is over a bound of the
--- intent; `none` where there is none; a network that is not flat is refused by both commands
-abbrev pub ConfirmsAnswer : Network → Result Compiled CompileFault → Output → Type 0
-ConfirmsAnswer net (Ok c) output = output ≡ reported (least_line c.containers c.need) [] statuses.Done
-ConfirmsAnswer net (Err (faults.NotFlat why)) output = output ≡ refused (flat_refusal net why)
-ConfirmsAnswer net (Err (faults.NoList solution)) output = output ≡ reported no_list_line [] statuses.Done
-ConfirmsAnswer net (Err (faults.TooLong found)) output = output ≡ reported (least_line found.containers found.need) [] statuses.Done
-ConfirmsAnswer net (Err (faults.HopLimit found)) output = output ≡ reported (least_line found.containers found.need) [] statuses.Done
-ConfirmsAnswer net (Err faults.NoMemory) output = ⊥
+-- the output of `check` by the compiler's answer: `least` with the list's containers and need, and between them its SIDs where the intent
+-- prefers few, also where the list is over a bound of the intent; `none` where there is none; a network that is not flat is refused by both
+-- commands
+abbrev pub ConfirmsList : Intent → Compiled → Output → Type 0
+ConfirmsList intent c output = output ≡ reported (least_line intent.prefer c.containers c.sids c.need) [] statuses.Done
+
+abbrev pub ConfirmsAnswer : Network → Intent → Result Compiled CompileFault → Output → Type 0
+ConfirmsAnswer net intent (Ok c) output = ConfirmsList intent c output
+ConfirmsAnswer net intent (Err (faults.NotFlat why)) output = output ≡ refused (flat_refusal net why)
+ConfirmsAnswer net intent (Err (faults.NoList solution)) output = output ≡ reported no_list_line [] statuses.Done
+ConfirmsAnswer net intent (Err (faults.TooLong found)) output = ConfirmsList intent found output
+ConfirmsAnswer net intent (Err (faults.HopLimit found)) output = ConfirmsList intent found output
+ConfirmsAnswer net intent (Err faults.NoMemory) output = ⊥
 
 -- what was printed is what is wanted of `compile` for an answer of the compiler, and the output of `check` is that answer's
 abbrev pub ConfirmsPrinted : Output → Network → Intent → Result Compiled CompileFault → Output → Type 0
-ConfirmsPrinted printed net intent answer output = AnswerWants net intent answer printed × ConfirmsAnswer net answer output
+ConfirmsPrinted printed net intent answer output = AnswerWants net intent answer printed × ConfirmsAnswer net intent answer output
 
 -- of an output that is wanted of `compile`, exactly these are wanted of `check` with what was printed; where the description or the
 -- intent is refused, both are that refusal

@@ -4,6 +4,7 @@
 use Rattle.std.specs.Prelude.{◌≡◌, List, Option, Result, Ok, Err, IsSomeAnd, ℕ}
 use Rattle.net_model.specs.Network.{Network}
 use Rattle.net_flatness.specs.declared.not_flat.NotFlat.{NotFlat}
+use Rattle.intent_reader.specs.Preferences.{sid_cost_of}
 use Rattle.intent_reader.specs.declared.intent.Intent.{Intent}
 use Rattle.list_certificate.specs.declared.certificate_types.Cert.{Cert}
 use Rattle.list_certificate.specs.declared.certificate_types.Verdict.{Verdict}
@@ -31,12 +32,13 @@ StrictlyCompiled net intent output =
 
 pub record IsStrictlyChecked (net : Network) (intent : Intent) (cert : Cert) (verdict : Verdict) : Type 0 where
   pub is : IsVerdict (legs_value net intent) cert verdict
-  pub says : Says net (ListRealizes net intent) (ListExecutes net intent) verdict
+  pub says : Says (sid_cost_of intent.prefer) net (ListRealizes net intent) (ListExecutes net intent) verdict
   pub handing : SaysOfHanding net intent verdict
 
 abbrev pub StrictCert : Network → Intent → Result Cert Refusal → Output → Type 0
 StrictCert net intent (Err refusal) output = output ≡ refused refusal
-StrictCert net intent (Ok cert) output = (verdict : Verdict) × IsStrictlyChecked net intent cert verdict × (output ≡ told_of net verdict)
+StrictCert net intent (Ok cert) output =
+    (verdict : Verdict) × IsStrictlyChecked net intent cert verdict × (output ≡ told_of net intent.prefer verdict)
 
 abbrev pub StrictlyJudged : Network → Intent → Result (Unit {0}) NotFlat → Option (List ℕ) → Output → Type 0
 StrictlyJudged net intent (Err why) cert output = output ≡ refused (flat_refusal net why)

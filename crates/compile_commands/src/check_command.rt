@@ -19,7 +19,7 @@ use command_output::{
     Conclusion, Halt, Judgement, Status, Text, refusal_of_not_flat, two_words_after, write_all,
 };
 use intent_compiler::IntentLegs;
-use intent_reader::Intent;
+use intent_reader::{Intent, Prefer};
 use list_certificate::{Cert, Verdict, Why, append_state};
 use list_pack::State;
 use net_flatness::compilable;
@@ -53,12 +53,22 @@ pub fn check_of_words(words: &[String]) -> Option<CheckWords<'_>>
     }
 }
 
-/// The line of the least pair of containers and need.
+/// The line of the least containers and need, and between them of the SIDs where few are preferred.
 #[tactic(auto, unfolding(crate::specs::CheckCommand::least_line))]
-fn line_of_least(alloc: Global, containers: u32, need: u32) -> Result<Text, AllocError>
-    ensures { IfOk result (λ line. bytes_of_text line ≡ least_line containers need) }
+fn line_of_least(
+    alloc: Global,
+    prefer: Prefer,
+    containers: u32,
+    sids: u32,
+    need: u32,
+) -> Result<Text, AllocError>
+    ensures { IfOk result (λ line. bytes_of_text line ≡ least_line prefer containers sids need) }
 {
-    Ok(Text::Made(format!(in alloc; "least {containers} {need}\n")?))
+    let line = match prefer {
+        Prefer::Need => format!(in alloc; "least {containers} {need}\n")?,
+        Prefer::Sids => format!(in alloc; "least {containers} {sids} {need}\n")?,
+    };
+    Ok(Text::Made(line))
 }
 
 /// The line that says that no list realizes the intent.
@@ -106,13 +116,22 @@ fn line_of_tight(alloc: Global, number: u32) -> Result<Text, AllocError>
     Ok(Text::Made(format!(in alloc; "no {number} tight\n")?))
 }
 
-/// The line of a verdict.
-fn line_of_verdict(alloc: Global, net: &Net, verdict: Verdict) -> Result<Text, AllocError>
+/// The line of a verdict on a certificate for an intent with a preference.
+fn line_of_verdict(
+    alloc: Global,
+    net: &Net,
+    prefer: Prefer,
+    verdict: Verdict,
+) -> Result<Text, AllocError>
     requires { KnowsState net.now verdict }
-    ensures { IfOk result (λ line. bytes_of_text line ≡ verdict_line net.now verdict) }
+    ensures { IfOk result (λ line. bytes_of_text line ≡ verdict_line net.now prefer verdict) }
 {
     match verdict {
-        Verdict::Least { containers, hops } => line_of_least(alloc, containers, hops),
+        Verdict::Least {
+            containers,
+            sids,
+            hops,
+        } => line_of_least(alloc, prefer, containers, sids, hops),
         Verdict::NoList => Ok(line_of_no_list()),
         Verdict::No {
             line,
@@ -163,17 +182,19 @@ fn legs_of_flat<'a>(alloc: Global, net: &'a Net, intent: &'a Intent) -> Result<I
 fn judgement_of_cert(
     alloc: Global,
     net: &Net,
+    intent: &Intent,
     legs: &IntentLegs<'_>,
     cert: &Cert,
 ) -> Result<Judgement, AllocError>
     requires net { legs.now.net ≡ net.now }
+    requires intent { legs.now.intent ≡ intent.now }
     requires cert { IsCert (intent_legs_value legs.now.net legs.now.intent) cert.now }
-    ensures { IfOk result (JudgesAs net.now legs.now.intent cert.now) }
+    ensures { IfOk result (JudgesAs net.now intent.now cert.now) }
 {
     legs.keeps_rules();
     let verdict = intent_compiler::check(legs, cert);
     Ok(Judgement {
-        line: line_of_verdict(alloc, net, verdict)?,
+        line: line_of_verdict(alloc, net, intent.prefer, verdict)?,
         status: status_of_verdict(verdict),
     })
 }
@@ -198,7 +219,7 @@ pub fn check<F: Files, O: Sink>(
     let intent = intent_of_file(alloc, files, &net, intent)?;
     let legs = legs_of_flat(alloc, &net, &intent)?;
     let cert = cert_of_file(alloc, files, &net, &legs, cert)?;
-    let judgement = judgement_of_cert(alloc, &net, &legs, &cert)?;
+    let judgement = judgement_of_cert(alloc, &net, &intent, &legs, &cert)?;
     write_all(out, judgement.line.as_bytes())?;
     Ok(Conclusion {
         line: Text::Fixed(b""),

@@ -1,12 +1,12 @@
 //! The command `compile`: a list for the intent of a file in the network that another describes.
 
-ghost use Rattle.std.specs.Prelude.{◌≡◌, [], IfOk, string_bytes};
+ghost use Rattle.std.specs.Prelude.{◌≡◌, ◌++◌, [], IfOk, OnOk, string_bytes};
 ghost use Rattle.std.specs.List.{flat_map};
 ghost use Rattle.net_model.specs.NetworkRulesTerms.{IsNetwork};
 ghost use Rattle.intent_compiler.specs.CompilerAnswers.{IntentAnswers};
 ghost use Rattle.command_output.specs.CommandAnswers.{CommandsUnread};
 ghost use Rattle.intent_reader.specs.IntentRulesTerms.{IsIntent};
-ghost use Rattle.compile_commands.specs.CompileCommand.{compile_spec, compile_words, container_line, hop_limit_line, none_line, numbers_lines, printed, report_of, too_long_line};
+ghost use Rattle.compile_commands.specs.CompileCommand.{compile_spec, compile_words, container_line, hop_limit_line, none_line, number_line, numbers_lines, printed, report_of, too_long_line};
 ghost use Rattle.compile_commands.specs.CompileCommandTerms.{HasValues, KnowsStates, compile_asked};
 ghost use Rattle.command_output.specs.OutputLinesTerms.{bytes_of_text};
 ghost use Rattle.command_output.specs.Verbs.{words_of};
@@ -16,7 +16,7 @@ use command_inputs::{intent_of_file, network_of_file};
 use command_output::{
     Conclusion, Failure, Halt, Status, Text, refusal_of_not_flat, two_words_after, write_all,
 };
-use intent_reader::Intent;
+use intent_reader::{Intent, Prefer};
 use list_certificate::print;
 use list_pack::{Solution, values};
 use net_model::Net;
@@ -69,44 +69,66 @@ fn lines_of_containers(alloc: Global, values: &[Addr]) -> Result<String, AllocEr
     Ok(lines)
 }
 
-/// The lines of a list's numbers: containers, header bytes and need.
-#[tactic(auto, unfolding(crate::specs::CompileCommand::numbers_lines))]
+/// The line of a number of the report.
+#[tactic(auto, unfolding(crate::specs::CompileCommand::number_line))]
+fn append_number(word: &str, number: u64, out: &mut String) -> Result<(), AllocError>
+    ensures { OnOk result (string_bytes out.new
+        ≡ string_bytes out.old ++ number_line word.now number) }
+{
+    writeln!(out, "# {word} {number}")
+}
+
+/// The lines of a list's numbers: containers, SIDs where few are preferred, header bytes and need.
 fn lines_of_numbers(
     alloc: Global,
-    containers: u32,
-    header: u64,
-    need: u32,
+    prefer: Prefer,
+    compiled: &Compiled,
 ) -> Result<String, AllocError>
-    ensures { IfOk result (λ lines. string_bytes lines ≡ numbers_lines containers header need) }
+    ensures { IfOk result (λ lines. string_bytes lines ≡ numbers_lines prefer compiled.now) }
 {
-    format!(in alloc; "# containers {containers}\n# header {header}\n# need {need}\n")
+    let mut lines = String::new(alloc);
+    append_number("containers", u64::from(compiled.containers), &mut lines)?;
+    if prefer == Prefer::Sids {
+        append_number("sids", compiled.sids, &mut lines)?;
+    }
+    append_number("header", compiled.header, &mut lines)?;
+    append_number("need", u64::from(compiled.need), &mut lines)?;
+    Ok(lines)
 }
 
 /// The report of a list.
-fn report_of_list(alloc: Global, net: &Net, compiled: &Compiled) -> Result<String, NoMemory>
+fn report_of_list(
+    alloc: Global,
+    net: &Net,
+    prefer: Prefer,
+    compiled: &Compiled,
+) -> Result<String, NoMemory>
     requires { HasValues net.now compiled.now }
-    ensures { IfOk result (λ report. string_bytes report ≡ report_of net.now compiled.now) }
+    ensures { IfOk result (λ report. string_bytes report ≡ report_of net.now prefer compiled.now) }
 {
     let values = values(alloc, net, &compiled.list)?;
     let mut report = lines_of_containers(alloc, values.as_slice())?;
-    let numbers = lines_of_numbers(alloc, compiled.containers, compiled.header, compiled.need)?;
+    let numbers = lines_of_numbers(alloc, prefer, compiled)?;
     report.push_str(&numbers)?;
     Ok(report)
 }
 
-/// A report, and the certificate of what the search found after it.
+/// A report, and after it the certificate of what the search found, of the form that goes with the
+/// preference.
 fn with_certificate(
     alloc: Global,
     net: &Net,
+    prefer: Prefer,
     report: &[u8],
     solution: &Solution,
 ) -> Result<Text, NoMemory>
     requires { KnowsStates net.now solution.now }
-    ensures { IfOk result (λ text. bytes_of_text text ≡ printed net.now report.now solution.now) }
+    ensures { IfOk result (λ text. bytes_of_text text
+        ≡ printed net.now prefer report.now solution.now) }
 {
     let mut bytes = Vec::new(alloc);
     bytes.extend_from_slice(report)?;
-    print(alloc, net, solution, &mut bytes)?;
+    print(alloc, net, prefer.sid_cost(), solution, &mut bytes)?;
     Ok(Text::Bytes(bytes))
 }
 
@@ -150,6 +172,7 @@ impl Answer {
     fn of_list(
         alloc: Global,
         net: &Net,
+        prefer: Prefer,
         found: &Compiled,
         line: Text,
         status: Status,
@@ -157,25 +180,30 @@ impl Answer {
         requires values { HasValues net.now found.now }
         requires known { KnowsStates net.now found.now.solution }
         ensures { IfOk result (λ answer. output_of_answer answer
-            ≡ reported (printed net.now (report_of net.now found.now) found.now.solution)
+            ≡ reported (printed net.now prefer (report_of net.now prefer found.now) found.now.solution)
             (bytes_of_text line) status) }
     {
-        let report = report_of_list(alloc, net, found)?;
+        let report = report_of_list(alloc, net, prefer, found)?;
         Ok(Answer {
-            report: with_certificate(alloc, net, report.as_bytes(), &found.solution)?,
+            report: with_certificate(alloc, net, prefer, report.as_bytes(), &found.solution)?,
             told: Conclusion { line, status },
         })
     }
 
     /// The answer where there is no list.
     #[tactic(auto, unfolding(crate::specs::CompileCommand::no_report))]
-    fn of_none(alloc: Global, net: &Net, solution: &Solution) -> Result<Answer, NoMemory>
+    fn of_none(
+        alloc: Global,
+        net: &Net,
+        prefer: Prefer,
+        solution: &Solution,
+    ) -> Result<Answer, NoMemory>
         requires { KnowsStates net.now solution.now }
         ensures { IfOk result (λ answer. output_of_answer answer
-            ≡ reported (printed net.now no_report solution.now) none_line Status.NoAnswer) }
+            ≡ reported (printed net.now prefer no_report solution.now) none_line Status.NoAnswer) }
     {
         Ok(Answer {
-            report: with_certificate(alloc, net, b"# none\n", solution)?,
+            report: with_certificate(alloc, net, prefer, b"# none\n", solution)?,
             told: Conclusion {
                 line: line_of_none(),
                 status: Status::NoAnswer,
@@ -196,20 +224,23 @@ impl Answer {
         requires answers { IntentAnswers net.now intent.now compiled.now }
         ensures { GivesAnswer net.now intent.now compiled.now result }
     {
+        let prefer = intent.prefer;
         match compiled {
             Ok(list) => {
                 let line = Text::Fixed(b"");
-                Ok(Answer::of_list(alloc, net, list, line, Status::Done)?)
+                Ok(Answer::of_list(alloc, net, prefer, list, line, Status::Done)?)
             }
             Err(CompileFault::NotFlat(why)) => Err(Halt::Refused(refusal_of_not_flat(net, why))),
-            Err(CompileFault::NoList { solution }) => Ok(Answer::of_none(alloc, net, solution)?),
+            Err(CompileFault::NoList { solution }) => {
+                Ok(Answer::of_none(alloc, net, prefer, solution)?)
+            }
             Err(CompileFault::TooLong { found }) => {
                 let line = line_of_too_long(alloc, found.containers)?;
-                Ok(Answer::of_list(alloc, net, found, line, Status::NoAnswer)?)
+                Ok(Answer::of_list(alloc, net, prefer, found, line, Status::NoAnswer)?)
             }
             Err(CompileFault::HopLimit { found }) => {
                 let line = line_of_hop_limit(alloc, found.need)?;
-                Ok(Answer::of_list(alloc, net, found, line, Status::NoAnswer)?)
+                Ok(Answer::of_list(alloc, net, prefer, found, line, Status::NoAnswer)?)
             }
             Err(CompileFault::NoMemory) => Err(Halt::Failed(Failure::NoMemory)),
         }

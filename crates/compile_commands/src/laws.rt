@@ -17,10 +17,10 @@ use net_reader::networks_keep_the_rules;
 
 /// What `compile` writes to `out`, where it has no more bytes than a file may have, is a
 /// certificate that `check` confirms, given the same description and intent: it tells `least` with
-/// exactly the report's containers and need, also of a list that is too long or needs too high a
-/// hop limit, or `none` where there is no list. What `compile` refuses `check` refuses with the
-/// same line, where the certificate's file is there and holds what `compile` wrote, which is
-/// nothing.
+/// exactly the report's containers and need, and its SIDs where it has them, also of a list that is
+/// too long or needs too high a hop limit, or `none` where there is no list. What `compile` refuses
+/// `check` refuses with the same line, where the certificate's file is there and holds what
+/// `compile` wrote, which is nothing.
 pub fn check_confirms_what_compile_prints()
     ensures { CheckConfirmsCompile }
 {

@@ -46,7 +46,7 @@ returns-in_err-write_all g c =
     rw (p.1, p.2) (check_halted_at_out c.args.file.now c.args.intent.now c.args.cert.now _ _ _ _ _ _
     c.in_ok-net.net c.in_ok-net.ensures.judged c.in_ok-intent.intent c.in_ok-intent.ensures.judged
     c.in_ok-legs.ensures.legs.1 c.in_ok-cert.cert (rw c.in_ok-legs.ensures.legs.0 at c.in_ok-cert.ensures.judged)
-    c.in_ok-judgement.judgement (rw c.in_ok-legs.ensures.legs.0 at c.in_ok-judgement.ensures) c.in_err-write_all.field-0.0
+    c.in_ok-judgement.judgement c.in_ok-judgement.ensures c.in_err-write_all.field-0.0
     (rw c.as_bytes.ensures at c.in_err-write_all.ensures.wrote))
 
 pub returns : goal.returns
@@ -54,5 +54,5 @@ returns g c =
     check_done c.args.file.now c.args.intent.now c.args.cert.now _ _ _ _ _ _
     c.in_ok-net.net c.in_ok-net.ensures.judged c.in_ok-intent.intent c.in_ok-intent.ensures.judged
     c.in_ok-legs.ensures.legs.1 c.in_ok-cert.cert (rw c.in_ok-legs.ensures.legs.0 at c.in_ok-cert.ensures.judged)
-    c.in_ok-judgement.judgement (rw c.in_ok-legs.ensures.legs.0 at c.in_ok-judgement.ensures) _ refl refl
+    c.in_ok-judgement.judgement c.in_ok-judgement.ensures _ refl refl
     (rw c.as_bytes.ensures at c.in_ok-write_all.ensures.wrote)
