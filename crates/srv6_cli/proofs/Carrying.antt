@@ -1,5 +1,5 @@
 -- The headline, from what `serve` leaves of a run of `walk`.
-use Rattle.std.proofs.Common.{◌≡◌, inl, inr, ℕ, ◌^◌, ◌<◌, ◌≤◌, Bool, true, false, if◌then◌else◌, List, [], ◌∷◌, length, map, Option, None, Some, Result, Ok, Err, refl, sym, ap, ◌∙◌, subst, arith}
+use Rattle.std.proofs.Common.{◌≡◌, inl, inr, ℕ, ◌*◌, ◌^◌, ◌<◌, ◌≤◌, Bool, true, false, if◌then◌else◌, List, [], ◌∷◌, length, map, Option, None, Some, Result, Ok, Err, refl, sym, ap, ◌∙◌, subst, arith}
 use Rattle.std.specs.Prelude.{IsSomeAnd, nat_le, nat_lt}
 use Rattle.std.specs.Result.{IsOk}
 use Rattle.v6_addr.specs.declared.address.Addr.{Addr}
@@ -16,8 +16,10 @@ use Rattle.net_flatness.specs.declared.not_flat.NotFlat.{NotFlat}
 use Rattle.net_flatness.proofs.PublicLaws.{flatness_ok}
 use Rattle.walk_rules.specs.declared.limits.TheConstants.{MAX_STAGES}
 use Rattle.walk_rules.proofs.PublicLaws.{walk_of_list}
+use Rattle.intent_reader.specs.Preferences.{sid_cost_of}
 use Rattle.intent_reader.specs.declared.intent.Intent.{Intent}
-use Rattle.list_pack.specs.SidLists.{list_values}
+use Rattle.list_pack.specs.declared.types.Container.{Container}
+use Rattle.list_pack.specs.SidLists.{IsLegalList, list_values, prefixes_in}
 use Rattle.leg_table.specs.Realizes.{IsInner, encapsulation_of, headend_place}
 use Rattle.binding_spec.specs.OwnHandCounting.{handed_at_depth}
 use Rattle.path_compiler.specs.declared.compiled.Compiled.{Compiled}
@@ -34,11 +36,12 @@ use Rattle.command_output.proofs.PublicLaws.{groups_whole}
 use Rattle.command_inputs.specs.Judgements.{intent_in, network_in}
 use Rattle.command_inputs.proofs.PublicLaws.{RulesAreKept, rules_kept}
 use Rattle.compile_commands.specs.CompileCommand.{CompiledWants, IntentWants, NetworkWants, Wanted}
-use Rattle.compile_commands.specs.CompiledLists.{IntentAnswers, IsCompiledFor, IsLeastFor, NoneLessFor}
+use Rattle.compile_commands.specs.CompiledLists.{IntentAnswers, IsCompiledFor, IsLeastFor, ListHandsFor, NoneLessFor}
+use Rattle.compile_commands.proofs.PublicLaws.{cost_for}
 use Rattle.walk_commands.specs.WalkCommand.{Enters, KeepsTo, WalkWants, WalksKeep, of_content, of_encapsulating, policy_of, segment_of, walk_at_headend}
 use Rattle.srv6_cli.specs.Captured.{IsSmallEnough, Wrote, outer_for}
 use Rattle.srv6_cli.specs.Commands.{spec_of, walk_by}
-use Rattle.srv6_cli.specs.Headline.{Carries, ComesTo, IsCarried, WalkRun}
+use Rattle.srv6_cli.specs.Headline.{Carries, ComesTo, IsCarried, IsNoWorse, WalkRun}
 use Rattle.srv6_cli.proofs.Captures.{captured_all, captured_each}
 use Rattle.srv6_cli.proofs.ServeHopLimits.{hop_limit_byte}
 
@@ -182,6 +185,22 @@ module _ (keeps : AllWalksKeep) (net : Network) (intent : Intent) (c : Compiled)
         lowered = (kept listed.0 listed.1).lowered;
       }
 
+-- a list that hands over even one inner packet is no better
+no_worse : (net : Network) (intent : Intent) (c : Compiled) → IsCompiledFor net intent c → IsLeastFor net intent c
+    → (other : List Container) (hop : ℕ) → IsLegalList net other → ListHandsFor net intent other hop → IsNoWorse intent c.list other
+no_worse net intent c compiled least other hop legal hands =
+    let at_most = least.least other hop legal hands in
+    let containers : c.containers ≡ length c.list = compiled.found.containers in
+    let sids : c.sids ≡ length (prefixes_in c.list) = compiled.found.sids in
+    record {
+      containers = omega (arith, containers, at_most.containers);
+      sids = λ prefers same.
+          let cost = cost_for net intent ∙ ap sid_cost_of prefers in
+          let few : 1 * c.sids ≤ 1 * length (prefixes_in other)
+          = subst (λ (each : ℕ). each * c.sids ≤ each * length (prefixes_in other)) cost (at_most.sids (containers ∙ same)) in
+          omega (arith, sids, few);
+    }
+
 carries : AllWalksKeep → (net : Network) (intent : Intent) (c : Compiled) → IsNetwork net → intent.hop_limit < 2 ^ 8
     → IsCompiledFor net intent c → IsLeastFor net intent c → Carries net intent c
 carries keeps net intent c network byte compiled least = record {
@@ -190,6 +209,7 @@ carries keeps net intent c network byte compiled least = record {
   fewest = λ other hop legal hands.
       subst (λ (bytes : ℕ). bytes ≤ header_bytes intent.reduced (length other))
       (compiled.found.header ∙ ap (header_bytes intent.reduced) compiled.found.containers) (least.fewest other hop legal hands);
+  preferred = λ other hop legal hands. no_worse net intent c compiled least other hop legal hands;
 }
 
 -- ---- the headline

@@ -17,7 +17,8 @@ use Rattle.toml_reader.specs.TomlReading.{document_of, or_fault}
 use Rattle.toml_reader.specs.Tree.{addr_in, integer_in, name_in, needed, number_in, number_within, only, optional, or_default, word_in}
 use Rattle.net_syntax.specs.declared.limits.TheConstants.{DEFAULT_CONTAINERS, MAX_CONTAINERS}
 use Rattle.net_syntax.specs.declared.intent_table.DescribedIntent.{DescribedIntent}
-use Rattle.net_syntax.specs.TextWords.{family_of, mode_of}
+use Rattle.net_syntax.specs.declared.intent_table.Prefer.TheVariants as prefers
+use Rattle.net_syntax.specs.TextWords.{family_of, mode_of, prefer_of}
 use Rattle.net_syntax.specs.IntentText.{intent_in as words_in, intent_of, intent_place, steps_at}
 use Rattle.intent_reader.specs.declared.intent.Intent.{Intent}
 use Rattle.intent_reader.specs.declared.fault.IntentFault.{IntentFault}
@@ -53,7 +54,7 @@ SaysOctet d = d.hop_limit ≤ LAST_OCTET
 abbrev root_keys : List Key
 root_keys =
     keys.Headend ∷ keys.Source ∷ keys.Inner ∷ keys.Mode ∷ keys.HopLimit ∷ keys.MaxContainers ∷ keys.TrafficClass ∷ keys.FlowLabel
-    ∷ keys.Step ∷ []
+    ∷ keys.Prefer ∷ keys.Step ∷ []
 
 words_octet : (root : Members) → Holds SaysOctet (intent_of root)
 words_octet root =
@@ -66,6 +67,7 @@ words_octet root =
     after SaysOctet (optional (number_in 1 MAX_CONTAINERS) DEFAULT_CONTAINERS intent_place known keys.MaxContainers) _ (λ containers c.
     after SaysOctet (optional (number_in 0 LAST_OCTET) 0 intent_place known keys.TrafficClass) _ (λ class t.
     after SaysOctet (optional (number_in 0 LAST_FLOW_LABEL) 0 intent_place known keys.FlowLabel) _ (λ label f.
+    after SaysOctet (optional (word_in prefer_of) prefers.Need intent_place known keys.Prefer) _ (λ prefer w.
     after SaysOctet (steps_at known) _ (λ all a.
     let d : DescribedIntent = record {
       headend = headend;
@@ -76,10 +78,11 @@ words_octet root =
       max_containers = containers;
       traffic_class = class;
       flow_label = label;
+      prefer = prefer;
       steps = all;
     } in
     tested SaysOctet true d (fault_at intent_place kinds.NotToml)
-    (λ h. (octet_optional intent_place keys.HopLimit (get_member (key_text keys.HopLimit) known)).given limit l)))))))))))
+    (λ h. (octet_optional intent_place keys.HopLimit (get_member (key_text keys.HopLimit) known)).given limit l))))))))))))
 
 said_octet : (text : List ℕ) → Holds SaysOctet (words_in text)
 said_octet text =

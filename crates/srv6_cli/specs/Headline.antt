@@ -6,9 +6,10 @@ use Rattle.net_model.specs.Network.{Network}
 use Rattle.net_flatness.specs.Flat.{IsFlat}
 use Rattle.walk_rules.specs.declared.limits.TheConstants.{MAX_STAGES}
 use Rattle.walk_rules.specs.Walk.{walk_of}
+use Rattle.net_syntax.specs.declared.intent_table.Prefer.TheVariants as prefers
 use Rattle.intent_reader.specs.declared.intent.Intent.{Intent}
 use Rattle.list_pack.specs.declared.types.Container.{Container}
-use Rattle.list_pack.specs.SidLists.{IsLegalList}
+use Rattle.list_pack.specs.SidLists.{IsLegalList, prefixes_in}
 use Rattle.leg_table.specs.Realizes.{IsInner, content_lowered, headend_place}
 use Rattle.leg_table.specs.WalkTrace.{Handed}
 use Rattle.binding_spec.specs.OwnHandCounting.{handed_at_depth}
@@ -60,7 +61,14 @@ pub record IsCarried (net : Network) (intent : Intent) (c : Compiled) (inner : C
   -- What is handed over has its hop limit or TTL lowered by one (with IPv4 the checksum follows), and nothing else changed.
   pub lowered : handed.content ≡ content_lowered inner
 
--- the compiled list carries the intent, with the fewest header bytes
+-- a list is no worse than another by what an intent prefers
+pub record IsNoWorse (intent : Intent) (list other : List Container) : Type 0 where
+  -- It has no more containers.
+  pub containers : length list ≤ length other
+  -- Where the intent prefers few SIDs, it has no more of them, if both have as many containers.
+  pub sids : intent.prefer ≡ prefers.Sids → length list ≡ length other → length (prefixes_in list) ≤ length (prefixes_in other)
+
+-- the compiled list carries the intent, with the fewest header bytes, and as the intent prefers
 pub record Carries (net : Network) (intent : Intent) (c : Compiled) : Type 0 where
   -- It is legal over the SIDs of the network.
   pub legal : IsLegalList net c.list
@@ -71,6 +79,9 @@ pub record Carries (net : Network) (intent : Intent) (c : Compiled) : Type 0 whe
   -- header bytes.
   pub fewest : (other : List Container) (hop : ℕ) → IsLegalList net other → ListHandsFor net intent other hop
       → header_bytes intent.reduced (length c.list) ≤ header_bytes intent.reduced (length other)
+  -- Nor has such a list fewer containers, or, where the intent prefers few SIDs, as many containers and fewer SIDs.
+  pub preferred : (other : List Container) (hop : ℕ) → IsLegalList net other → ListHandsFor net intent other hop
+      → IsNoWorse intent c.list other
 
 -- what a run comes to, by the compiler's answer: a list that carries the intent, and in `out` the capture of the walks of the input's
 -- packets; or, with the line that says so, no legal list hands over even one inner packet, or the least that does has too many containers
