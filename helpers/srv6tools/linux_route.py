@@ -3,21 +3,18 @@
 from __future__ import annotations
 
 import argparse
-import re
 import shlex
 import sys
 from collections.abc import Iterator, Sequence
-from ipaddress import IPv4Network, IPv6Network
 
-from .command import Fault, Parser, Status, run_tool
-from .files import FILE_LIMIT, STDIN, decoded, read_input
+from .command import Parser, Status, run_tool
+from .given_list import destinations_of, device_of, given_lines, given_report
 from .intent import Intent, read_intent
 from .linux import KERNEL_HELP, Kernel, wanted_kernel
-from .report import Report, report_of
+from .report import Report
 
 TOOL = "linux-route"
 MODES = {"full": "encap", "reduced": "encap.red"}
-NETWORKS = {6: IPv6Network, 4: IPv4Network}
 
 DESCRIPTION = """\
 Turns the list that srv6 compile prints into the route that makes Linux a headend of it. PREFIX
@@ -35,12 +32,7 @@ showed the same."""
 
 def route_of(intent: Intent, report: Report, prefix: str, dev: str) -> str:
     """The words of the route."""
-    try:
-        destinations = NETWORKS[intent.family](prefix)
-    except ValueError as fault:
-        raise Fault(f"no prefix of the intent's family: {fault}", Status.USAGE) from None
-    if not re.fullmatch(r"[A-Za-z0-9_.-]{1,15}", dev):
-        raise Fault(f"no name of an interface: {dev!r}", Status.USAGE)
+    destinations, dev = destinations_of(intent, prefix), device_of(dev)
     listed = ",".join(map(str, report.containers))
     words = ["ip", f"-{intent.family}", "route", "add", str(destinations), "encap", "seg6"]
     return shlex.join([*words, "mode", MODES[intent.mode], "segs", listed, "dev", dev])
@@ -93,12 +85,7 @@ def work(words: argparse.Namespace) -> int:
     """Writes the route, and where Linux differs."""
     kernel = wanted_kernel(words.kernel)
     intent = read_intent(words.intent)
-    lines = decoded(read_input(FILE_LIMIT), STDIN).splitlines()
-    report = report_of(lines, STDIN)
-    if not report.has_list:
-        raise Fault("the intent has no list", Status.NO_ANSWER)
-    if len(report.containers) > intent.max_containers or report.need >= intent.hop_limit:
-        raise Fault("the list is outside the intent's limits", Status.NO_ANSWER)
+    report = given_report(intent, given_lines())
     print(route_of(intent, report, words.prefix, words.dev), flush=True)
     for difference in differences(intent, report, kernel):
         print(f"{TOOL}: {difference}", file=sys.stderr)
