@@ -15,13 +15,14 @@ from .command import Parser, Status, progress, run_tool
 from .description import Sid, read_network
 from .files import read_bytes
 from .intent import read_intent
-from .legs import Edges, Legs, Rooms
+from .legs import Edge, Edges, Legs, Rooms
 from .loose import legs_of
-from .report import Certificate, Potential, certificate_in
+from .report import FORMS, Certificate, Potential, certificate_in
 
 State = tuple[int, Sid | None, int]  # position, SID and room
-Cost = tuple[int, int]  # containers and hops
+Cost = tuple[int, int, int]  # containers, SIDs where the intent prefers few of them, and hops
 START: State = (0, None, 0)
+NOTHING: Cost = (0, 0, 0)
 DESCRIPTION = """\
 Prints what `srv6 check NET INTENT CERT` prints, and exits with its status, by the rules of
 certificates alone. That the description and the intent keep their rules, and that the network is
@@ -33,6 +34,7 @@ class Checker:
 
     def __init__(self, legs: Legs):
         self.legs, self.rooms = legs, Rooms(legs.net)
+        self.form = FORMS[legs.intent.prefer]
         self.edges = Edges(legs, self.rooms)
         shared = collections.Counter(sid.prefix for sid in legs.sids)
         self.names = {
@@ -56,7 +58,11 @@ class Checker:
         return f"{position} {self.names[sid]} {room}" if sid else "0 - 0"
 
     def first_bad_line(self, certificate: Certificate) -> int:
-        """The first line that is outside the grammar or names no state; 0 where there is none."""
+        """The first line that is outside the grammar or names no state; 0 where there is none.
+        The head of a certificate for the other preference is outside it.
+        """
+        if certificate.head and certificate.form != self.form:
+            return certificate.head
         last = -1
         for potential in certificate.potentials:
             place = self.places.get(_name_of(potential), -1)
@@ -68,7 +74,7 @@ class Checker:
     def verdict(self, certificate: Certificate) -> str:
         """The line of `check`."""
         left: dict[State, Cost] = {
-            self.states[self.places[_name_of(one)]]: (one.containers, one.hops)
+            self.states[self.places[_name_of(one)]]: (one.containers, one.sids, one.hops)
             for one in certificate.potentials
         }
         least: dict[tuple, Cost | None] = {}
@@ -93,14 +99,18 @@ class Checker:
             return "none" if START not in left else f"no {certificate.none} path"
         return self._of_path(certificate, left.get(START))
 
+    def own_cost(self, edge: Edge) -> Cost:
+        """What an edge costs."""
+        return int(not edge.stays), self.form - 1, edge.hops
+
     def _costs(self, state: State, left: dict[State, Cost]) -> Iterator[Cost]:
         for edge in self.edges.of(*state):
-            to = (0, 0) if edge.is_last else left.get((edge.position, edge.sid, edge.room))
+            to = NOTHING if edge.is_last else left.get((edge.position, edge.sid, edge.room))
             if to is not None:
-                yield (not edge.stays) + to[0], edge.hops + to[1]
+                yield added(self.own_cost(edge), to)
 
     def _of_path(self, certificate: Certificate, start: Cost | None) -> str:
-        state, containers, hops = START, 0, 0
+        state, cost = START, NOTHING
         for step in certificate.path:
             is_last = step is certificate.path[-1]
             wanted = step.stays, step.prefix, is_last
@@ -110,10 +120,20 @@ class Checker:
             else:
                 return f"no {step.line} path"
             state = edge.position, edge.sid, edge.room
-            containers, hops = containers + (not edge.stays), hops + edge.hops
-        if (containers, hops) != start:
+            cost = added(cost, self.own_cost(edge))
+        if cost != start:
             return f"no {certificate.end} tight"
-        return f"least {containers} {hops}"
+        return f"least {self.cost_text(cost)}"
+
+    def cost_text(self, cost: Cost) -> str:
+        """The numbers of a cost; SIDs stand among them where they count."""
+        containers, sids, hops = cost
+        return f"{containers} {sids} {hops}" if self.form == 2 else f"{containers} {hops}"
+
+
+def added(one: Cost, other: Cost) -> Cost:
+    """The sum of two costs."""
+    return one[0] + other[0], one[1] + other[1], one[2] + other[2]
 
 
 def _name_of(potential: Potential) -> str:

@@ -10,12 +10,12 @@ from collections.abc import Iterator, Sequence
 from dataclasses import dataclass
 from ipaddress import IPv6Address
 
-from .check_certificate import START, Checker, Cost, State
+from .check_certificate import NOTHING, START, Checker, Cost, State, added
 from .description import Network, Sid
 from .intent import Intent, Step
 from .legs import Edge, Rooms
 from .loose import legs_of
-from .report import HEAD, NO_LIST
+from .report import HEADS, NO_LIST
 
 END = None
 MOST_LOOSE = 128  # SIDs of a description over which an intent may have a loose step
@@ -37,17 +37,18 @@ def compiled(net: Network, intent: Intent) -> Answer:
     checker = Checker(legs_of(net, intent))
     left = _potentials(checker)
     lines = [
-        f"potential {checker.name(state)} {cost[0]} {cost[1]}"
+        f"potential {checker.name(state)} {checker.cost_text(cost)}"
         for state in checker.states
         if (cost := left.get(state)) is not None
     ]
+    head = HEADS[checker.form]
     if START not in left:
-        return Answer((NO_LIST, HEAD, *lines, "none", "end"), "no answer NoList", 3)
+        return Answer((NO_LIST, head, *lines, "none", "end"), "no answer NoList", 3)
     path = list(_path(checker, left))
     steps = [f"path {'stay' if edge.stays else 'new'} {edge.sid.prefix}" for edge in path]
-    containers, need = left[START]
+    containers, _, need = left[START]
     report = _report(checker.rooms, intent, path, need)
-    out = *report, HEAD, *lines, *steps, "end"
+    out = *report, head, *lines, *steps, "end"
     if containers > intent.max_containers:
         return Answer(out, f"no answer TooLong {containers}", 3)
     if need >= intent.hop_limit:
@@ -61,9 +62,9 @@ def _potentials(checker: Checker) -> dict[State, Cost]:
     for state in checker.states:
         for edge in checker.edges.of(*state):
             to = END if edge.is_last else (edge.position, edge.sid, edge.room)
-            into.setdefault(to, []).append((state, (int(not edge.stays), edge.hops)))
+            into.setdefault(to, []).append((state, checker.own_cost(edge)))
     left: dict[State | None, Cost] = {}
-    queue: list[tuple[Cost, int, State | None]] = [((0, 0), 0, END)]
+    queue: list[tuple[Cost, int, State | None]] = [(NOTHING, 0, END)]
     count = 0
     while queue:
         cost, _, state = heapq.heappop(queue)
@@ -72,7 +73,7 @@ def _potentials(checker: Checker) -> dict[State, Cost]:
         left[state] = cost
         for before, own in into.get(state, ()):
             count += 1
-            heapq.heappush(queue, ((cost[0] + own[0], cost[1] + own[1]), count, before))
+            heapq.heappush(queue, (added(cost, own), count, before))
     del left[END]
     return left
 
@@ -83,8 +84,8 @@ def _path(checker: Checker, left: dict[State, Cost]) -> Iterator[Edge]:
     while True:
         tight = []
         for edge in checker.edges.of(*state):
-            to = (0, 0) if edge.is_last else left.get((edge.position, edge.sid, edge.room))
-            if to and left[state] == (to[0] + (not edge.stays), to[1] + edge.hops):
+            to = NOTHING if edge.is_last else left.get((edge.position, edge.sid, edge.room))
+            if to and left[state] == added(to, checker.own_cost(edge)):
                 tight.append(edge)
         edge = min(tight, key=lambda edge: (edge.sid.prefix, not edge.stays))
         yield edge
@@ -103,6 +104,8 @@ def _report(rooms: Rooms, intent: Intent, path: Sequence[Edge], need: int) -> It
     count = len(containers)
     reduced = 40 if count == 1 else 32 + 16 * count
     yield f"# containers {count}"
+    if intent.prefer == "sids":
+        yield f"# sids {len(path)}"
     yield f"# header {reduced if intent.mode == 'reduced' else 48 + 16 * count}"
     yield f"# need {need}"
 

@@ -37,6 +37,7 @@ class Intent:
     max_containers: int
     traffic_class: int
     flow_label: int
+    prefer: str  # need or sids
     steps: tuple[Step, ...]
 
     @property
@@ -77,6 +78,7 @@ def intent_of(root: dict[str, Any], path: str) -> Intent:
         item.integer("max_containers", 10, 1, 127),
         item.integer("traffic_class", 0, 0, 255),
         item.integer("flow_label", 0, 0, 1_048_575),
+        item.word("prefer", ("need", "sids"), "need"),
         tuple(_step(step) for step in items_of(root, "step", path)),
     )
 

@@ -10,14 +10,14 @@ from pathlib import Path
 from typing import Any
 
 from .captures import raw_capture
-from .command import Fault, Status, tool_name
+from .command import Fault, Status
 from .decisions import sid_rfc
 from .description import Network, Sid, read_network
 from .intent import Intent, read_intent
 from .legs import Leg, Rooms
 from .loose import legs_of
 from .packet_parts import ip4, ip6
-from .program import Answer, run_program
+from .program import Answer, judge_answer, run_program
 from .report import Certificate, Report, certificate_in, report_of
 
 NO_ANSWER = {
@@ -47,12 +47,9 @@ class Compiled:
 def compiled(net: Network, intent_path: str) -> Compiled:
     """Asks for the list of an intent, and what its certificate shows."""
     intent = read_intent(intent_path)
-    answer = run_program(["compile", net.path, intent_path])
-    said = (answer.err.splitlines() or [""])[-1]
-    if answer.status not in (Status.DONE, Status.NO_ANSWER):
-        more = f"{said or answer.status} (`{tool_name('srv6-say')} compile ..` says more)"
-        known = Status(answer.status) if answer.status in list(Status) else Status.OUTSIDE_FAULT
-        raise Fault(f"srv6 compile {net.path} {intent_path}: {more}", known)
+    words = ["compile", net.path, intent_path]
+    answer = run_program(words)
+    judge_answer(words, answer, Status.NO_ANSWER)
     text = answer.out.decode("latin-1")
     report, certificate = report_of(text.splitlines(), "srv6 compile"), certificate_in(text)
     with tempfile.TemporaryDirectory() as folder:
@@ -71,6 +68,12 @@ def verdict_words(one: Compiled) -> str:
                 f"A legal list of {containers} container{'s' * (containers != '1')} realizes the"
                 f" intent with need {need}, and none that does so has fewer containers, or as many"
                 " and a smaller need."
+            )
+        case ["least", containers, sids, need]:
+            return (
+                f"A legal list of {containers} container{'s' * (containers != '1')} and {sids} SIDs"
+                f" realizes the intent with need {need}, and none that does so has fewer"
+                " containers, or as many and fewer SIDs, or as many of both and a smaller need."
             )
         case ["none"]:
             return "No legal list of the network's SIDs realizes the intent."

@@ -9,9 +9,15 @@ from .command import Fault
 from .items import address_of, prefix_of
 
 NUMBER = "(0|[1-9][0-9]{0,9})"
-POTENTIAL = re.compile(rf"potential {NUMBER} ([^ ]+) {NUMBER} {NUMBER} {NUMBER}")
+STATE = rf"potential {NUMBER} ([^ ]+) {NUMBER}"
+# A line `potential` by the form of the certificate: containers, with form 2 SIDs, and hops.
+POTENTIALS = {
+    1: re.compile(rf"{STATE} {NUMBER} {NUMBER}"),
+    2: re.compile(rf"{STATE} {NUMBER} {NUMBER} {NUMBER}"),
+}
 PATH = re.compile(r"path (new|stay) ([^ ]+)")
-HEAD = "srv6 certificate 1"
+HEADS = {1: "srv6 certificate 1", 2: "srv6 certificate 2"}
+FORMS = {"need": 1, "sids": 2}  # by the intent's preference
 NO_LIST = "# none"
 
 
@@ -22,6 +28,7 @@ class Report:
     """
 
     containers: list[IPv6Address] = field(default_factory=list)
+    sids: int | None = None  # how many there are, where the intent prefers few
     header: int = 0  # bytes in front of the inner packet
     need: int = 0  # lowerings of the outer hop limit
 
@@ -41,6 +48,7 @@ class Potential:
     node: str | None  # where the prefix has two SIDs
     room: int
     containers: int
+    sids: int  # 0 with form 1
     hops: int
 
 
@@ -57,7 +65,8 @@ class PathStep:
 class Certificate:
     """A certificate; one without a path says that there is no list."""
 
-    head: int = 0  # the line of `srv6 certificate 1`, from 1
+    head: int = 0  # its line, from 1
+    form: int = 1  # by its head
     potentials: list[Potential] = field(default_factory=list)
     path: list[PathStep] = field(default_factory=list)
     none: int | None = None  # the line `none`
@@ -80,6 +89,8 @@ def report_of(lines: Sequence[str], name: str) -> Report:
                     report.containers.append(address_of(address))
                 case ["containers", count]:
                     counted = int(count)
+                case ["sids", count]:
+                    report.sids = int(count)
                 case ["header", size]:
                     report.header = int(size)
                 case ["need", need]:
@@ -112,8 +123,9 @@ def certificate_in(text: str) -> Certificate:
     found = Certificate()
     for number, line in enumerate(lines, 1):
         if not found.head:
-            if line == HEAD:
-                found.head = number
+            form = next((form for form, head in HEADS.items() if line == head), 0)
+            if form:
+                found.head, found.form = number, form
             elif not line.startswith("#"):
                 found.bad = number
                 return found
@@ -128,7 +140,7 @@ def certificate_in(text: str) -> Certificate:
 def _takes(found: Certificate, number: int, line: str) -> bool:
     """Takes a line behind the head into the certificate, where it fits there."""
     try:
-        if match := POTENTIAL.fullmatch(line):
+        if match := POTENTIALS[found.form].fullmatch(line):
             if found.path or found.none:
                 return False
             found.potentials.append(_potential(number, match))
@@ -148,13 +160,14 @@ def _takes(found: Certificate, number: int, line: str) -> bool:
 
 
 def _potential(line: int, match: re.Match[str]) -> Potential:
-    position, sid, room, containers, hops = match.groups()
-    prefix, _, node = sid.partition("@")
-    at = None if sid == "-" else _prefix6(prefix)
-    numbers = int(room), int(containers), int(hops)
-    if max(int(position), *numbers) >= 2**32:
+    position, name, *numbers = match.groups()
+    prefix, _, node = name.partition("@")
+    at = None if name == "-" else _prefix6(prefix)
+    room, containers, *sids, hops = map(int, numbers)
+    cost = containers, sids[0] if sids else 0, hops
+    if max(int(position), room, *cost) >= 2**32:
         raise ValueError(line)
-    return Potential(line, int(position), at, node or None, *numbers)
+    return Potential(line, int(position), at, node or None, room, *cost)
 
 
 def _prefix6(text: str) -> IPv6Network:

@@ -12,6 +12,7 @@ from .command import Fault, Parser, Status, progress, run_tool
 from .err_lines import EditLine, NoAnswer, PacketLine, Refusal, err_line_of
 from .files import FILE_LIMIT
 from .program import the_program
+from .say_drops import explain_drops, given_input
 from .say_items import OF_THIS_KIND, TomlFile, explain_intent, explain_text, near
 from .say_others import (
     REASONS,
@@ -152,10 +153,12 @@ def _take(run: Run, line: str) -> None:
 
 def _explained(run: Run) -> Iterator[str]:
     """What is to be said of a run."""
+    beside = _beside_drops(run)
     for (reason, place), count in sorted(run.drops.items()):
         at = f" at {place}" if place else ""
         if reason in REASONS:
             yield f"{reason}{at} ({_packets(count)}): {REASONS[reason]}"
+            yield from beside.get((reason, place), ())
     if run.stopped:
         yield f"stopped ({_packets(run.stopped)}): {STOPPED}"
     yield from explain_edits(run.edits)
@@ -177,6 +180,19 @@ def _explained(run: Run) -> Iterator[str]:
             yield "there wasn't enough memory"
         case status if status > 128:
             yield f"srv6 was ended by signal {status - 128}"
+
+
+def _beside_drops(run: Run) -> dict[tuple[str, str], list[str]]:
+    """What is said of the destinations of dropped packets, by the reason and the node; nothing
+    where the input can't be read once more.
+    """
+    if run.command not in ("run", "walk") or not any(place for _, place in run.drops):
+        return {}
+    try:
+        given = given_input()
+        return {} if given is None else explain_drops(run.command, run.words[1:], given)
+    except (Fault, OSError, *OF_THIS_KIND):
+        return {}
 
 
 def _packets(count: int) -> str:
@@ -220,7 +236,7 @@ def _refused(run: Run, said: Refusal) -> Iterator[str]:
     elif number == 40:
         yield from explain_trace(second, int(fields[0]), TomlFile(net))
     elif number == 45:
-        yield from explain_certificate(run.word(3), int(fields[0]))
+        yield from explain_certificate(second, run.word(3), int(fields[0]))
     elif 41 <= number <= 44 and net:
         yield from explain_flatness(TomlFile(net), name, fields)
 

@@ -13,7 +13,7 @@ from .command import Fault, tool_name
 from .description import TABLES
 from .files import read_lines
 from .items import prefix_of
-from .report import HEAD, PATH, POTENTIAL
+from .report import FORMS, HEADS, PATH, POTENTIALS
 from .say_items import OF_THIS_KIND, TomlFile, near, quoted
 from .trace import HEAD as TRACE_HEAD
 from .trace import stage_of
@@ -172,16 +172,21 @@ def _why_bad_trace(line: str, number: int, lines: Sequence[str], net: TomlFile) 
     return f"no line of a trace, which are {kinds}, by docs/FORMATS.md"
 
 
-def explain_certificate(path: str, number: int) -> Iterator[str]:
+def explain_certificate(intent: str, path: str, number: int) -> Iterator[str]:
     """What BadCert means."""
     lines = read_lines(path)
+    prefer = TomlFile(intent).root.get("prefer", "need")
+    form = FORMS[prefer]
+    heads = [one for one in lines[:number] if one in HEADS.values()]
     if number > len(lines):
         yield f"{path} ends behind line {len(lines)}: the line `end` is missing"
         return
     line = lines[number - 1]
-    if not any(one == HEAD for one in lines[:number]):
-        why = f"only lines that begin with # stand before `{HEAD}`"
-    elif POTENTIAL.fullmatch(line):
+    if not heads:
+        why = f"only lines that begin with # stand before `{HEADS[form]}`"
+    elif heads[0] != HEADS[form]:
+        why = f"an intent that prefers `{prefer}` has certificates that begin `{HEADS[form]}`"
+    elif POTENTIALS[form].fullmatch(line):
         why = (
             "it names no state of this network and intent, or doesn't come behind the state"
             " before it (position, prefix, length, node, room); is it of another intent?"

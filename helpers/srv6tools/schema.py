@@ -110,7 +110,7 @@ KEYS = {
         _name("headend"), Key("source", Form.ADDRESS), _word("inner", "ipv6", "ipv4"),
         _word("mode", "full", "reduced"), _number("hop_limit", 1, 255, "64"),
         _number("max_containers", 1, 127, "10"), _number("traffic_class", 0, 255, "0"),
-        _number("flow_label", 0, 1_048_575, "0"),
+        _number("flow_label", 0, 1_048_575, "0"), _word("prefer", "need", "sids", default="need"),
     ),
     "step": (_names("links", False), _name("function", False), _name("reach", False)),
 }  # fmt: skip

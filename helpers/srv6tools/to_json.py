@@ -12,8 +12,7 @@ from typing import Any
 from .command import Fault, Parser, Status, progress, run_tool
 from .err_lines import EditLine, NoAnswer, PacketLine, Refusal, err_line_of
 from .files import INPUT_LIMIT, STDIN, decoded, read_bytes, read_input
-from .report import HEAD as CERTIFICATE_HEAD
-from .report import NO_LIST, Certificate, Potential, Report, certificate_of, report_of
+from .report import HEADS, NO_LIST, Certificate, Potential, Report, certificate_of, report_of
 from .shown import Header, Shown, shown_in
 from .trace import HEAD as TRACE_HEAD
 from .trace import Stage, Walk, trace_of
@@ -38,14 +37,15 @@ SUMMARY = (
 )  # fmt: skip
 _OF_CHECK = re.compile(r"no ([0-9]{1,10}) (edge|path|tight|unlisted)(?: (.*))?")
 _OF_REPLAY = re.compile(r"no ([0-9]{1,10}) (.*)")
-_TWO_NUMBERS = re.compile(r"(least|ok) ([0-9]{1,20}) ([0-9]{1,20})")
+_LEAST = re.compile(r"least ([0-9]{1,20}) (?:([0-9]{1,20}) )?([0-9]{1,20})")
+_OK = re.compile(r"ok ([0-9]{1,20}) ([0-9]{1,20})")
 _PLACE_NAMES = {"left": "link", "delivered": "node", "dropped": "node"}
 
 
 def of_report(lines: list[str], name: str) -> Json:
     """The report of `compile`, and the certificate behind it where there is one."""
     report = report_of(lines, name)
-    behind = any(line == CERTIFICATE_HEAD for line in lines)
+    behind = any(line in HEADS.values() for line in lines)
     certificate = certificate_json(certificate_of(lines, name)) if behind else None
     return {"kind": "report", "list": list_json(report), "certificate": certificate}
 
@@ -55,7 +55,8 @@ def list_json(report: Report) -> Json | None:
     if not report.has_list:
         return None
     containers = [str(container) for container in report.containers]
-    return {"containers": containers, "header": report.header, "need": report.need}
+    sids = {} if report.sids is None else {"sids": report.sids}
+    return {"containers": containers} | sids | {"header": report.header, "need": report.need}
 
 
 def of_certificate(lines: list[str], name: str) -> Json:
@@ -69,21 +70,23 @@ def certificate_json(certificate: Certificate) -> Json:
         {"line": step.line, "prefix": str(step.prefix), "stays": step.stays}
         for step in certificate.path
     ]
-    potentials = [potential_json(potential) for potential in certificate.potentials]
+    form = certificate.form
+    potentials = [potential_json(potential, form) for potential in certificate.potentials]
     return {"potentials": potentials, "path": path or None}
 
 
-def potential_json(potential: Potential) -> Json:
-    """A line `potential`."""
+def potential_json(potential: Potential, form: int) -> Json:
+    """A line `potential` of a certificate, which has SIDs with form 2 alone."""
+    cost = {"containers": potential.containers, "sids": potential.sids, "hops": potential.hops}
+    if form == 1:
+        del cost["sids"]
     return {
         "line": potential.line,
         "position": potential.position,
         "prefix": None if potential.prefix is None else str(potential.prefix),
         "node": potential.node,
         "room": potential.room,
-        "containers": potential.containers,
-        "hops": potential.hops,
-    }
+    } | cost
 
 
 def of_err(lines: list[str], name: str) -> Json:
@@ -198,11 +201,12 @@ def of_verdict(lines: list[str], name: str) -> Json:
     verdict: Json = {"kind": "verdict"}
     if lines[0] == "none":
         return verdict | {"of": "check", "answer": "none"}
-    if match := _TWO_NUMBERS.fullmatch(lines[0]):
-        numbers = int(match[2]), int(match[3])
-        if match[1] == "least":
-            keys: Json = {"of": "check", "answer": "least"}
-            return verdict | keys | dict(zip(("containers", "need"), numbers))
+    if match := _LEAST.fullmatch(lines[0]):
+        keys: Json = {"of": "check", "answer": "least", "containers": int(match[1])}
+        sids = {"sids": int(match[2])} if match[2] else {}
+        return verdict | keys | sids | {"need": int(match[3])}
+    if match := _OK.fullmatch(lines[0]):
+        numbers = int(match[1]), int(match[2])
         return verdict | {"of": "replay", "answer": "ok"} | dict(zip(("packets", "lines"), numbers))
     if match := _OF_CHECK.fullmatch(lines[0]):
         keys = {"of": "check", "answer": "no", "line": int(match[1]), "why": match[2]}
@@ -237,7 +241,7 @@ KINDS: dict[str, Callable[[list[str], str], Json]] = {
 }
 _FIRST_LINES = (
     ("trace", re.compile(re.escape(TRACE_HEAD))),
-    ("certificate", re.compile(re.escape(CERTIFICATE_HEAD))),
+    ("certificate", re.compile("|".join(map(re.escape, HEADS.values())))),
     ("report", re.compile(f"# container .*|{NO_LIST}")),
     ("certificate", re.compile("#.*")),
     ("show", re.compile("packet [0-9]+")),

@@ -4,7 +4,7 @@ import re
 import unittest
 from collections.abc import Iterator
 
-from srv6tools.check_certificate import START, Checker
+from srv6tools.check_certificate import NOTHING, START, Checker, added
 from srv6tools.description import read_network
 from srv6tools.intent import read_intent
 from srv6tools.legs import Legs
@@ -126,7 +126,7 @@ def made(net, intent) -> str:
     lines = ["srv6 certificate 1"]
     for state in checker.states:
         if state in left:
-            lines.append(f"potential {checker.name(state)} {left[state][0]} {left[state][1]}")
+            lines.append(f"potential {checker.name(state)} {checker.cost_text(left[state])}")
     return "\n".join([*lines, *(path(checker, left) if START in left else ["none"]), "end", ""])
 
 
@@ -135,8 +135,8 @@ def path(checker: Checker, left: dict) -> Iterator[str]:
     while state:
         for edge in checker.edges.of(*state):
             to = None if edge.is_last else (edge.position, edge.sid, edge.room)
-            behind = (0, 0) if edge.is_last else left.get(to)
-            if behind and ((not edge.stays) + behind[0], edge.hops + behind[1]) == left[state]:
+            behind = NOTHING if edge.is_last else left.get(to)
+            if behind and added(checker.own_cost(edge), behind) == left[state]:
                 yield f"path {'stay' if edge.stays else 'new'} {edge.sid.prefix}"
                 state = to
                 break

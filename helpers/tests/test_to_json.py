@@ -6,23 +6,13 @@ import re
 import unittest
 
 from srv6tools.program import run_program
-from support import EXAMPLES, HELPERS, ToolCase, needs_package, needs_program, run_here, run_tool
+from support import EXAMPLES, HELPERS, REPORT, ToolCase
+from support import needs_package, needs_program, run_here, run_tool
 
 DOCS = HELPERS.parent / "docs"
 ROWS = HELPERS.parent / "crates" / "worked_rows" / "data"
 TEXTS = {
-    "report": """\
-# container fcbb:bb00:2::
-# containers 1
-# header 40
-# need 4
-srv6 certificate 1
-potential 0 - 0 1 4
-potential 1 fcbb:bb00:2::/48@B 0 1 3
-path new fcbb:bb00:2::/48
-path stay fcbb:bb00:4::/48
-end
-""",
+    "report": REPORT,
     "report without a list": "# none\nsrv6 certificate 1\nnone\nend\n",
     "report alone": "# container ::1\n# containers 1\n# header 40\n# need 4\n",
     "certificate": "# x\nsrv6 certificate 1\npotential 0 - 0 1 4\npath new ::/1\nend\n",
