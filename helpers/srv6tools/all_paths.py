@@ -9,11 +9,13 @@ from dataclasses import dataclass
 from pathlib import Path
 from typing import Any
 
-from .command import Fault, Parser, Status, positive, progress, run_tool
+from .command import Fault, Parser, Status, judge_all, positive, progress, run_tool
 from .description import Network, read_network
 from .drawing import COLOURS, Drawing, end_of, quoted
+from .fans import each_walk
 from .files import read_input
 from .say_items import near
+from .spread import Spread, spreads_of
 from .walks import (
     Hop, Start, View, Visit, Walks, counts_of, crossed, views_of, visits_from, ways_of,
 )  # fmt: skip
@@ -26,7 +28,11 @@ of the packet on it the destination, the hop limit and Segments Left. Packets ar
 an INTENT they enter at its headend; without either they arrive at each node in turn. Frames that
 srv6 doesn't read are left out.
 
-Where walks come together, the rest is printed once, and `as at #N` stands in the other places."""
+Where walks come together, the rest is printed once, and `as at #N` stands in the other places.
+
+With --count it reads no input: it prints `walks N`, over how many walks the list of
+`srv6 compile NET INTENT` spreads its packets up to the hand-over, and the links that all of them
+cross. Of several intents there is a line for each, `walks N INTENT: LINKS`."""
 
 
 @dataclass(frozen=True, slots=True)
@@ -110,18 +116,6 @@ class Tree:
         """The one hop of a visit, behind the node's name."""
         over = f" over {hop.link} {self.found.view(hop.packet)}" if hop.link else ""
         return f"{_of_hop(hop)}{over}" + (f": {hop.end}" if hop.end else "")
-
-
-def each_walk(walks: Walks, start: Start) -> Iterator[tuple[tuple[Visit, Hop], ...]]:
-    """The walks of a packet one by one, each a row of visits with the hop that is taken there."""
-    todo: list[tuple[Visit | None, tuple[tuple[Visit, Hop], ...]]] = [(start.visit, ())]
-    while todo:
-        visit, way = todo.pop()
-        if visit is None:
-            yield way
-            continue
-        for hop in reversed(walks.hops.get(visit) or [Hop((), end="..")]):
-            todo.append((walks.next_visit(hop), (*way, (visit, hop))))
 
 
 def _row(found: Found, visit: Visit, hop: Hop) -> list[str]:
@@ -223,10 +217,13 @@ def dot_text(found: Found) -> str:
 def main(words: Sequence[str]) -> int:
     """Runs the tool."""
     parser = Parser("all-paths", DESCRIPTION)
-    parser.usage = "all-paths NET [NODE|INTENT] [--table|--json|--dot] [--most N] < INPUT"
+    parser.usage = (
+        "all-paths NET [NODE|INTENT] [--table|--json|--dot] [--most N] < INPUT, or"
+        " all-paths --count [--json] NET INTENT.."
+    )
     parser.add_argument("net", metavar="NET", help="a description")
     parser.add_argument(
-        "start", metavar="NODE|INTENT", nargs="?", help="a node's name, or an intent's file"
+        "starts", metavar="NODE|INTENT", nargs="*", help="a node's name, or an intent's file"
     )
     form = parser.add_mutually_exclusive_group()
     for name, what in (
@@ -236,6 +233,9 @@ def main(words: Sequence[str]) -> int:
     ):
         form.add_argument(name, action="store_true", help=what)
     parser.add_argument(
+        "--count", action="store_true", help="over how many walks the list of an intent spreads"
+    )
+    parser.add_argument(
         "--most", metavar="N", type=positive, default=1000,
         help="walks of a packet in the table (1000)",
     )  # fmt: skip
@@ -243,9 +243,12 @@ def main(words: Sequence[str]) -> int:
 
 
 def _work(tool: str, words: argparse.Namespace) -> int:
+    _judge(words)
+    if words.count:
+        return _count_walks(tool, words)
     with progress(tool, "asking srv6 for the walks"):
         net = read_network(words.net)
-        found = _found(net, words.start, read_input())
+        found = _found(net, words.starts[0] if words.starts else None, read_input())
     if found.walks.is_cut:
         raise Fault(f"there are more than {VISITS} visits of packets at nodes; take fewer packets")
     if words.dot:
@@ -257,6 +260,42 @@ def _work(tool: str, words: argparse.Namespace) -> int:
     else:
         print("\n".join(tree_lines(found)))
     return Status.DONE
+
+
+def _judge(words: argparse.Namespace) -> None:
+    """A fault where words don't go together."""
+    if not words.count and len(words.starts) > 1:
+        raise Fault("one node or one intent, or several intents with --count", Status.USAGE)
+    if words.count and (not words.starts or words.table or words.dot):
+        raise Fault("--count takes intents, and --json alone of the forms", Status.USAGE)
+
+
+def _count_walks(tool: str, words: argparse.Namespace) -> int:
+    """Prints over how many walks the lists of intents spread."""
+    with progress(tool, "asking srv6 for the walks"):
+        found = list(spreads_of(read_network(words.net), words.starts))
+    rows = list(zip(words.starts, found))
+    if words.json:
+        intents = [_spread_json(*row) for row in rows]
+        print(json.dumps({"kind": "walks", "net": words.net, "intents": intents}, indent=1))
+    elif len(rows) > 1:
+        print("\n".join(_spread_line(*row) for row in rows))
+    elif isinstance(found[0], Spread):
+        print(f"walks {found[0].fan.walks}\n{found[0].said}")
+    judge_all(found, "intents have none")
+    return Status.DONE
+
+
+def _spread_json(intent: str, found: Spread | Fault) -> dict[str, Any]:
+    if isinstance(found, Fault):
+        return {"intent": intent, "walks": None, "why": str(found)}
+    return {"intent": intent, **found.as_json()}
+
+
+def _spread_line(intent: str, found: Spread | Fault) -> str:
+    if isinstance(found, Fault):
+        return f"walks none {intent}: {found}"
+    return f"walks {found.fan.walks} {intent}: {found.said}"
 
 
 def _found(net: Network, start: str | None, given: bytes) -> Found:

@@ -7,6 +7,7 @@ from dataclasses import dataclass
 from typing import BinaryIO
 
 from .command import Fault
+from .files import INPUT_LIMIT
 
 MICROSECONDS, NANOSECONDS = 0xA1B2C3D4, 0xA1B23C4D
 ETHERNET, RAW, IPV6 = 1, 101, 229
@@ -82,6 +83,24 @@ def raw_capture(packets: Iterable[tuple[int, int, bytes]]) -> Iterator[bytes]:
     yield struct.pack("<IHHIIII", MICROSECONDS, 2, 4, 0, 0, SNAPLEN, RAW)
     for seconds, microseconds, content in packets:
         yield struct.pack("<IIII", seconds, microseconds, len(content), len(content)) + content
+
+
+def in_captures(packets: Iterable[bytes]) -> Iterator[tuple[list[bytes], bytes]]:
+    """Packets in as many captures as the program's limits need: those of each, and the capture."""
+    some: list[bytes] = []
+    size = HEAD_SIZE
+    for packet in packets:
+        size += FRAME_HEAD_SIZE + len(packet)
+        if some and (size > INPUT_LIMIT or len(some) == FRAME_LIMIT):
+            yield some, _one_capture(some)
+            some, size = [], HEAD_SIZE + FRAME_HEAD_SIZE + len(packet)
+        some.append(packet)
+    if some:
+        yield some, _one_capture(some)
+
+
+def _one_capture(packets: Iterable[bytes]) -> bytes:
+    return b"".join(raw_capture((0, 0, packet) for packet in packets))
 
 
 @dataclass(frozen=True, slots=True)

@@ -67,6 +67,15 @@ def tool_name(tool: str) -> str:
     return f"srv6-{tool.removeprefix('srv6-')}"
 
 
+def judge_all(found: Sequence[object], what: str) -> None:
+    """A fault where some of what was found for each of several things are faults."""
+    faults = [one for one in found if isinstance(one, Fault)]
+    if len(faults) == 1:
+        raise faults[0]
+    if faults:
+        raise Fault(f"{len(faults)} of {len(found)} {what}", faults[0].status)
+
+
 def missing_package(name: str, debian: str) -> Fault:
     """The fault of a Python package that isn't there."""
     return Fault(

@@ -7,10 +7,9 @@ from dataclasses import dataclass
 from ipaddress import IPv6Address
 from pathlib import Path
 
-from .captures import FRAME_HEAD_SIZE, FRAME_LIMIT, HEAD_SIZE, raw_capture
+from .captures import in_captures
 from .command import Fault, Status
 from .description import MOST_MTU, Network, Node, Sid
-from .files import INPUT_LIMIT
 from .items import Prefix
 from .places import Place, Tables, Via, place_behind, place_inside
 from .program import run_program
@@ -78,8 +77,7 @@ class Seer:
         return found
 
     def _doings(self, packets: Sequence[bytes], choice: int) -> Iterator[Doing]:
-        for chunk in _chunks(packets):
-            capture = b"".join(raw_capture((0, 0, packet) for packet in chunk))
+        for chunk, capture in in_captures(packets):
             answer = run_program(["trace", self.path, self.node, str(choice)], capture)
             if answer.status != Status.DONE:
                 raise Fault(f"srv6 trace says: {answer.err.strip()[:200]}", Status(answer.status))
@@ -148,20 +146,6 @@ def _holds(prefix: Prefix, address: bytes) -> bool:
     """Whether an IPv4 prefix holds an address."""
     shift = 32 - prefix.prefixlen
     return int.from_bytes(address) >> shift == int(prefix.network_address) >> shift
-
-
-def _chunks(packets: Sequence[bytes]) -> Iterator[list[bytes]]:
-    """Packets in as many parts as the program's limits need."""
-    chunk: list[bytes] = []
-    size = HEAD_SIZE
-    for packet in packets:
-        size += FRAME_HEAD_SIZE + len(packet)
-        if chunk and (size > INPUT_LIMIT or len(chunk) == FRAME_LIMIT):
-            yield chunk
-            chunk, size = [], HEAD_SIZE + FRAME_HEAD_SIZE + len(packet)
-        chunk.append(packet)
-    if chunk:
-        yield chunk
 
 
 class Universe:

@@ -12,8 +12,9 @@ from pathlib import Path
 from typing import Any, NamedTuple
 
 from .command import Fault
-from .files import read_toml
+from .files import parse_toml, read_text
 from .items import Item, Prefix, items_of
+from .toml_places import Lines
 
 BEHAVIOURS = (
     "End", "End.X", "End.T", "End.DX6", "End.DX4", "End.DT6", "End.DT4", "End.DT46",
@@ -161,15 +162,16 @@ class Network:
 
 def read_network(path: str | Path) -> Network:
     """The network that a file describes."""
-    return network_of(read_toml(path), str(path))
+    text = read_text(path)
+    return network_of(parse_toml(text, str(path)), str(path), Lines(text))
 
 
-def network_of(root: dict[str, Any], path: str) -> Network:
-    """The network of a TOML root."""
+def network_of(root: dict[str, Any], path: str, lines: Lines | None = None) -> Network:
+    """The network of a TOML root, of which faults name the lines where they are known."""
     for key in root:
         if key not in TABLES:
             raise Fault(f"{path}: no table of a description is called {key!r}; {_choices(TABLES)}")
-    items = functools.partial(items_of, root, path=path)
+    items = functools.partial(items_of, root, path=path, lines=lines)
     net = Network(path)
     net.blocks = [_block(item) for item in items("block")]
     net.nodes = _by_name((item, _node(item)) for item in items("node"))
@@ -188,21 +190,21 @@ def _by_name(rows: Iterable[tuple[Item, Any]]) -> dict[str, Any]:
     found: dict[str, Any] = {}
     for item, row in rows:
         if row.name in found:
-            raise item.fault(f"an earlier one has the name {row.name!r}")
+            raise item.fault(f"an earlier one has the name {row.name!r}", "name")
         found[row.name] = row
     return found
 
 
 def _known(item: Item, key: str, name: str, names: dict[str, Any]) -> str:
     if name not in names:
-        raise item.fault(f"`{key}` names {name!r}, which there isn't")
+        raise item.fault(f"`{key}` names {name!r}, which there isn't", key)
     return name
 
 
 def _links(item: Item, key: str, net: Network) -> tuple[str, ...]:
     names = item.texts(key)
     if not names:
-        raise item.fault(f"`{key}` has no links")
+        raise item.fault(f"`{key}` has no links", key)
     for name in names:
         _known(item, key, name, net.links)
     return tuple(names)
@@ -244,7 +246,7 @@ def _policy(item: Item) -> Policy:
 def _sid(item: Item, net: Network) -> Sid:
     policy = item.text("policy", None)
     if item.prefix6("prefix").prefixlen == 0:
-        raise item.fault("a SID's prefix has 1 to 128 bits")
+        raise item.fault("a SID's prefix has 1 to 128 bits", "prefix")
     return Sid(
         item.number,
         _known(item, "node", item.text("node"), net.nodes),

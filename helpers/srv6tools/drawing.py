@@ -15,6 +15,15 @@ def quoted(text: str) -> str:
     return '"' + text.replace("\\", "\\\\").replace('"', '\\"') + '"'
 
 
+@dataclasses.dataclass(frozen=True, slots=True)
+class Mark:
+    """A shape of a name of its own, with lines of words in it."""
+
+    name: str
+    shape: str
+    lines: tuple[str, ...]
+
+
 @dataclasses.dataclass(slots=True)
 class Drawing:
     """The lines of a drawing: the nodes and links of a network in grey, and what is drawn over
@@ -51,6 +60,13 @@ class Drawing:
         """Where a packet comes from: its name, and an edge to the node where it enters."""
         self.lines.append(f'  {quoted(name)} [shape=plaintext, fontcolor="{colour}"];')
         self.edge(quoted(name), first, "", colour, ", style=dashed")
+
+    def mark(self, mark: Mark, node: str, label: str, colour: str) -> None:
+        """What comes of packets at a node, with an edge to it."""
+        lines = "\\n".join(mark.lines)
+        name = quoted(mark.name)
+        self.lines.append(f'  {name} [shape={mark.shape}, color="{colour}", label="{lines}"];')
+        self.edge(quoted(node), name, label, colour, ", style=dashed")
 
     def text(self) -> str:
         """The whole text."""

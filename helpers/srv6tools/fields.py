@@ -5,13 +5,12 @@ A packet inside another, also one that an ICMPv6 error quotes, is shown in the s
 
 from __future__ import annotations
 
-from collections.abc import Callable, Iterable, Iterator, Sequence
+from collections.abc import Callable, Iterator, Sequence
 from dataclasses import dataclass, field
 from ipaddress import IPv4Address, IPv6Address
 
-from .captures import FRAME_HEAD_SIZE, FRAME_LIMIT, HEAD_SIZE, raw_capture
+from .captures import in_captures
 from .command import Fault, Status
-from .files import INPUT_LIMIT
 from .program import run_program
 from .shown import Header, Shown, shown_in
 
@@ -166,8 +165,7 @@ class _Inner:
 
 def shown_of(packets: Sequence[bytes]) -> Iterator[Shown]:
     """What `srv6 show` says of packets."""
-    for chunk in _chunks(packets):
-        capture = b"".join(raw_capture((0, 0, packet) for packet in chunk))
+    for chunk, capture in in_captures(packets):
         answer = run_program(["show"], capture)
         if answer.status != Status.DONE:
             raise Fault(f"srv6 show ends with status {answer.status}: {answer.err.strip()}")
@@ -175,20 +173,6 @@ def shown_of(packets: Sequence[bytes]) -> Iterator[Shown]:
         if len(shown) != len(chunk):
             raise Fault(f"srv6 show tells of {len(shown)} packets, and {len(chunk)} were given")
         yield from shown
-
-
-def _chunks(packets: Iterable[bytes]) -> Iterator[list[bytes]]:
-    """Packets in as many parts as `show` needs for its limits."""
-    chunk: list[bytes] = []
-    size = HEAD_SIZE
-    for packet in packets:
-        size += FRAME_HEAD_SIZE + len(packet)
-        if chunk and (size > INPUT_LIMIT or len(chunk) == FRAME_LIMIT):
-            yield chunk
-            chunk, size = [], HEAD_SIZE + FRAME_HEAD_SIZE + len(packet)
-        chunk.append(packet)
-    if chunk:
-        yield chunk
 
 
 def _take(parts: list[Part], one: _Inner, shown: Shown) -> Iterator[_Inner]:

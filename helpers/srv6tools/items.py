@@ -9,6 +9,7 @@ from ipaddress import IPv4Address, IPv4Network, IPv6Address, IPv6Network
 from typing import Any, NamedTuple
 
 from .command import Fault
+from .toml_places import Lines
 
 Prefix = IPv6Network | IPv4Network
 _PREFIX = re.compile(r"(.*)/(0|[1-9][0-9]{0,2})")
@@ -35,28 +36,28 @@ def prefix_of(text: str) -> Prefix:
 
 
 class Item(NamedTuple):
-    """An item of a table, with its place: the file, the table, and its number from 1."""
+    """An item of a table, with its place: the file, the table, its number from 1, and the lines of
+    the file where faults are to name them.
+    """
 
     path: str
     table: str
     number: int
     values: dict[str, Any]
+    lines: Lines | None = None
 
-    @property
-    def place(self) -> str:
-        """The file, the table and the number."""
+    def fault(self, what: str, key: str | None = None) -> Fault:
+        """A fault at this item, or at a key of it."""
         number = f" {self.number}" if self.number else ""
-        return f"{self.path}: {self.table}{number}"
-
-    def fault(self, what: str) -> Fault:
-        """A fault at this item."""
-        return Fault(f"{self.place}: {what}")
+        line = self.lines.line_of(self.table, self.number, key) if self.lines else None
+        at = f":{line}" if line else ""
+        return Fault(f"{self.path}{at}: {self.table}{number}: {what}")
 
     def only(self, keys: tuple[str, ...]) -> None:
         """A fault where the item has another key than these."""
         for key in self.values:
             if key not in keys:
-                raise self.fault(f"no key is called {key!r}; there are {', '.join(keys)}")
+                raise self.fault(f"no key is called {key!r}; there are {', '.join(keys)}", key)
 
     def has(self, key: str) -> bool:
         """Whether the key stands there."""
@@ -67,7 +68,7 @@ class Item(NamedTuple):
         if value is NEEDED:
             raise self.fault(f"no key `{key}`")
         if value is not default and type(value) is not kind:
-            raise self.fault(f"`{key}` is no {called}")
+            raise self.fault(f"`{key}` is no {called}", key)
         return value
 
     def text(self, key: str, default: Any = NEEDED) -> Any:
@@ -78,7 +79,7 @@ class Item(NamedTuple):
         """An integer from `low` to `high`."""
         value = self._value(key, int, "integer", default)
         if value is not default and not low <= value <= high:
-            raise self.fault(f"`{key}` is {value}, and goes from {low} to {high}")
+            raise self.fault(f"`{key}` is {value}, and goes from {low} to {high}", key)
         return value
 
     def flag(self, key: str, default: Any = NEEDED) -> Any:
@@ -98,14 +99,14 @@ class Item(NamedTuple):
         if value is not default:
             for one in value:
                 if type(one) is not kind:
-                    raise self.fault(f"`{key}` is no {called}")
+                    raise self.fault(f"`{key}` is no {called}", key)
         return value
 
     def word(self, key: str, words: tuple[str, ...], default: Any = NEEDED) -> Any:
         """One of some words."""
         value = self.text(key, default)
         if value is not default and value not in words:
-            raise self.fault(f"`{key}` is {value!r}, and may be {' or '.join(words)}")
+            raise self.fault(f"`{key}` is {value!r}, and may be {' or '.join(words)}", key)
         return value
 
     def address(self, key: str) -> IPv6Address:
@@ -117,7 +118,7 @@ class Item(NamedTuple):
         try:
             return address_of(text)
         except ValueError:
-            raise self.fault(f"`{key}` has no IPv6 address: {text!r}") from None
+            raise self.fault(f"`{key}` has no IPv6 address: {text!r}", key) from None
 
     def prefix(self, key: str) -> Prefix:
         """A prefix of either family."""
@@ -128,20 +129,22 @@ class Item(NamedTuple):
         try:
             return prefix_of(text)
         except ValueError:
-            raise self.fault(f"`{key}` is no prefix: {text!r}") from None
+            raise self.fault(f"`{key}` is no prefix: {text!r}", key) from None
 
     def prefix6(self, key: str) -> IPv6Network:
         """An IPv6 prefix."""
         prefix = self.prefix(key)
         if prefix.version != 6:
-            raise self.fault(f"`{key}` is no IPv6 prefix: {prefix}")
+            raise self.fault(f"`{key}` is no IPv6 prefix: {prefix}", key)
         return prefix
 
 
-def items_of(root: dict[str, Any], table: str, path: str) -> Iterator[Item]:
+def items_of(
+    root: dict[str, Any], table: str, path: str, lines: Lines | None = None
+) -> Iterator[Item]:
     """The items of an array of tables of the root, none where it is absent."""
     items = root.get(table, [])
     if type(items) is not list or any(type(item) is not dict for item in items):
-        raise Fault(f"{path}: {table}: no array of tables")
+        raise Item(path, table, 0, root, lines).fault("no array of tables")
     for number, values in enumerate(items, 1):
-        yield Item(path, table, number, values)
+        yield Item(path, table, number, values, lines)

@@ -1,19 +1,23 @@
 """largest-inner: the longest inner packet that goes over each link of an intent's steps."""
 
 import argparse
+import functools
+import json
+import os
 from collections.abc import Iterable, Iterator, Sequence
+from concurrent.futures import ThreadPoolExecutor
 from dataclasses import dataclass
+from typing import Any
 
-from .command import Fault, Parser, Status, run_tool, tool_name
+from .command import Fault, Parser, Status, judge_all, progress, run_tool
 from .description import MOST_MTU, Network, read_network
 from .intent import Intent, read_intent
 from .legs import Legs
 from .loose import legs_of
-from .program import run_program
+from .program import judge_answer, run_program
 from .pushed_headers import Lost, Stage
 from .report import PathStep, Report, certificate_in, report_of
 
-SAY = tool_name("srv6-say")
 MOST_NAMES = 4  # links that one line names
 LEAST_BYTES = {6: 40, 4: 20}  # of a packet: its header
 UNASKED = 1280  # bytes that an IPv6 node may send without a look at the path (RFC 8200 section 5)
@@ -24,7 +28,10 @@ hop is chosen; where SIDs of the list bind policies, with the headers that they 
 that reaches a node these are the links that the list may take. The next line says which links
 leave the least room. A longer packet is dropped where its bytes there are more
 than the MTU of the link taken; behind a SID that took the routing header out it may still pass.
-Where no packet passes, or there is no list, the status is 3."""
+Where no packet passes, or there is no list, the status is 3.
+
+Of several intents there is a line for each, `largest-inner N INTENT: WHY`, with `none` in place of N
+where there is none; the status is 0 where each has one, else that of the first without."""
 
 
 @dataclass(frozen=True, slots=True)
@@ -104,38 +111,64 @@ def least_of(net: Network, links: Iterable[tuple[str, int]], pushed: Pushed) -> 
     return Least(least, tuple(narrow), pushed.most)
 
 
-def lines_of(
-    net: Network, intent: Intent, report: Report, path: Sequence[PathStep]
-) -> Iterator[str]:
-    """What is said of a list."""
+@dataclass(frozen=True, slots=True)
+class Room:
+    """What is found of the list of an intent."""
+
+    intent: Intent
+    header: int  # bytes in front of the inner packet
+    pushed: Pushed
+    least: Least
+
+    @property
+    def most(self) -> int:
+        """The bytes of the longest inner packet."""
+        return self.least.room - self.header
+
+    @property
+    def why(self) -> str:
+        """Where that comes from."""
+        return f"the header takes {self.header} bytes, and {self.least}"
+
+    def lines(self) -> Iterator[str]:
+        """What is said of it, behind the number."""
+        yield self.why
+        for step, size in sorted(self.pushed.by_step.items()):
+            yield f"over the links of step {step} pushed headers take {size} bytes"
+        if self.intent.family == 6 and self.most < UNASKED:
+            wanted = UNASKED + self.header
+            beside = ", and what pushed headers take there" if self.pushed.by_step else ""
+            yield (
+                f"IPv6 nodes send packets of {UNASKED} bytes without a look at the path (RFC 8200"
+                f" section 5); for these each link needs an MTU of {wanted}{beside}"
+            )
+
+    def as_json(self) -> dict[str, Any]:
+        """The same for other programs."""
+        pushed = sorted(self.pushed.by_step.items())
+        return {
+            "largest": self.most,
+            "header": self.header,
+            "room": self.least.room,
+            "links": [{"link": name, "step": step} for name, step in self.least.links],
+            "pushed": [{"step": step, "bytes": size} for step, size in pushed],
+        }
+
+
+def room_of(net: Network, intent: Intent, report: Report, path: Sequence[PathStep]) -> Room:
+    """What is found of a list; a fault where no packet passes."""
     pushed = pushed_along(net, intent, path)
-    least = least_of(net, links_of(net, intent, path), pushed)
-    most = least.room - report.header
-    if most < LEAST_BYTES[intent.family]:
-        raise Fault(
-            f"no {intent.inner} packet passes: the header takes {report.header} bytes, and {least}",
-            Status.NO_ANSWER,
-        )
-    yield f"largest-inner {most}"
-    yield f"the header takes {report.header} bytes, and {least}"
-    for step, size in sorted(pushed.by_step.items()):
-        yield f"over the links of step {step} pushed headers take {size} bytes"
-    if intent.family == 6 and most < UNASKED:
-        wanted = UNASKED + report.header
-        beside = ", and what pushed headers take there" if pushed.by_step else ""
-        yield (
-            f"IPv6 nodes send packets of {UNASKED} bytes without a look at the path (RFC 8200"
-            f" section 5); for these each link needs an MTU of {wanted}{beside}"
-        )
+    room = Room(intent, report.header, pushed, least_of(net, links_of(net, intent, path), pushed))
+    if room.most < LEAST_BYTES[intent.family]:
+        raise Fault(f"no {intent.inner} packet passes: {room.why}", Status.NO_ANSWER)
+    return room
 
 
 def compiled(net: str, intent: str) -> tuple[Report, list[PathStep]]:
     """The report of `srv6 compile` and the path behind it; a fault where it has no list."""
-    answer = run_program(["compile", net, intent])
-    if answer.status != Status.DONE:
-        said = (answer.err.splitlines() or [f"status {answer.status}"])[-1]
-        status = Status(answer.status) if answer.status in list(Status) else Status.OUTSIDE_FAULT
-        raise Fault(f"srv6 compile {net} {intent}: {said} (`{SAY} compile ..` says more)", status)
+    words = ["compile", net, intent]
+    answer = run_program(words)
+    judge_answer(words, answer)
     text = answer.out.decode("latin-1")
     report = report_of(text.splitlines(), "srv6 compile")
     if not report.has_list:
@@ -143,11 +176,43 @@ def compiled(net: str, intent: str) -> tuple[Report, list[PathStep]]:
     return report, certificate_in(text).path
 
 
-def _work(words: argparse.Namespace) -> int:
-    report, path = compiled(words.net, words.intent)
-    net, intent = read_network(words.net), read_intent(words.intent)
-    lines = list(lines_of(net, intent, report, path))
-    print("\n".join(lines))
+def rooms_of(net_path: str, intents: Sequence[str]) -> Iterator[Room | Fault]:
+    """What is found of each intent, or its fault; the program runs on all processors."""
+    with ThreadPoolExecutor(os.cpu_count()) as aside:
+        answers = [aside.submit(compiled, net_path, intent) for intent in intents]
+    net = None
+    for intent, answer in zip(intents, answers):
+        try:
+            report, path = answer.result()
+            net = net or read_network(net_path)
+            yield room_of(net, read_intent(intent), report, path)
+        except Fault as fault:
+            yield fault
+
+
+def _json_of(intent: str, found: Room | Fault) -> dict[str, Any]:
+    if isinstance(found, Fault):
+        return {"intent": intent, "largest": None, "why": str(found)}
+    return {"intent": intent, **found.as_json()}
+
+
+def _line_of(intent: str, found: Room | Fault) -> str:
+    if isinstance(found, Fault):
+        return f"largest-inner none {intent}: {found}"
+    return f"largest-inner {found.most} {intent}: {'; '.join(found.lines())}"
+
+
+def _work(tool: str, words: argparse.Namespace) -> int:
+    with progress(tool, "asking srv6 for the lists"):
+        found = list(rooms_of(words.net, words.intents))
+    if words.json:
+        rows = [_json_of(*one) for one in zip(words.intents, found)]
+        print(json.dumps({"kind": "largest-inner", "net": words.net, "intents": rows}, indent=1))
+    elif len(found) > 1:
+        print("\n".join(_line_of(*one) for one in zip(words.intents, found)))
+    elif isinstance(found[0], Room):
+        print("\n".join([f"largest-inner {found[0].most}", *found[0].lines()]))
+    judge_all(found, "intents have none")
     return Status.DONE
 
 
@@ -155,5 +220,6 @@ def main(words: Sequence[str]) -> int:
     """Runs the tool."""
     parser = Parser("largest-inner", DESCRIPTION)
     parser.add_argument("net", metavar="NET", help="a description")
-    parser.add_argument("intent", metavar="INTENT", help="an intent")
-    return run_tool(parser, _work, words)
+    parser.add_argument("intents", metavar="INTENT", nargs="+", help="an intent")
+    parser.add_argument("--json", action="store_true", help="the same as JSON")
+    return run_tool(parser, functools.partial(_work, parser.prog), words)

@@ -1,38 +1,30 @@
 """Packets of captures as they enter a network, asked of the program, for the page of `view`."""
 
-from collections.abc import Sequence
 from dataclasses import dataclass, field
 from pathlib import Path
 from typing import Any
 
 from .captures import raw_capture, sent_in
-from .command import Fault, Status, tool_name
 from .description import Network
 from .err_lines import PacketLine, err_line_of
+from .fans import is_known
 from .files import INPUT_LIMIT, read_bytes
 from .intent import read_intent
 from .page_packets import Entered, Pages
-from .program import run_program
+from .program import judge_answer, run_program
 from .trace import Stage, Trace, Walk, trace_of
-from .walks import Visit, Walks
+from .walks import Walks
 
-VISITS = 100_000  # of packets at nodes, beyond which walks over all choices aren't counted
-ENTRIES = 4_000_000  # that the program may read for them, at one description a call
-SAY = tool_name("srv6-say")
-
-
-def _refuse(words: Sequence[Any], status: int, err: str) -> None:
-    """A fault where the program didn't do it."""
-    if status != Status.DONE:
-        said = (err.splitlines() or [f"status {status}"])[-1]
-        known = Status(status) if status in list(Status) else Status.OUTSIDE_FAULT
-        raise Fault(f"srv6 {' '.join(map(str, words))}: {said} (`{SAY}` says more)", known)
+VISITS = 200_000  # of packets at nodes, beyond which walks over all choices aren't looked for
+ENTRIES = 4_000_000  # that the program may read for them, a description for each call
+ENTRIES_OF_A_START = 300  # which take as long to read as a call takes beside
+LEAST_CALLS = 20
 
 
 def asked(*words: Any, given: bytes = b"") -> tuple[bytes, str]:
     """What the program writes on `out` and on `err`."""
     answer = run_program([str(word) for word in words], given)
-    _refuse(words, answer.status, answer.err)
+    judge_answer(words, answer)
     return answer.out, answer.err
 
 
@@ -67,7 +59,7 @@ class Group:
     unread: list[tuple[int, str]]
     left_out: int = 0  # packets beyond the most that are shown
     fans: dict[int, int] = field(default_factory=dict)  # by packet
-    fans_cut: bool = False
+    uncounted: int = 0  # packets whose walks over all choices aren't counted
 
 
 def arriving(net: Network, node: str, choices: str, path: str, most: int) -> Group:
@@ -132,38 +124,26 @@ def _onward(net: Network, firsts: dict[int, Any], choices: str) -> dict[int, Wal
     return found
 
 
-class BoundedWalks(Walks):
-    """Walks over all choices, as far as the program is asked not too often for them."""
-
-    def __post_init__(self) -> None:
-        super().__post_init__()
-        self.calls = max(20, ENTRIES // (len(self.net.routes) + len(self.net.sids) + 1000))
-
-    def _ask(self, node: str, choice: int, visits: Sequence[Visit]) -> None:
-        self.calls -= 1
-        if self.calls < 0:
-            self.is_cut = True
-        else:
-            super()._ask(node, choice, visits)
-
-
 def count_fans(pages: Pages, group: Group, node: str | None, intent: str | None) -> None:
-    """All walks of a group's packets, over all choices."""
-    walks = BoundedWalks(pages.net, VISITS)
+    """All walks of a group's packets, over all choices; of those alone whose walks are found
+    before the program was asked too often.
+    """
+    walks = Walks(pages.net, VISITS)
+    walks.calls = max(LEAST_CALLS, ENTRIES // (walks.entries_a_call + ENTRIES_OF_A_START))
     shown = [one for one in group.packets if intent is None or one.first]
     if not shown:
         return
-    contents = [one.walk.packet if one.inner is None else one.inner for one in shown]
+    contents = (one.walk.packet if one.inner is None else one.inner for one in shown)
     given = b"".join(raw_capture((0, 0, content) for content in contents))
     if intent is None:
         starts = walks.from_node(node or "", given)
     else:
         starts = walks.from_intent(intent, given)
-    if walks.is_cut:
-        group.fans_cut = True
-        return
     for start in starts:
-        group.fans[shown[start.number - 1].walk.number] = pages.fan(walks, start)
+        if is_known(walks, start):
+            group.fans[shown[start.number - 1].walk.number] = pages.fan(walks, start)
+        else:
+            group.uncounted += 1
 
 
 def enter_group(pages: Pages, group: Group) -> dict[str, Any]:
@@ -177,5 +157,5 @@ def enter_group(pages: Pages, group: Group) -> dict[str, Any]:
     ]
     return {
         "label": group.label, "walks": walks, "unread": group.unread, "left_out": group.left_out,
-        "fans_cut": group.fans_cut,
+        "uncounted": group.uncounted,
     }  # fmt: skip

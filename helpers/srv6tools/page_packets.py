@@ -3,6 +3,7 @@ packet as what it has otherwise than the one before it.
 """
 
 import difflib
+import itertools
 import json
 from collections.abc import Hashable, Iterable, Sequence
 from dataclasses import dataclass, field
@@ -10,12 +11,13 @@ from typing import Any
 
 from .decisions import HEADEND_RFC, Teller, Told
 from .description import Network
+from .fans import each_walk, end_words, fan_of
 from .fields import Part, dissected
 from .trace import Walk
-from .walks import Hop, Start, Visit, Walks, counts_of, visits_from
+from .walks import Start, Walks
 
 MOST_STAGES = 512  # of a walk that are shown
-MOST_WAYS = 24  # of a packet's walks that are listed one by one
+MOST_WAYS, MOST_LINKS = 24, 400  # of a packet's walks that are listed one by one
 _PACKETS = ("IPv6 header", "IPv4 header")
 
 
@@ -288,39 +290,20 @@ class Pages:
         """The number of all walks of a packet, over all choices: how many there are, over which
         links how many go, and how they end.
         """
-        counts = counts_of(walks, start)
-        links, ends = self._shares(walks, start)
-        ways = []
-        for way in _some_ways(walks, start):
+        fan, ways, links = fan_of(walks, start), [], 0
+        for way in itertools.islice(each_walk(walks, start), MOST_WAYS):
             names = [self.links[hop.link] for _, hop in way if hop.link]
-            ways.append([names, self.text(way[-1][1].end or "..")])
+            ways.append([names, self.text(end_words(*way[-1]))])
+            links += len(names)
+            if links > MOST_LINKS:
+                break
         row = {
-            "walks": str(counts[start.visit]),
-            "links": [[self.links[name], str(count)] for name, count in links.items()],
-            "ends": [[self.text(end), str(count)] for end, count in ends.items()],
+            "walks": str(fan.walks),
+            "links": [[self.links[name], str(count)] for name, count in fan.links.items()],
+            "ends": [[self.text(end), str(count)] for end, count in fan.ends.items()],
             "ways": ways,
         }
         return self.fans.number(row, json.dumps(row))
-
-    def _shares(self, walks: Walks, start: Start) -> tuple[dict[str, int], dict[str, int]]:
-        """How many walks go over each link, and how many have each end."""
-        counts = counts_of(walks, start)
-        come = {start.visit: 1}
-        links: dict[str, int] = {}
-        ends: dict[str, int] = {}
-        for visit in _in_order(walks, start):
-            times = come.get(visit, 0)
-            for hop in walks.hops[visit]:
-                then = walks.next_visit(hop)
-                share = times * (1 if then is None else max(1, counts.get(then, 1)))
-                if hop.link:
-                    links[hop.link] = links.get(hop.link, 0) + share
-                if then is None:
-                    end = _end_words(visit, hop)
-                    ends[end] = ends.get(end, 0) + times
-                else:
-                    come[then] = come.get(then, 0) + times
-        return links, ends
 
     def data(self) -> dict[str, Any]:
         """All of it, for the page."""
@@ -328,44 +311,3 @@ class Pages:
             "texts": self.texts.values, "shapes": self.shapes.values, "views": self.views.values,
             "marks": self.marks.values, "fans": self.fans.values, "walks": self.walks,
         }  # fmt: skip
-
-
-def _end_words(visit: Visit, hop: Hop) -> str:
-    end = hop.end or ".."
-    return end if end.startswith("left ") else f"{end} at {visit.node}"
-
-
-def _some_ways(walks: Walks, start: Start) -> list[list[tuple[Visit, Hop]]]:
-    """The first of a packet's walks, each a row of visits with the hop that is taken there."""
-    found: list[list[tuple[Visit, Hop]]] = []
-    todo: list[tuple[Visit, list[tuple[Visit, Hop]]]] = [(start.visit, [])]
-    while todo and len(found) < MOST_WAYS:
-        visit, way = todo.pop()
-        for hop in reversed(walks.hops.get(visit) or [Hop((), end="..")]):
-            then = walks.next_visit(hop)
-            if then is not None:
-                todo.append((then, [*way, (visit, hop)]))
-            else:
-                end = _end_words(visit, hop)
-                found.append([*way, (visit, Hop(hop.sids, hop.link, hop.packet, end))])
-    return found[:MOST_WAYS]
-
-
-def _in_order(walks: Walks, start: Start) -> list[Visit]:
-    """The visits of a packet, each behind all from which it is come to."""
-    visits = visits_from(walks, start)
-    known, before = set(visits), dict.fromkeys(visits, 0)
-    for visit in visits:
-        for hop in walks.hops[visit]:
-            if (then := walks.next_visit(hop)) in known:
-                before[then] += 1
-    ready, found = [visit for visit in visits if not before[visit]], []
-    while ready:
-        visit = ready.pop()
-        found.append(visit)
-        for hop in walks.hops[visit]:
-            if (then := walks.next_visit(hop)) in known:
-                before[then] -= 1
-                if not before[then]:
-                    ready.append(then)
-    return found

@@ -4,22 +4,25 @@ from dataclasses import dataclass, field
 from pathlib import Path
 from typing import Any
 
-from .command import Fault
-from .files import read_toml
+from .description import LEAST_MTU, MOST_MTU
+from .files import parse_toml, read_text
 from .items import Item, Prefix, items_of
+from .toml_places import Lines
 
 MOST_METRIC = 2**32 - 1
 MOST_TABLE = 65535
 TABLES = ("cable", "link", "locator", "site")
+BothWays = tuple[int | None, int | None]  # of a cable's links, where it says something of them
 
 
 @dataclass(frozen=True, slots=True)
 class Cable:
-    """Two links between two nodes, one each way, with their metrics and names."""
+    """Two links between two nodes, one each way, with their metrics, MTUs and names."""
 
-    place: str  # the file, the table and the item, for faults
+    item: Item = field(repr=False, compare=False)
     ends: tuple[str, str]
-    metrics: tuple[int | None, int | None]
+    metrics: BothWays
+    mtus: BothWays
     links: tuple[str, str] | None
 
 
@@ -27,7 +30,7 @@ class Cable:
 class LinkMetric:
     """The metric of one link."""
 
-    place: str
+    item: Item = field(repr=False, compare=False)
     link: str
     metric: int
 
@@ -36,17 +39,17 @@ class LinkMetric:
 class Locator:
     """A prefix that routes lead to; with several nodes it is anycast."""
 
-    place: str
     prefix: Prefix
     nodes: frozenset[str]
     table: int = 0
+    item: Item | None = field(default=None, repr=False, compare=False)  # of the plan
 
 
 @dataclass(frozen=True, slots=True)
 class Site:
     """Prefixes that a node sends out of the network over a link, by one of its tables."""
 
-    place: str
+    item: Item = field(repr=False, compare=False)
     node: str
     link: str
     table: int
@@ -58,6 +61,7 @@ class Plan:
     """What a plan says."""
 
     metric: int = 10  # of a link of which the plan says nothing
+    mtu: int | None = None  # of a cable that has none
     ends: bool = True  # whether the prefix of each End SID is a locator
     addresses: bool = False  # whether the address of each node is one
     cables: list[Cable] = field(default_factory=list)
@@ -68,12 +72,14 @@ class Plan:
 
 def read_plan(path: str | Path) -> Plan:
     """The plan of a file."""
-    root = read_toml(path)
-    whole = Item(str(path), "the root", 0, root)
-    whole.only(("metric", "ends", "addresses", *TABLES))
-    items = {table: list(items_of(root, table, str(path))) for table in TABLES}
+    text = read_text(path)
+    root, lines = parse_toml(text, str(path)), Lines(text)
+    whole = Item(str(path), "the root", 0, root, lines)
+    whole.only(("metric", "mtu", "ends", "addresses", *TABLES))
+    items = {table: list(items_of(root, table, str(path), lines)) for table in TABLES}
     return Plan(
         whole.integer("metric", 10, low=1, high=MOST_METRIC),
+        whole.integer("mtu", None, low=LEAST_MTU, high=MOST_MTU),
         whole.flag("ends", True),
         whole.flag("addresses", False),
         [_cable(item) for item in items["cable"]],
@@ -84,48 +90,53 @@ def read_plan(path: str | Path) -> Plan:
 
 
 def _cable(item: Item) -> Cable:
-    item.only(("nodes", "metric", "links"))
-    both = item.values.get("metric")
-    metrics = both if isinstance(both, list) else [both, both]
-    if len(metrics) != 2 or not all(one is None or _is_metric(one) for one in metrics):
-        raise item.fault(f"`metric` is no number from 1 to {MOST_METRIC}, and no list of two")
+    item.only(("nodes", "metric", "mtu", "links"))
+    metrics = _both_ways(item, "metric", 1, MOST_METRIC)
+    mtus = _both_ways(item, "mtu", LEAST_MTU, MOST_MTU)
     links = _two(item, "links") if item.has("links") else None
-    return Cable(item.place, _two(item, "nodes"), (metrics[0], metrics[1]), links)
+    return Cable(item, _two(item, "nodes"), metrics, mtus, links)
 
 
-def _is_metric(value: Any) -> bool:
-    return type(value) is int and 1 <= value <= MOST_METRIC
+def _both_ways(item: Item, key: str, low: int, high: int) -> BothWays:
+    """A number for both ways of a cable, or a list of two; None where there is none."""
+    if not item.has(key):
+        return None, None
+    value: Any = item.values[key]
+    both = value if isinstance(value, list) else [value, value]
+    if len(both) != 2 or not all(type(one) is int and low <= one <= high for one in both):
+        raise item.fault(f"`{key}` is no number from {low} to {high}, and no list of two", key)
+    return both[0], both[1]
 
 
 def _two(item: Item, key: str) -> tuple[str, str]:
     names = item.texts(key)
     if len(names) != 2 or names[0] == names[1]:
-        raise item.fault(f"`{key}` is no list of two names that differ")
+        raise item.fault(f"`{key}` is no list of two names that differ", key)
     return names[0], names[1]
 
 
 def _metric(item: Item) -> LinkMetric:
     item.only(("name", "metric"))
     metric = item.integer("metric", low=1, high=MOST_METRIC)
-    return LinkMetric(item.place, item.text("name"), metric)
+    return LinkMetric(item, item.text("name"), metric)
 
 
 def _locator(item: Item) -> Locator:
     item.only(("prefix", "nodes", "table"))
     nodes = frozenset(item.texts("nodes"))
     if not nodes:
-        raise item.fault("`nodes` is empty")
+        raise item.fault("`nodes` is empty", "nodes")
     table = item.integer("table", 0, high=MOST_TABLE)
-    return Locator(item.place, item.prefix("prefix"), nodes, table)
+    return Locator(item.prefix("prefix"), nodes, table, item)
 
 
 def _site(item: Item) -> Site:
     item.only(("node", "link", "table", "prefixes"))
     prefixes = tuple(item.as_prefix("prefixes", text) for text in item.texts("prefixes"))
     if not prefixes:
-        raise item.fault("`prefixes` is empty")
+        raise item.fault("`prefixes` is empty", "prefixes")
     table = item.integer("table", 0, high=MOST_TABLE)
-    return Site(item.place, item.text("node"), item.text("link"), table, prefixes)
+    return Site(item, item.text("node"), item.text("link"), table, prefixes)
 
 
 class LinkMaker:
@@ -137,18 +148,28 @@ class LinkMaker:
             item.text("name"): (item.text("from"), item.text("to", None))
             for item in items_of(root, "link", path)
         }
-        self.added: list[dict[str, str]] = []
+        self.mtus = {
+            item.text("name"): item.integer("mtu", MOST_MTU)
+            for item in items_of(root, "link", path)
+        }
+        self.added: list[dict[str, Any]] = []
+        self.other_mtus: dict[str, int] = {}  # of links that are there with another one
         self.metrics: dict[str, int] = {}
         self.cables: dict[frozenset[str], int] = {}  # how many there are between two nodes
 
-    def cable(self, cable: Cable) -> None:
+    def cable(self, cable: Cable, default_mtu: int | None) -> None:
         """The two links of a cable, named after its ends where it gives no names."""
-        for name, ends, metric in zip(
-            cable.links or self._names(cable.ends), (cable.ends, cable.ends[::-1]), cable.metrics
+        for name, ends, metric, mtu in zip(
+            cable.links or self._names(cable.ends),
+            (cable.ends, cable.ends[::-1]),
+            cable.metrics,
+            cable.mtus,
         ):
-            self._enter(cable.place, name, *ends)
+            self._enter(cable.item, "nodes", name, ends, mtu or default_mtu)
             if metric is not None:
                 self.metrics[name] = metric
+            if mtu is not None and self.mtus[name] != mtu:
+                self.other_mtus[name] = mtu
 
     def _names(self, ends: tuple[str, str]) -> tuple[str, str]:
         """A-B and B-A; of the second cable between the same two nodes with -2 behind that."""
@@ -158,38 +179,46 @@ class LinkMaker:
 
     def site(self, site: Site) -> None:
         """The link of a site."""
-        self._enter(site.place, site.link, site.node, None)
+        self._enter(site.item, "node", site.link, (site.node, None), None)
 
     def metric(self, metric: LinkMetric) -> None:
         """The metric of a link that is there or was added."""
         if metric.link not in self.there:
-            raise Fault(f"{metric.place}: no link is called {metric.link!r}")
+            raise metric.item.fault(f"no link is called {metric.link!r}", "name")
         self.metrics[metric.link] = metric.metric
 
     def locator(self, locator: Locator) -> None:
         """Judges the names of a locator's nodes."""
-        for node in sorted(locator.nodes):
-            self._known(locator.place, node)
+        for node in sorted(locator.nodes) if locator.item else ():
+            self._known(locator.item, "nodes", node)
 
-    def _known(self, place: str, node: str) -> None:
+    def _known(self, item: Item, key: str, node: str) -> None:
         if node not in self.nodes:
-            raise Fault(f"{place}: no node is called {node!r}")
+            raise item.fault(f"no node is called {node!r}", key)
 
-    def _enter(self, place: str, name: str, start: str, end: str | None) -> None:
+    def _enter(
+        self, item: Item, key: str, name: str, ends: tuple[str, str | None], mtu: int | None
+    ) -> None:
+        """Adds a link of an item whose nodes stand at a key, if it isn't there."""
+        start, end = ends
         for node in (start, end) if end is not None else (start,):
-            self._known(place, node)
+            self._known(item, key, node)
         if name not in self.there:
-            self.there[name] = (start, end)
-            self.added.append({"name": name, "from": start} | ({"to": end} if end else {}))
-        elif self.there[name] != (start, end):
-            raise Fault(f"{place}: there is a link {name!r} already, with other ends")
+            self.there[name], self.mtus[name] = ends, mtu or MOST_MTU
+            link: dict[str, Any] = {"name": name, "from": start}
+            self.added.append(
+                link | ({"to": end} if end else {}) | ({"mtu": mtu} if mtu is not None else {})
+            )
+        elif self.there[name] != ends:
+            where = "link" if item.has("link") else "links" if item.has("links") else key
+            raise item.fault(f"there is a link {name!r} already, with other ends", where)
 
 
 def make_links(root: dict[str, Any], path: str, plan: Plan) -> LinkMaker:
     """The links and metrics of a plan; a fault where it names what the description hasn't."""
     maker = LinkMaker(root, path)
     for cable in plan.cables:
-        maker.cable(cable)
+        maker.cable(cable, plan.mtu)
     for site in plan.sites:
         maker.site(site)
     for metric in plan.metrics:

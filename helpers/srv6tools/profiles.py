@@ -82,12 +82,7 @@ def read_profile(word: str) -> Profile:
 
 def profile_of(root: dict[str, Any], path: str) -> Profile:
     """The profile of a TOML root."""
-    for key in root:
-        if key not in KEYS:
-            raise Fault(f"{path}: no key of a profile is called {key!r}; there are {', '.join(KEYS)}")
-    name = root.get("name")
-    if not isinstance(name, str) or not name:
-        raise Fault(f"{path}: a profile has a `name`, which is a text")
+    name = _named(root, KEYS, path, "a profile")
     rules = root.get("rule", {})
     if not isinstance(rules, dict):
         raise Fault(f"{path}: `rule` is a table")
@@ -115,13 +110,19 @@ def _rules(table: dict[str, Any], path: str, front: str = "") -> dict[str, str]:
 
 def _deviation(item: dict[str, Any], number: int, path: str) -> Deviation:
     where = f"{path}: deviation {number}"
-    for key in item:
-        if key not in DEVIATION_KEYS:
-            raise Fault(f"{where}: no key is called {key!r}; there are {', '.join(DEVIATION_KEYS)}")
-    name = item.get("name")
-    if not isinstance(name, str) or not name:
-        raise Fault(f"{where}: it has a `name`, which is a text")
+    name = _named(item, DEVIATION_KEYS, where, "a deviation")
     return Deviation(name, **{key: _patterns(item, key, where) for key in DEVIATION_KEYS[1:]})
+
+
+def _named(table: dict[str, Any], keys: Sequence[str], where: str, what: str) -> str:
+    """The name of a table, which has no other keys than these."""
+    for key in table:
+        if key not in keys:
+            raise Fault(f"{where}: no key of {what} is called {key!r}; there are {', '.join(keys)}")
+    name = table.get("name")
+    if not isinstance(name, str) or not name:
+        raise Fault(f"{where}: {what} has a `name`, which is a text")
+    return name
 
 
 def _patterns(item: dict[str, Any], key: str, where: str) -> tuple[str, ...]:

@@ -7,10 +7,11 @@ from collections.abc import Sequence
 from dataclasses import dataclass
 from pathlib import Path
 
-from .command import Fault, Status
+from .command import Fault, Status, tool_name
 
 REPOSITORY = Path(__file__).resolve().parents[2]
 EMPTY_TRACE = b"srv6 trace 1\nend\n"
+SAY = tool_name("srv6-say")
 
 
 @dataclass(frozen=True)
@@ -52,6 +53,16 @@ def run_program(words: Sequence[str | Path], given: bytes = b"") -> Answer:
         reason = getattr(fault, "strerror", None) or fault
         raise Fault(f"the program {path} can't be run: {reason}", Status.OUTSIDE_FAULT) from None
     return Answer(done.returncode, done.stdout, done.stderr.decode("utf-8", "surrogateescape"))
+
+
+def judge_answer(words: Sequence[str | Path], answer: Answer, *others: Status) -> None:
+    """A fault where a run of the program ended with another status than Done and these others."""
+    if answer.status in (Status.DONE, *others):
+        return
+    said = (answer.err.splitlines() or [f"status {answer.status}"])[-1]
+    known = Status(answer.status) if answer.status in list(Status) else Status.OUTSIDE_FAULT
+    command, asked = words[0], " ".join(map(str, words))
+    raise Fault(f"srv6 {asked}: {said} (`{SAY} {command} ..` says more)", known)
 
 
 def judge_description(net: str | Path, called: str = "") -> None:

@@ -14,8 +14,9 @@ from .description import TABLES, Network, Route, network_of
 from .files import FILE_LIMIT, parse_toml, read_text
 from .items import Prefix
 from .paths import Topology
-from .plan import Locator, Plan, Site, make_links, read_plan
+from .plan import LinkMaker, Locator, Plan, Site, make_links, read_plan
 from .program import find_program, judge_description
+from .toml_places import Lines
 from .toml_writer import compact_text, lined_text, list_text
 
 MOST_LINKS = 64  # of a route
@@ -100,7 +101,7 @@ def locators_of(net: Network, plan: Plan) -> list[Locator]:
         for prefix in site.prefixes if site.table == 0 else ():
             owners.setdefault((0, prefix), set()).add(site.node)
     for (table, prefix), nodes in owners.items():
-        locators.append(Locator("", prefix, frozenset(nodes), table))
+        locators.append(Locator(prefix, frozenset(nodes), table))
     return locators
 
 
@@ -199,6 +200,12 @@ def _nested(routes: Routes) -> Iterator[str]:
                 yield f"{prefix} lies inside sid {sids[outer].number}, {outer}: Nested for compile"
 
 
+def kept_mtus(made: LinkMaker) -> Iterator[str]:
+    """The links of the description whose MTU stays, though a cable of the plan has another."""
+    for name, mtu in made.other_mtus.items():
+        yield f"link {name} is there, and keeps its mtu {made.mtus[name]}; the plan has {mtu}"
+
+
 def _some(names: list[str]) -> str:
     more = f" and {len(names) - 8} more" if len(names) > 8 else ""
     return ", ".join(names[:8]) + more
@@ -232,10 +239,11 @@ def fill(path: str | Path, plan_path: str | Path | None = None, compact: bool = 
     with progress("routes", f"reading {path}"):
         text = read_text(path)
         root = parse_toml(text, str(path))
-        network_of({table: root[table] for table in root if table not in LATER}, str(path))
+        lines = Lines(text)
+        network_of({table: root[table] for table in root if table not in LATER}, str(path), lines)
         plan = read_plan(plan_path) if plan_path else Plan()
         made = make_links(root, str(path), plan)
-        net = network_of(root | {"link": root.get("link", []) + made.added}, str(path))
+        net = network_of(root | {"link": root.get("link", []) + made.added}, str(path), lines)
     with progress("routes", "finding the shortest ways"):
         routes, locators = Routes(net), locators_of(net, plan)
         routes.out(plan.sites)
@@ -247,7 +255,8 @@ def fill(path: str | Path, plan_path: str | Path | None = None, compact: bool = 
         result = result_text(root, text, {"link": made.added, "route": items}, compact)
     if (size := len(result.encode())) > FILE_LIMIT:
         raise Fault(f"the result has {size} bytes, and a description has at most {FILE_LIMIT}")
-    return Filled(result, [*summary(routes, len(made.added), locators), *missing(routes)])
+    said = [*summary(routes, len(made.added), locators), *missing(routes), *kept_mtus(made)]
+    return Filled(result, said)
 
 
 def work(words: argparse.Namespace) -> None:

@@ -1,6 +1,7 @@
 """Where the tables, items and keys of a TOML text stand, for messages that name a line."""
 
 import bisect
+import functools
 import re
 from collections.abc import Iterator
 from dataclasses import dataclass
@@ -65,6 +66,28 @@ class Places:
         start = self._ends[number - 2] + 1 if number > 1 else 0
         end = self._ends[number - 1] if number <= len(self._ends) else len(self.text)
         return self.text[start:end].rstrip("\r")
+
+
+class Lines:
+    """The lines of a text's items and keys; the text is looked through once one is asked for."""
+
+    def __init__(self, text: str):
+        self._text = text
+
+    @functools.cached_property
+    def _places(self) -> Places:
+        return Places(self._text)
+
+    def line_of(self, table: str, number: int, key: str | None) -> int | None:
+        """The line of an item's key, else that of the item; of number 0 it is a key of the root."""
+        places = self._places
+        if number == 0:
+            at = places.root.get(key or table)
+        elif place := places.item(table, number):
+            at = places.keys_of(place).get(key or "", place.start)
+        else:
+            at = None
+        return None if at is None else places.line_of(at)
 
 
 class _Scan:

@@ -6,24 +6,26 @@ send. So of walks that come to one node with the same bytes the rest is asked of
 """
 
 import collections
-from collections.abc import Hashable, Iterable, Iterator, Sequence
+import os
+from collections.abc import Hashable, Iterable, Sequence
 from concurrent.futures import ThreadPoolExecutor
 from dataclasses import dataclass, field
+from pathlib import Path
 from typing import NamedTuple
 
-from .captures import FRAME_LIMIT, raw_capture, sent_in
-from .command import Fault, Status, tool_name
+from .captures import in_captures, sent_in
 from .description import Link, Network
 from .err_lines import PacketLine, err_line_of
 from .intent import read_intent
 from .loose import legs_of
-from .program import Answer, run_program
+from .own_entries import OwnEntries, own_entries_of
+from .program import Answer, judge_answer, run_program
 from .report import certificate_in
 from .shown import Shown, shown_in
 from .trace import Walk, trace_of
 
-SAY = tool_name("srv6-say")
 MOST_MEMBERS = 64  # of a set of equal next hops
+MOST_ENTRIES = 5_000  # of a description that is read anew each time that walks are asked for
 
 
 class Visit(NamedTuple):
@@ -64,17 +66,28 @@ class Walks:
 
     net: Network
     most: int  # visits
+    calls: int | None = None  # how often the program may be asked for what is behind the first walks
     hops: dict[Visit, list[Hop]] = field(default_factory=dict)
     is_cut: bool = False  # there are more visits
     _by_choice: dict[Visit, dict[int, Hop]] = field(default_factory=dict)
+    _open: dict[Visit, None] = field(default_factory=dict)  # of which not all hops are known
     _sets: dict[str, set[tuple[str, ...]]] = field(default_factory=dict)
+    _own: OwnEntries | None = None  # of a large network
 
     def __post_init__(self) -> None:
+        if len(self.net.routes) + len(self.net.sids) > MOST_ENTRIES:
+            self._own = own_entries_of(self.net.path)
         for route in self.net.routes:
             self._sets.setdefault(route.via[0], set()).add(route.via)
         for sid in self.net.sids:
             if sid.links:
                 self._sets.setdefault(sid.links[0], set()).add(sid.links)
+
+    @property
+    def entries_a_call(self) -> int:
+        """The routes and SIDs that the program reads when it is asked for walks, about."""
+        entries = len(self.net.routes) + len(self.net.sids)
+        return entries // len(self.net.nodes) if self._own else entries
 
     def next_visit(self, hop: Hop) -> Visit | None:
         """Where a hop leads; None where the packet ends or leaves the network."""
@@ -106,27 +119,59 @@ class Walks:
     def _find_all(self) -> None:
         """Asks for what each visit still wants, those of one node and one choice together."""
         while not self.is_cut and (wanted := self._wanted()):
+            if self._own:
+                self._ask_each_node(wanted)
+                continue
             for (node, choice), visits in wanted.items():
                 self._ask(node, choice, [one for one in visits if self._wants(one) == choice])
-                self.is_cut |= len(self._by_choice) > self.most
+                self._count(1)
                 if self.is_cut:
                     break
-        for visit, hops in self._by_choice.items():
-            choices = self._choices(visit)
-            self.hops.setdefault(visit, [hops[choice] for choice in choices if choice in hops])
 
     def _ask(self, node: str, choice: int, visits: Sequence[Visit]) -> None:
         """Asks for the walks of packets that arrive at a node, under one choice."""
-        for some in _parts(visits, FRAME_LIMIT):
-            given = b"".join(raw_capture((0, 0, visit.packet) for visit in some))
+        for _, given in in_captures(visit.packet for visit in visits):
             for walk in self._traced(node, choice, given):
                 self._take(walk, choice)
 
+    def _count(self, calls: int) -> None:
+        """Stops where there are too many visits, or the program was asked too often."""
+        if self.calls is not None:
+            self.calls -= calls
+        self.is_cut |= len(self._by_choice) > self.most or (self.calls is not None and self.calls < 0)
+
+    def _ask_each_node(self, wanted: dict[tuple[str, int], list[Visit]]) -> None:
+        """Asks for all that nodes do with packets, by their own entries, on all processors."""
+        by_node: dict[str, list[Visit]] = {}
+        for (node, _), visits in wanted.items():
+            by_node.setdefault(node, []).extend(visits)
+        with ThreadPoolExecutor(os.cpu_count()) as aside:
+            self._count(sum(aside.map(self._ask_node, by_node, by_node.values())))
+
+    def _ask_node(self, node: str, visits: Sequence[Visit]) -> int:
+        """Asks for the first hops of packets at a node; gives how often."""
+        calls = 0
+        while left := [visit for visit in visits if self._wants(visit) is not None]:
+            choice = min(self._wants(visit) for visit in left)
+            packets = (visit.packet for visit in left if self._wants(visit) == choice)
+            for _, given in in_captures(packets):
+                calls += 1
+                for walk in self._traced(node, choice, given, self._own.path(node)):
+                    self._take(walk, choice, is_first=True)
+        return calls
+
     def _wanted(self) -> dict[tuple[str, int], list[Visit]]:
+        """The visits of which hops are still to be asked for, by the node and the choice; those of
+        which all are known are done.
+        """
         wanted: dict[tuple[str, int], list[Visit]] = {}
-        for visit in self._by_choice:
+        for visit in list(self._open):
             choice = self._wants(visit)
-            if choice is not None and visit.inner is None:
+            if choice is None:
+                hops = self._by_choice[visit]
+                self.hops[visit] = [hops[choice] for choice in self._choices(visit)]
+                del self._open[visit]
+            elif visit.inner is None:
                 wanted.setdefault((visit.node, choice), []).append(visit)
         return wanted
 
@@ -152,19 +197,27 @@ class Walks:
                 return range(choice)
         return range(MOST_MEMBERS)
 
-    def _traced(self, node: str, choice: int, given: bytes) -> list[Walk]:
-        words = ["trace", self.net.path, node, str(choice)]
+    def _traced(
+        self, node: str, choice: int, given: bytes, path: str | Path | None = None
+    ) -> list[Walk]:
+        words = ["trace", path or self.net.path, node, str(choice)]
         answer = run_program(words, given)
-        _refuse(" ".join(map(str, words)), answer.status, answer.err)
+        judge_answer(words, answer)
         return trace_of(answer.out.decode("latin-1").splitlines(), "srv6 trace").walks
 
     def _put(self, visit: Visit, choice: int, hop: Hop) -> None:
-        self._by_choice.setdefault(visit, {}).setdefault(choice, hop)
+        self._met(visit).setdefault(choice, hop)
         if (then := self.next_visit(hop)) is not None:
-            self._by_choice.setdefault(then, {})
+            self._met(then)
 
-    def _take(self, walk: Walk, choice: int) -> None:
-        """The hops of a walk that was taken under one choice for all sends."""
+    def _met(self, visit: Visit) -> dict[int, Hop]:
+        """The hops that are known of a visit, by choice."""
+        if visit not in self._by_choice:
+            self._open[visit] = None
+        return self._by_choice.setdefault(visit, {})
+
+    def _take(self, walk: Walk, choice: int, is_first: bool = False) -> None:
+        """The hops of a walk that was taken under one choice for all sends, or the first alone."""
         visit, sids = Visit(walk.node, walk.packet), []
         for stage in walk.stages:
             match stage.kind:
@@ -184,7 +237,7 @@ class Walks:
                     hop = Hop(tuple(sids), end="stopped after 10000 stages")
             self._put(visit, choice, hop)
             sids = []
-            if (then := self.next_visit(hop)) is None:
+            if (then := self.next_visit(hop)) is None or is_first:
                 return
             visit = then
 
@@ -204,8 +257,9 @@ class _Entry:
 
     def _own_sids(self) -> tuple[str, ...]:
         """The SIDs that the headend itself executes."""
-        answer = run_program(["compile", self.net.path, self.intent])
-        _refuse(f"srv6 compile {self.net.path} {self.intent}", answer.status, answer.err)
+        words = ["compile", self.net.path, self.intent]
+        answer = run_program(words)
+        judge_answer(words, answer)
         path = certificate_in(answer.out.decode("latin-1")).path
         if not path:
             return ()
@@ -222,7 +276,7 @@ class _Entry:
 
     def _firsts(self, answer: Answer) -> dict[Visit, Hop]:
         """The first hops in an answer of `srv6 walk`."""
-        _refuse(f"srv6 walk {self.net.path} {self.intent}", answer.status, answer.err)
+        judge_answer(["walk", self.net.path, self.intent], answer)
         firsts: dict[int, Hop] = {}
         for sent in sent_in(answer.out, "srv6 walk"):
             if sent.packet not in firsts and 0 < sent.link <= len(self.links):
@@ -235,20 +289,6 @@ class _Entry:
                 end = f"{said.outcome} {said.reason or ''}".strip()
                 firsts.setdefault(said.number, Hop((), end=end))
         return {Visit(self.headend, b"", number): hop for number, hop in sorted(firsts.items())}
-
-
-def _refuse(what: str, status: int, err: str) -> None:
-    """A fault where the program didn't do it."""
-    if status == Status.DONE:
-        return
-    last = (err.splitlines() or [f"status {status}"])[-1]
-    known = Status(status) if status in list(Status) else Status.OUTSIDE_FAULT
-    raise Fault(f"{what}: {last} (`{SAY}` says more)", known)
-
-
-def _parts(visits: Sequence[Visit], size: int) -> Iterator[Sequence[Visit]]:
-    for at in range(0, len(visits), size):
-        yield visits[at : at + size]
 
 
 @dataclass(frozen=True, slots=True)
@@ -267,11 +307,9 @@ class View:
 def views_of(packets: Iterable[bytes]) -> dict[bytes, View | None]:
     """The views of packets, as `srv6 show` tells their headers; None of one that doesn't read."""
     views: dict[bytes, View | None] = {}
-    todo = [packet for packet in dict.fromkeys(packets) if packet]
-    for at in range(0, len(todo), FRAME_LIMIT):
-        some = todo[at : at + FRAME_LIMIT]
-        answer = run_program(["show"], b"".join(raw_capture((0, 0, packet) for packet in some)))
-        _refuse("srv6 show", answer.status, answer.err)
+    for some, given in in_captures(packet for packet in dict.fromkeys(packets) if packet):
+        answer = run_program(["show"], given)
+        judge_answer(["show"], answer)
         for shown in shown_in(answer.out.decode("latin-1").splitlines(), "srv6 show"):
             views[some[shown.number - 1]] = _view(shown)
     return views

@@ -6,17 +6,16 @@ import functools
 from collections.abc import Iterator, Sequence
 from ipaddress import IPv6Address
 
-from .command import Fault, Parser, Status, progress, run_tool, tool_name
+from .command import Fault, Parser, Status, progress, run_tool
 from .description import Sid, read_network
 from .err_lines import NoAnswer, err_line_of
 from .intent import Step, read_intent
 from .legs import Edges, Legs, Rooms
 from .loose import legs_of
 from .places import Halt, Stop
-from .program import run_program
+from .program import judge_answer, run_program
 from .pushed_headers import Lost, Origin
 
-SAY = tool_name("srv6-say")
 MOST_NAMES = 4  # SIDs that one line names
 DESCRIPTION = """\
 Where `srv6 compile NET INTENT` says `no answer NoList`: prints the furthest step that any list
@@ -284,7 +283,8 @@ def _work(tool: str, words: argparse.Namespace) -> int:
 
 def _there_is_one(net: str, intent: str) -> str:
     """What `srv6 compile` says where there is a list; a fault where it refuses."""
-    answer = run_program(["compile", net, intent])
+    words = ["compile", net, intent]
+    answer = run_program(words)
     last = (answer.err.splitlines() or [""])[-1]
     said = err_line_of(last)
     if isinstance(said, NoAnswer) and said.why == "NoList":
@@ -292,11 +292,6 @@ def _there_is_one(net: str, intent: str) -> str:
     if isinstance(said, NoAnswer):
         key = "max_containers" if said.why == "TooLong" else "hop_limit"
         return f"there is a list, but not within the intent's `{key}`: {last}"
-    if answer.status == Status.DONE:
-        report = [line for line in answer.out.decode().splitlines() if line.startswith("# ")]
-        return "there is a list:\n" + "\n".join(report)
-    if answer.status == Status.REFUSED:
-        raise Fault(f"srv6 compile {net} {intent}: {last} (`{SAY} compile ..` says more)")
-    status = Status(answer.status) if answer.status in list(Status) else Status.OUTSIDE_FAULT
-    ended = f"ends with status {answer.status} (`{SAY} compile ..` says more)"
-    raise Fault(f"srv6 compile {net} {intent} {ended}", status)
+    judge_answer(words, answer)
+    report = [line for line in answer.out.decode().splitlines() if line.startswith("# ")]
+    return "there is a list:\n" + "\n".join(report)

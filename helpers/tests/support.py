@@ -19,6 +19,19 @@ from srv6tools.program import find_program
 HELPERS = Path(__file__).resolve().parents[1]
 EXAMPLES = HELPERS.parent / "examples"
 SECONDS = 60  # at most for one run of a tool
+# A report with a certificate, as `srv6 compile` prints them.
+REPORT = """\
+# container fcbb:bb00:2::
+# containers 1
+# header 40
+# need 4
+srv6 certificate 1
+potential 0 - 0 1 4
+potential 1 fcbb:bb00:2::/48@B 0 1 3
+path new fcbb:bb00:2::/48
+path stay fcbb:bb00:4::/48
+end
+"""
 
 
 @dataclass(frozen=True)

@@ -1,16 +1,20 @@
 """all-paths: every walk over all choices."""
 
+import collections
 import ipaddress
 import json
+import random
 import shutil
 import subprocess
 import unittest
 import unittest.mock
 
 from srv6tools import walks
-from srv6tools.captures import frames_of, head_of, raw_capture
+from srv6tools.captures import frames_of, head_of, raw_capture, sent_in
 from srv6tools.description import read_network
-from srv6tools.program import Answer
+from srv6tools.intent import read_intent
+from srv6tools.packet_parts import ip4, ip6
+from srv6tools.program import Answer, run_program
 from support import EXAMPLES, ToolCase, bad_captures, bad_tomls, needs_program, needs_tool
 from support import run_here
 
@@ -206,6 +210,26 @@ class AllPaths(ToolCase):
         self.survives_closed_pipe("all-paths", M1, "B", given=to_d)
 
     @needs_program
+    def test_each_node_by_its_own_entries(self):
+        """What is asked of a large network node by node is what the whole of it says."""
+        domain = EXAMPLES / "domain"
+        for net, start, capture in (
+            (domain / "net.toml", "pe1", domain / "anycast.pcap"),
+            (domain / "net.toml", "br1", domain / "arriving.pcap"),
+            (domain / "net.toml", domain / "by-firewall.toml", domain / "customers.pcap"),
+            (EXAMPLES / "csids.toml", "N0", EXAMPLES / "csids.pcap"),
+            (EXAMPLES / "behaviours.toml", "N", EXAMPLES / "behaviours.pcap"),
+            (POLICY, INTENT, EXAMPLES / "inner.pcap"),
+        ):
+            with self.subTest(net=net.name, start=str(start)):
+                words = ["all-paths", net, start, "--json"]
+                whole = run_here(*words, given=capture.read_bytes())
+                with unittest.mock.patch.object(walks, "MOST_ENTRIES", 0):
+                    own = run_here(*words, given=capture.read_bytes())
+                self.assertEqual((own.status, own.err), (0, ""))
+                self.assertEqual(own.out, whole.out)
+
+    @needs_program
     def test_policies_with_the_program(self):
         inner = (EXAMPLES / "decap.bin").read_bytes()[40:]
         out = run_here("all-paths", POLICY, INTENT, given=inner).out
@@ -219,6 +243,60 @@ class AllPaths(ToolCase):
         net, intent = self.file("net.toml", text), self.file("intent.toml", at_b)
         out = run_here("all-paths", net, intent, given=inner).out
         self.assertIn("B executes fcbb:bb00:b001::/48, fcbb:bb00:2::/48 over bc1 to 2001", out)
+
+    def walked(self, net, intent) -> set[tuple[str, ...]]:
+        """The links of walks along a list, up to the hand-over, under many choices."""
+        family, links = read_intent(intent).family, list(read_network(net).links)
+        inner = ip6("2001:db8:2::1") if family == 6 else ip4("198.51.100.2")
+        given, chance, found = b"".join(raw_capture([(0, 0, inner)])), random.Random(8), set()
+        for _ in range(40):
+            choices = ",".join(str(chance.randrange(6)) for _ in range(12))
+            out = run_program(["walk", net, intent, choices], given).out
+            sent = [one for one in sent_in(out, "walk") if one.link and len(one.content) > len(inner)]
+            found.add(tuple(links[one.link - 1] for one in sent))
+        return found
+
+    @needs_program
+    def test_count_is_of_the_walks_that_choices_give(self):
+        text = (EXAMPLES / "compressed.toml").read_text()
+        both = self.file("both.toml", INTENT.read_text().replace('["bc1"]', '["bc1", "bc2"]'))
+        domain = EXAMPLES / "domain"
+        ways = {}
+        for net, intent in (
+            (domain / "net.toml", domain / "by-firewall.toml"),
+            (domain / "net.toml", domain / "green.toml"),
+            (domain / "net.toml", domain / "blue.toml"),
+            (M2, EXAMPLES / "by-way-of.toml"),
+            (POLICY, INTENT),
+            (self.file("compressed.toml", text), both),
+        ):
+            with self.subTest(net=net.name, intent=intent.name):
+                walked = self.walked(net, intent)
+                ran = run_here("all-paths", "--count", "--json", net, intent)
+                (found,) = json.loads(ran.out)["intents"]
+                self.assertEqual(found["walks"], len(walked))
+                crossed = collections.Counter(link for way in walked for link in set(way))
+                self.assertEqual({one["link"]: one["walks"] for one in found["links"]}, crossed)
+                ways[intent.name] = found["walks"]
+        self.assertEqual((ways["both.toml"], ways["by-firewall.toml"]), (2, 2))
+
+    @needs_program
+    def test_count_of_many_intents(self):
+        domain = EXAMPLES / "domain"
+        names = [domain / f"{name}.toml" for name in ("by-firewall", "no-list", "green")]
+        ran = run_here("all-paths", "--count", domain / "net.toml", *names)
+        self.named_answer(ran, [3])
+        first, second, third = ran.out.splitlines()
+        common = "pe1-p1, p3-fw1, fw1-p3, p3-p5, p5-pe3"
+        self.assertEqual(first, f"walks 2 {names[0]}: 7 links, of which all walks cross 5: {common}")
+        self.assertTrue(second.startswith(f"walks none {names[1]}: "))
+        self.assertTrue(third.startswith(f"walks 1 {names[2]}: 6 links, of which all walks cross 6"))
+        ran = run_here("all-paths", "--count", domain / "net.toml", names[0])
+        said = f"walks 2\n7 links, of which all walks cross 5: {common}\n"
+        self.assertEqual((ran.status, ran.out, ran.err), (0, said, ""))
+        for words in ([], ["--dot", names[0]], ["--table", names[0]]):
+            self.named_answer(run_here("all-paths", "--count", domain / "net.toml", *words), [2])
+        self.named_answer(run_here("all-paths", domain / "net.toml", *names), [2])
 
     @needs_program
     def test_bad_captures(self):

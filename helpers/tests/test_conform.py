@@ -236,8 +236,8 @@ sys.stdout.buffer.write(b"".join(raw_capture((0, one.link, one.content) for one 
             ('name = "a"\n[rule]\nerror = "never"', "rule error: 'never' is none of 'optional'"),
             ('name = "a"\n[rule]\nencap.hop-limits = "copy"', "no rule is called 'encap.hop-limits'"),
             ('name = "a"\ndeviation = 1', "`deviation` is an array of tables"),
-            ('name = "a"\n[[deviation]]\nnamed = "b"', "deviation 1: no key is called 'named'"),
-            ('name = "a"\n[[deviation]]\nmet = "b"', "deviation 1: it has a `name`"),
+            ('name = "a"\n[[deviation]]\nnamed = "b"', "deviation 1: no key of a deviation is called 'named'"),
+            ('name = "a"\n[[deviation]]\nmet = "b"', "deviation 1: a deviation has a `name`"),
             ('name = "a"\n[[deviation]]\nname = "b"\nmet = 1', "deviation 1: `met` is a text or a list of texts"),
         ):
             with self.subTest(said):

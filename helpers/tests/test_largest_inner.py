@@ -1,5 +1,6 @@
 """largest-inner: the least MTU of the steps' links less the header, and where nothing passes."""
 
+import json
 import unittest
 
 from srv6tools.program import run_program
@@ -7,6 +8,8 @@ from support import EXAMPLES, HELPERS, ToolCase, bad_tomls, needs_program, run_h
 
 M2, POLICY, INTENT = (EXAMPLES / f"{name}.toml" for name in ("m2", "policy", "intent"))
 ROWS = HELPERS.parent / "crates" / "worked_rows" / "data" / "mtu"
+DOMAIN = EXAMPLES / "domain"
+NAMES = ("red", "blue", "no-list", "green", "by-firewall")
 REPORT = "# container ::1\n# container ::2\n# containers 2\n# header 64\n# need 2\n"
 BC1 = 'name = "bc1"'
 # Of the list through the policy, which puts 40 bytes more in front over bc1.
@@ -94,6 +97,41 @@ class LargestInner(ToolCase):
             fake = self.fake_program(out=REPORT.replace("header 64", f"header {header}"))
             ran = run_here("largest-inner", net, INTENT, SRV6=fake)
             self.assertEqual(ran.status, status, ran.err)
+
+    def test_many_intents(self):
+        """A line for each, in the order of the words, also where one has no list."""
+        net = self.file("net.toml", M2.read_text().replace(BC1, f"{BC1}\nmtu = 1500"))
+        other = INTENT.read_text().replace('["bc1"]', '["bc2"]')
+        second = self.file("second.toml", other)
+        none = self.file("none.toml", other.replace('"vpn"', '"none"'))
+        answer = self.file("out", REPORT)
+        fake = self.file("fake", f'#!/bin/sh\ncase $3 in\n*none*) echo no answer NoList >&2; exit 3;;\nesac\ncat {answer}\n')
+        fake.chmod(0o755)
+        words = ["largest-inner", net, INTENT, none, second]
+        ran = run_here(*words, SRV6=str(fake))
+        self.named_answer(ran, [3])
+        self.assertIn("no answer NoList", ran.err)
+        first, nothing, last = ran.out.splitlines()
+        self.assertTrue(first.startswith(f"largest-inner 1436 {INTENT}: the header takes 64 bytes"))
+        self.assertTrue(nothing.startswith(f"largest-inner none {none}: srv6 compile"))
+        self.assertIn("no answer NoList", nothing)
+        self.assertTrue(last.startswith(f"largest-inner 65511 {second}: "))
+        found = json.loads(run_here(*words, "--json", SRV6=str(fake)).out)
+        self.assertEqual([one["largest"] for one in found["intents"]], [1436, None, 65511])
+        self.assertEqual(found["intents"][0]["links"], [{"link": "bc1", "step": 2}])
+        self.assertEqual(run_here(*words[:3], second, SRV6=str(fake)).status, 0)
+        ran = run_here(*words, none, SRV6=str(fake))
+        self.assertEqual((ran.status, ran.err), (3, "largest-inner: 2 of 4 intents have none\n"))
+
+    @needs_program
+    def test_many_intents_are_those_of_each(self):
+        net, intents = DOMAIN / "net.toml", [DOMAIN / f"{name}.toml" for name in NAMES]
+        ran = run_here("largest-inner", net, *intents)
+        self.named_answer(ran, [3])
+        for intent, line in zip(intents, ran.out.splitlines()):
+            alone = run_here("largest-inner", net, intent)
+            said = alone.out.splitlines()[:1] or ["largest-inner none"]
+            self.assertTrue(line.startswith(f"{said[0]} {intent}: "), line)
 
     def test_command(self):
         self.helps("largest-inner")

@@ -11,20 +11,8 @@ from srv6tools.files import parse_toml, read_toml
 from srv6tools.intent import read_intent
 from srv6tools.report import certificate_in, certificate_of, report_of
 from srv6tools.trace import trace_of
-from support import EXAMPLES, ToolCase, bad_captures, bad_tomls
+from support import EXAMPLES, REPORT, ToolCase, bad_captures, bad_tomls
 
-REPORT = """\
-# container fcbb:bb00:2::
-# containers 1
-# header 40
-# need 4
-srv6 certificate 1
-potential 0 - 0 1 4
-potential 1 fcbb:bb00:2::/48@B 0 1 3
-path new fcbb:bb00:2::/48
-path stay fcbb:bb00:4::/48
-end
-"""
 TRACE = """\
 srv6 trace 1
 packet 1 6 B 60

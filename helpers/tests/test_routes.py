@@ -7,7 +7,7 @@ from ipaddress import IPv6Network
 from pathlib import Path
 
 from srv6tools.command import Fault
-from srv6tools.description import Network, read_network
+from srv6tools.description import MOST_MTU, Network, read_network
 from srv6tools.paths import Topology
 from srv6tools.routes import fill
 from srv6tools.toml_writer import compact_text, list_text, quoted
@@ -202,6 +202,49 @@ class Routes(ToolCase):
         self.assertEqual(tomllib.loads(list_text("node", tree["node"])), tree)
         self.assertEqual(quoted("é"), '"é"')
 
+    def test_mtus(self):
+        """A cable's MTU is that of both its links, or of each way; the plan's that of all others."""
+        own = CABLES.replace('nodes = ["a", "b"]', 'nodes = ["a", "b"]\nmtu = 1500')
+        own = own.replace("metric = [21, 19]", "metric = [21, 19]\nmtu = [1400, 9000]")
+        site = '[[site]]\nnode = "c"\nlink = "up"\nprefixes = ["::/0"]\n'
+        _, _, net, _ = self.filled(SQUARE, own + site)
+        mtus = {name: link.mtu for name, link in net.links.items() if link.mtu != MOST_MTU}
+        self.assertEqual(mtus, {"a-b": 1500, "b-a": 1500, "ac": 1400, "ca": 9000})
+        text, _, net, _ = self.filled(SQUARE, "mtu = 1280\n" + own + site)
+        self.assertEqual((net.links["b-c"].mtu, net.links["d-a"].mtu), (1280, 1280))
+        self.assertEqual((net.links["a-b"].mtu, net.links["ca"].mtu), (1500, 9000))
+        self.assertEqual(net.links["up"].mtu, MOST_MTU)
+        self.assertIn('name = "ac"\nfrom = "a"\nto = "c"\nmtu = 1400\n', text)
+        self.assertIn('{name="ac",from="a",to="c",mtu=1400}', self.filled(SQUARE, own, True)[0])
+
+    def test_mtus_of_links_that_are_there(self):
+        there = '[[link]]\nname = "ac"\nfrom = "a"\nto = "c"\nmtu = 2000\n'
+        plan = "mtu = 1300\n" + CABLES.replace("metric = [21, 19]", "mtu = 1400")
+        _, said, net, _ = self.filled(SQUARE + there, plan)
+        self.assertEqual((net.links["ac"].mtu, net.links["ca"].mtu), (2000, 1400))
+        self.assertIn("link ac is there, and keeps its mtu 2000; the plan has 1400\n", said)
+        self.assertEqual(said.count("keeps its mtu"), 1)
+
+    def test_faults_name_the_line(self):
+        """That of the key in the plan or the description, be it a table of lines or between braces."""
+        net = self.file("net", SQUARE)
+        lists = 'cable = [\n    { nodes = ["a", "b"] },\n    { nodes = ["a", "x"] },\n]\n'
+        for text, line in (
+            ("ends = true\nmetric = 0\n", "plan:2: the root: `metric` is 0"),
+            ("# a comment\n\nmtus = 1\n", "plan:3: the root: no key is called 'mtus'"),
+            ('[[cable]]\nnodes = ["a", "b"]\n\nmetric = 0\n', "plan:4: cable 1: `metric`"),
+            ('[[cable]]\nnodes = ["a", "b"]\nmtu = 1279\n', "plan:3: cable 1: `mtu`"),
+            ('[[cable]]\nlinks = ["a", "b"]\n', "plan:1: cable 1: no key `nodes`"),
+            (lists, "plan:3: cable 2: no node is called 'x'"),
+            ('[[link]]\nname = "x"\nmetric = 1\n', "plan:2: link 1: no link is called 'x'"),
+            ('[[locator]]\nnodes = ["x"]\nprefix = "fc00::/32"\n', "plan:2: locator 1: no node"),
+            ("site = 1\n", "plan:1: site: no array of tables"),
+        ):
+            with self.subTest(text=text):
+                self.assertIn(line, self.refused(net, self.file("plan", text), statuses=(1,)))
+        bad = self.file("net", SQUARE.replace('"End.DT46"', '"End.DT64"'))
+        self.assertIn("net:21: sid 2: `behaviour`", self.refused(bad, self.file("plan", CABLES)))
+
     def refused(self, *files: Path, statuses: tuple[int, ...] = (1, 5)) -> str:
         """The line of the fault that files give."""
         with self.assertRaises(Fault) as caught:
@@ -257,6 +300,9 @@ BAD_PLANS = [
     ('[[cable]]\nnodes = ["a", "b"]\nmetric = 0\n', "cable 1: `metric`"),
     ('[[cable]]\nnodes = ["a", "b"]\nmetric = [1, 2, 3]\n', "cable 1: `metric`"),
     ('[[cable]]\nnodes = ["a", "b"]\nmetric = true\n', "cable 1: `metric`"),
+    ('[[cable]]\nnodes = ["a", "b"]\nmtu = 1279\n', "cable 1: `mtu` is no number from 1280"),
+    ('[[cable]]\nnodes = ["a", "b"]\nmtu = [1500]\n', "cable 1: `mtu`"),
+    ('[[cable]]\nnodes = ["a", "b"]\nmtu = "1500"\n', "cable 1: `mtu`"),
     ('[[cable]]\nnodes = ["a", "b"]\nlinks = ["x"]\n', "cable 1: `links`"),
     ('[[cable]]\nnodes = ["a", "b"]\nlinks = ["x", "y"]\n[[cable]]\nnodes = ["a", "c"]\n'
      'links = ["x", "z"]\n', "cable 2: there is a link 'x' already"),
@@ -270,6 +316,7 @@ BAD_PLANS = [
     ('[[site]]\nnode = "a"\nlink = "l"\nprefixes = ["::"]\n', "site 1: `prefixes` is no prefix"),
     ('[[site]]\nnode = "a"\nlink = "l"\ntable = 65536\nprefixes = ["::/0"]\n', "site 1: `table`"),
     ("metric = 0\n", "the root: `metric`"),
+    ("mtu = 65576\n", "the root: `mtu` is 65576, and goes from 1280 to 65575"),
     ("ends = 1\n", "the root: `ends` is no true or false"),
     ("metrics = 1\n", "the root: no key is called 'metrics'"),
 ]  # fmt: skip

@@ -7,6 +7,7 @@ import os
 import re
 import subprocess
 import unittest
+import unittest.mock
 from ipaddress import IPv6Address
 
 from srv6tools.captures import sent_in
@@ -173,6 +174,24 @@ class View(ToolCase):
                 for link in links:
                     by_way[link] = by_way.get(link, 0) + 1
             self.assertEqual(by_way, {link: int(times) for link, times in fan["links"]})
+
+    def test_fans_are_counted_as_far_as_the_program_may_be_asked(self):
+        """Of packets whose walks aren't all found then nothing is counted, and it is said."""
+        words = [DOMAIN / "net.toml", DOMAIN / "arriving.pcap", "--at", "br1"]
+        whole = data_of(self.page(*words))
+        with (
+            unittest.mock.patch("srv6tools.page_groups.LEAST_CALLS", 1),
+            unittest.mock.patch("srv6tools.page_groups.ENTRIES", 0),
+        ):
+            cut = data_of(self.page(*words))
+        uncounted = cut["groups"][0]["uncounted"]
+        fans = [walk["fan"] for walk in cut["walks"]]
+        self.assertEqual((whole["groups"][0]["uncounted"], fans.count(-1)), (0, uncounted))
+        self.assertTrue(0 < uncounted < len(fans), uncounted)
+        for one, other in zip(cut["walks"], whole["walks"]):
+            if one["fan"] >= 0:
+                fan, wanted = cut["fans"][one["fan"]], whole["fans"][other["fan"]]
+                self.assertEqual((fan["walks"], fan["links"]), (wanted["walks"], wanted["links"]))
 
     def test_lists(self):
         for net, intent in (

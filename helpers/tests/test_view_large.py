@@ -1,12 +1,14 @@
 """The page of view over 250 nodes and 1,000 packets: its size, how fast it opens and how fast it answers."""
 
+import itertools
+import math
 import unittest
 import unittest.mock
 from pathlib import Path
 
 from browser import needs_browser
 from page_case import PROGRESS, PageCase
-from srv6tools.captures import raw_capture
+from srv6tools.captures import frames_of, head_of, raw_capture
 from srv6tools.packet_parts import ip6
 from srv6tools.routes import fill
 from support import needs_program, run_tool
@@ -14,7 +16,13 @@ from support import needs_program, run_tool
 BYTES = 10 * 2**20  # of the largest page
 LOADED, REACTS = 2_000, 100  # milliseconds of the page's thread, at most: what other work there is doesn't count
 NODES, PACKETS, WIDE = 250, 1_000, 25
+FANNED = 12  # packets whose walks over all choices are counted
+SEEN = "; document.body.getBoundingClientRect()"
+# What is done, behind what else is done first where it isn't nothing.
 ACTIONS = {
+    "dark or light": "turnTheme()",
+    "the network": ("showView('packets')", "showView('network')"),
+    "the packets": ("showView('network')", "showView('packets')"),
     "a step": "step(1)",
     "the next packet": "nextPacket(1)",
     "closer": "zoom(0.9); clearTimeout(MAP.later)",
@@ -26,6 +34,22 @@ ACTIONS = {
     "packets of one end": "document.querySelector('.end-only').click()",
     "all stages": "document.getElementById('stages').open = !document.getElementById('stages').open",
 }
+
+
+def nodes_of(number: int) -> tuple[int, int]:
+    """The two nodes of the grid whose SIDs a packet's container has."""
+    return (number * 37) % 249 + 1, (number * 91 + 5) % 249 + 1
+
+
+def ways_over_grid(number: int) -> int:
+    """The shortest ways of a packet from the grid's corner to the one node and on to the other."""
+    stands = (0, *nodes_of(number))
+    ways = 1
+    for start, end in itertools.pairwise(stands):
+        (row, column), (to_row, to_column) = divmod(start, WIDE), divmod(end, WIDE)
+        down = abs(to_row - row)
+        ways *= math.comb(down + abs(to_column - column), down)
+    return ways
 
 
 @needs_program
@@ -42,8 +66,36 @@ class Large(PageCase):
         self.assertEqual(len(self.browser.texts(".node")), NODES)
         self.assertEqual(len(self.browser.texts(".rows li")), PACKETS)
         for name, script in ACTIONS.items():
-            took = min(self.browser.busy(script) for _ in range(5))
+            before, action = ("", script) if isinstance(script, str) else script
+            took = min(self.busy(before, action) for _ in range(5))
             self.assertLessEqual(took, REACTS, name)
+        self.is_quiet()
+
+    def busy(self, before: str, action: str) -> float:
+        """How long an action takes, behind another that isn't counted."""
+        if before:
+            self.browser.run(before + SEEN)
+            self.browser.settle()
+        return self.browser.busy(action)
+
+    def test_fans_over_250_nodes(self):
+        """The walks of packets over all choices, of which there are more than can be gone through."""
+        net, capture = self.large()
+        given = capture.read_bytes()
+        frames = list(frames_of(given, head_of(given, "large"), "large"))[:FANNED]
+        some = self.file("some.pcap", b"".join(raw_capture((0, 0, one.content) for one in frames)))
+        with unittest.mock.patch("support.SECONDS", 900):
+            ran = run_tool("view", net, some, "--at", "n0")
+        self.assertEqual((ran.status, ran.err.replace(PROGRESS, "")), (0, ""))
+        self.browser.open(self.file("fans.html", ran.raw))
+        self.assertEqual(self.browser.texts(".uncounted"), [])
+        walks = self.browser.run("return DATA.groups[0].walks.map((one) => DATA.fans[DATA.walks[one].fan])")
+        self.assertEqual([int(fan["walks"]) for fan in walks], [ways_over_grid(n) for n in range(FANNED)])
+        for fan in walks:
+            self.assertEqual(sum(int(times) for _, times in fan["ends"]), int(fan["walks"]))
+        self.browser.press("down", "f")
+        self.assertEqual(self.browser.text("#fan"), f"All walks: {ways_over_grid(1)}")
+        self.assertEqual(len(self.browser.texts(".fan")), len(walks[1]["links"]))
         self.is_quiet()
 
     def large(self) -> tuple[Path, Path]:
@@ -65,7 +117,7 @@ class Large(PageCase):
         net = self.file("net.toml", fill(self.file("base.toml", base), plan, compact=True).text)
         frames = []
         for number in range(PACKETS):
-            one, other = (number * 37) % 249 + 1, (number * 91 + 5) % 249 + 1
+            one, other = nodes_of(number)
             target = f"fcbb:bb00:{one + 1:x}:{other + 1:x}::"
             frames.append((0, 0, ip6(target, source=f"2001:db8:1::{number + 1:x}")))
         return net, self.file("large.pcap", b"".join(raw_capture(frames)))

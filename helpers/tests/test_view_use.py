@@ -61,6 +61,7 @@ class Use(PageCase):
     def test_all_stages_in_words(self):
         page = self.opened(*ARRIVING)
         page.click("#stagessaid")
+        page.settle()
         lines = page.texts("#stages li")
         self.assertEqual(len(lines), 14)
         for number, line in enumerate(lines):

@@ -38,6 +38,21 @@ function button(label, on, attributes) {
   return make("button", { type: "button", on, ...attributes }, ...[label].flat());
 }
 
+// The list of a view, which is shown in place of the other views' and made once by a function. What isn't shown keeps its layout, so that it
+// is there at once when it is shown again.
+function pane(name, makeParts) {
+  const side = byId("side");
+  let own = byId(`pane-${name}`);
+  if (!own) {
+    own = make("div", { class: "pane", id: `pane-${name}` });
+    own.append(...makeParts());
+    side.append(own);
+  }
+  for (const one of side.children) {
+    one.classList.toggle("shown", one === own);
+  }
+}
+
 // A text whose parts between backticks are words of files.
 function withCode(text) {
   return text.split("`").map((part, place) => (place % 2 ? make("code", {}, part) : part));

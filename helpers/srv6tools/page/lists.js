@@ -1,9 +1,13 @@
 // Lists of intents: containers with the bits of each SID, who executes them, and the verdict.
 
 function showLists() {
-  const side = byId("side");
-  side.replaceChildren(make("h2", {}, count(DATA.lists.length, "list")));
-  const shown = new Set(KIND.lists || DATA.lists.slice(0, 2).map((_, number) => number));
+  pane("lists", listPicks);
+  drawLists();
+}
+
+// The lists by name, each with a box to tick.
+function listPicks() {
+  const shown = new Set(DATA.lists.slice(0, 2).map((_, number) => number));
   KIND.lists = shown;
   const rows = make("ul", { class: "rows short" });
   DATA.lists.forEach((list, number) => {
@@ -21,8 +25,7 @@ function showLists() {
       ? `${count(list.containers.length, "container")}, need ${list.need}` : "no list";
     rows.append(make("li", {}, make("label", {}, box, ` ${list.label}: ${size}`)));
   });
-  side.append(rows, make("p", { class: "soft" }, "Those that are ticked stand side by side."));
-  drawLists();
+  return [make("h2", {}, count(DATA.lists.length, "list")), rows, make("p", { class: "soft" }, "Those that are ticked stand side by side.")];
 }
 
 function drawLists() {
@@ -45,7 +48,7 @@ function markList(list) {
   }
   for (const sid of list.sids) {
     if (sid.node >= 0) {
-      MAP.nodes[sid.node].classList.add("on");
+      mark(MAP.nodes[sid.node], "on");
     }
   }
   byId("legend").textContent = `${list.label}: nodes with a thick frame execute SIDs of the list; numbers are sends`;
@@ -115,7 +118,7 @@ function pickSid(list, number) {
     drawWalk(DATA.walks[list.walk], list.sids[number].stage);
   }
   if (list.sids[number].node >= 0) {
-    MAP.nodes[list.sids[number].node].classList.add("on");
+    mark(MAP.nodes[list.sids[number].node], "on");
   }
   byId("legend").textContent = `SID ${number + 1} of ${list.label}: ${list.sids[number].prefix} at ${list.sids[number].name}`;
   announce(byId("legend").textContent);

@@ -26,7 +26,12 @@ function showView(name) {
 }
 
 function showNetwork() {
-  const side = byId("side");
+  byId("detail").replaceChildren(make("p", { class: "soft", id: "hint" }, "A click on a node or a link of the map, or in the list, tells of it here."));
+  pane("network", networkList);
+}
+
+// What stands beside the map of the network; it is made once.
+function networkList() {
   const counts = Object.entries(NET.counts).filter(([, number]) => number).map(([what, number]) => `${number} ${what === "sids" ? "SIDs" : what}`);
   const nodes = make("ul", { class: "rows short" }, ...NET.nodes.map((node, number) => make("li", {},
     make("button", { type: "button", on: () => showNode(number), id: `row${number}` }, make("b", {}, node.name),
@@ -38,11 +43,10 @@ function showNetwork() {
         make("button", { type: "button", on: () => showLink(number) }, linkWords(link).replace("link ", ""))))));
     }
   });
-  side.replaceChildren(make("h2", {}, NET.path), make("p", {}, `${counts.join(", ")}.`),
+  return [make("h2", {}, NET.path), make("p", {}, `${counts.join(", ")}.`),
     NET.placed ? make("p", { class: "soft" }, `${NET.placed} positions are the file's own.`) : "",
     ...NET.blocks.map((one) => make("p", { class: "mono soft" }, `block ${one}`)),
-    make("h3", {}, "Nodes"), nodes, links);
-  byId("detail").replaceChildren();
+    make("h3", {}, "Nodes"), nodes, links];
 }
 
 function leaveForNetwork() {
@@ -58,7 +62,7 @@ function showNode(number) {
   if (KIND.view === "network") {
     clearMap();
   }
-  MAP.nodes[number].classList.add("on");
+  mark(MAP.nodes[number], "on");
   const sids = node.sids.map((place) => {
     const sid = NET.sids[place];
     return make("tr", {}, make("td", { class: "mono" }, sid.prefix), make("td", {}, sid.what), make("td", { class: "soft" }, sid.rfc));

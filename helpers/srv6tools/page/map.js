@@ -1,7 +1,8 @@
 // The map: nodes and links, panning and zooming, and what is drawn over them.
 
-const MAP = { svg: byId("map"), links: [], nodes: [], whole: null, box: null, over: null, size: 1 };
+const MAP = { svg: byId("map"), links: [], nodes: [], whole: null, box: null, over: null, size: 1, marked: [], hovered: -1 };
 const HALF = 11; // of a node's height, before it is made larger
+const REACH = 7; // pixels round a link in which the pointer is at it
 
 function halfWidth(name) {
   return Math.max(15, name.length * 3.9 + 7);
@@ -50,7 +51,8 @@ function linkLabel(link) {
 
 function drawMap() {
   const turns = new Map();
-  const links = draw("g", {});
+  const links = draw("g", { class: "links" }); // one path each, which has its look from here: a large map has a thousand
+  const ends = draw("g", { class: "ends" });
   const nodes = draw("g", {});
   const labels = draw("g", { class: "labels", "aria-hidden": "true" });
   NET.links.forEach((link, number) => {
@@ -58,16 +60,12 @@ function drawMap() {
     const turn = turns.get(key) || 0;
     turns.set(key, turn + 1);
     const shape = shapeOf(link, turn);
-    const group = draw("g", { class: "link", id: `link${number}`, "data-link": number },
-      draw("path", { class: "wide", d: shape.d }),
-      draw("path", { class: "thin", d: shape.d }),
-      link.to < 0 ? draw("circle", { class: "end", cx: link.end[0], cy: link.end[1], r: 3.5 }) : null,
-      draw("title", {}, linkWords(link)));
-    group.addEventListener("click", () => showLink(number));
-    const label = draw("text", { dy: ".35em" }, linkLabel(link));
-    labels.append(label);
-    MAP.links.push({ group, shape, turn, label });
-    links.append(group);
+    const path = draw("path", { class: "link", id: `link${number}`, "data-link": number, d: shape.d }, draw("title", {}, linkWords(link)));
+    if (link.to < 0) {
+      ends.append(draw("circle", { cx: link.end[0], cy: link.end[1], r: 3.5 }));
+    }
+    MAP.links.push({ path, shape, turn, label: null });
+    links.append(path);
   });
   NET.nodes.forEach((node, number) => {
     const wide = halfWidth(node.name);
@@ -94,7 +92,7 @@ function drawMap() {
   MAP.labels = labels;
   const tips = [["tip", "--link", 8], ["walktip", "--walk", 12], ["nowtip", "--now", 15], ["fantip", "--walk", 17]];
   MAP.tips = tips.map(([name, colour, size]) => [tip(name, colour), size]);
-  MAP.svg.append(draw("defs", {}, ...MAP.tips.map(([one]) => one)), links, MAP.over, labels, nodes);
+  MAP.svg.append(draw("defs", {}, ...MAP.tips.map(([one]) => one)), links, ends, MAP.over, labels, nodes);
   MAP.whole = wholeBox();
   setBox(MAP.whole);
 }
@@ -113,7 +111,7 @@ function resize(size) {
   NET.links.forEach((link, number) => {
     const one = MAP.links[number];
     one.shape = shapeOf(link, one.turn);
-    place(one.group, one.shape);
+    one.path.setAttribute("d", one.shape.d);
   });
   for (const group of MAP.over.querySelectorAll("[data-link]")) {
     place(group, MAP.links[Number(group.dataset.link)].shape);
@@ -163,18 +161,26 @@ function placeLabels(scale) {
   for (const mark of MAP.over.querySelectorAll(".mark text")) {
     take([Number(mark.getAttribute("x")), Number(mark.getAttribute("y")), 45 / scale, 8 / scale]);
   }
-  for (const { label, shape } of MAP.links) {
-    const wide = (label.textContent.length * 2.8 + 2) / scale;
+  NET.links.forEach((link, number) => {
+    const { shape } = MAP.links[number];
+    const text = linkLabel(link);
+    const wide = (text.length * 2.8 + 2) / scale;
     const [[ax, ay], [bx, by]] = [shape.at(0), shape.at(1)];
     const hidden = Math.min(2 * wide / (Math.abs(bx - ax) || 1e-9), 12 / scale / (Math.abs(by - ay) || 1e-9)); // of the line
     const spot = hidden < 0.7 && isSeen([ax, ay], [bx, by]) && LABEL_AT.map((share) => [...shape.at(share), wide, 6 / scale]).find(isFree);
-    label.style.display = spot ? "" : "none";
+    const one = MAP.links[number];
     if (spot) {
       take(spot);
-      label.setAttribute("x", spot[0]);
-      label.setAttribute("y", spot[1]);
+      one.label = one.label || draw("text", { dy: ".35em" }, text);
+      one.label.setAttribute("x", spot[0]);
+      one.label.setAttribute("y", spot[1]);
+      if (!one.label.parentNode) {
+        MAP.labels.append(one.label);
+      }
+    } else if (one.label) {
+      one.label.remove();
     }
-  }
+  });
 }
 
 // The box around all, with some room.
@@ -271,17 +277,32 @@ function centre(number) {
 
 function listenToMap() {
   let from = null;
+  let moved = 0; // pixels since the pointer was pressed
   MAP.svg.addEventListener("wheel", (event) => {
     event.preventDefault();
     zoom(event.deltaY < 0 ? 0.85 : 1 / 0.85, event);
   }, { passive: false });
   MAP.svg.addEventListener("pointerdown", (event) => {
     from = [event.clientX, event.clientY];
+    moved = 0;
   });
+  MAP.svg.addEventListener("click", (event) => {
+    const link = moved > 4 || event.target.closest(".node") ? -1 : linkAt(event);
+    if (link >= 0) {
+      showLink(link);
+    }
+  });
+  MAP.svg.addEventListener("pointermove", (event) => {
+    if (!from) {
+      hoverLink(event.target.closest(".node") ? -1 : linkAt(event));
+    }
+  });
+  MAP.svg.addEventListener("pointerleave", () => hoverLink(-1));
   window.addEventListener("pointermove", (event) => {
     if (!from) {
       return;
     }
+    moved += Math.hypot(event.clientX - from[0], event.clientY - from[1]);
     const place = MAP.svg.getBoundingClientRect();
     const scale = Math.min(place.width / MAP.box[2], place.height / MAP.box[3]) || 1;
     pan((from[0] - event.clientX) / scale, (from[1] - event.clientY) / scale);
@@ -294,22 +315,63 @@ function listenToMap() {
   byId("whole").addEventListener("click", () => setBox(MAP.whole));
 }
 
+// The link at the pointer, or -1: the nearest one within its reach.
+function linkAt(event) {
+  const place = MAP.svg.getBoundingClientRect();
+  const scale = Math.min(place.width / MAP.box[2], place.height / MAP.box[3]) || 1;
+  const x = MAP.box[0] + MAP.box[2] / 2 + (event.clientX - place.left - place.width / 2) / scale;
+  const y = MAP.box[1] + MAP.box[3] / 2 + (event.clientY - place.top - place.height / 2) / scale;
+  let [best, least] = [-1, REACH / scale];
+  MAP.links.forEach(({ shape }, number) => {
+    let [ax, ay] = shape.at(0);
+    for (let part = 1; part <= 8; part += 1) { // a curve is near enough to eight lines
+      const [bx, by] = shape.at(part / 8);
+      const [dx, dy] = [bx - ax, by - ay];
+      const share = Math.max(0, Math.min(1, ((x - ax) * dx + (y - ay) * dy) / (dx * dx + dy * dy || 1)));
+      const far = Math.hypot(ax + share * dx - x, ay + share * dy - y);
+      if (far < least) {
+        [best, least] = [number, far];
+      }
+      [ax, ay] = [bx, by];
+    }
+  });
+  return best;
+}
+
+// Marks the link at the pointer.
+function hoverLink(number) {
+  if (number !== MAP.hovered) {
+    if (MAP.hovered >= 0) {
+      MAP.links[MAP.hovered].path.classList.remove("hovered");
+    }
+    if (number >= 0) {
+      MAP.links[number].path.classList.add("hovered");
+    }
+    MAP.hovered = number;
+    MAP.svg.style.cursor = number >= 0 ? "pointer" : "";
+  }
+}
+
+// Marks a node or a link, until the map is cleared.
+function mark(element, how) {
+  element.classList.add(how);
+  MAP.marked.push([element, how]);
+}
+
 // Takes away what is drawn over the map.
 function clearMap() {
   MAP.over.replaceChildren();
-  for (const node of MAP.nodes) {
-    node.classList.remove("on", "met");
+  for (const [element, how] of MAP.marked) {
+    element.classList.remove(how);
   }
-  for (const link of MAP.links) {
-    link.group.classList.remove("on", "broken");
-  }
+  MAP.marked = [];
   byId("legend").textContent = "";
 }
 
 function markLinks(numbers, how) {
   for (const number of numbers) {
-    const { group, shape } = MAP.links[number];
-    group.classList.add(how);
+    const { path, shape } = MAP.links[number];
+    mark(path, how);
     if (how === "broken") {
       MAP.over.append(draw("g", { class: "cross", "data-link": number },
         draw("text", { x: shape.stepX, y: shape.stepY, dy: ".35em" }, "\u2715")));
@@ -324,7 +386,7 @@ function drawWalk(walk, now) {
   let turn = 0;
   walk.stages.forEach((row, number) => {
     if (row[0] >= 0) {
-      MAP.nodes[row[0]].classList.add("met");
+      mark(MAP.nodes[row[0]], "met");
     }
     if (row[5] >= 0) {
       turn += 1;
@@ -345,7 +407,7 @@ function drawWalk(walk, now) {
   }
   const stage = walk.stages[now];
   if (stage) {
-    MAP.nodes[stage[0]].classList.add("on");
+    mark(MAP.nodes[stage[0]], "on");
     if (words(stage[1]) === "drop" || words(stage[1]) === "local") {
       const [x, y] = freePlace(stage[0]);
       MAP.over.append(draw("g", { class: "mark" }, draw("text", { x, y, dy: ".35em" },
@@ -388,9 +450,9 @@ function drawFan(fan) {
     MAP.over.append(draw("g", { class: "fan", "data-link": link },
       draw("path", { d: shape.d, style: `stroke-width:calc(${wide.toFixed(1)} * var(--u))`, "marker-end": "url(#fantip)" }),
       draw("text", { x: shape.stepX, y: shape.stepY, dy: ".35em" }, share)));
-    MAP.nodes[NET.links[link].from].classList.add("met");
+    mark(MAP.nodes[NET.links[link].from], "met");
     if (NET.links[link].to >= 0) {
-      MAP.nodes[NET.links[link].to].classList.add("met");
+      mark(MAP.nodes[NET.links[link].to], "met");
     }
   }
   dressOver();

@@ -5,47 +5,50 @@ const LISTED = DATA.groups.flatMap((group) => group.walks);
 const MOST_ENDS = 12; // that are summed up by themselves
 
 function showPackets() {
-  const side = make("div", {});
-  KIND.packetList = KIND.packetList || side;
-  byId("side").replaceChildren(KIND.packetList);
-  for (const group of KIND.packetList === side ? DATA.groups : []) {
-    side.append(make("h2", {}, `${count(group.walks.length, "packet")}: ${group.label}`));
-    const ends = new Map();
-    for (const number of group.walks) {
-      const end = words(DATA.walks[number].end);
-      ends.set(end, (ends.get(end) || 0) + 1);
-    }
-    const rows = make("ol", { class: "rows", "aria-label": group.label });
-    side.append(make("h3", {}, "How they end"), endsTable(ends, rows));
-    if (group.left_out) {
-      side.append(make("p", { class: "warn" }, `${count(group.left_out, "packet")} more aren't shown.`));
-    }
-    if (group.fans_cut) {
-      side.append(make("p", { class: "warn" }, "The walks over all choices aren't counted: there are too many."));
-    }
-    side.append(make("h3", {}, "One by one"));
-    for (const number of group.walks) {
-      const walk = DATA.walks[number];
-      const end = words(walk.end);
-      rows.append(make("li", { "data-end": end }, make("button", { type: "button", id: `walk${number}`, "data-walk": number },
-        make("span", { class: "number soft" }, String(walk.number)),
-        make("span", { class: endClass(end) }, endSign(end)), make("span", {}, end))));
-    }
-    rows.addEventListener("click", (event) => {
-      const row = event.target.closest("button");
-      if (row) {
-        showWalk(Number(row.dataset.walk), 0);
-      }
-    });
-    side.append(rows);
-    if (group.unread.length) {
-      side.append(make("h3", {}, "Not read"), make("ul", { class: "unread" }, ...group.unread.map(([number, cause]) =>
-        make("li", {}, `packet ${number}: ${cause}`))));
-    }
-  }
+  pane("packets", () => DATA.groups.map(groupList));
   if (LISTED.length) {
     showWalk(LISTED.includes(KIND.walk) ? KIND.walk : LISTED[0], KIND.stage);
   }
+}
+
+// The packets of a group, with their ends.
+function groupList(group) {
+  const side = make("div", {});
+  side.append(make("h2", {}, `${count(group.walks.length, "packet")}: ${group.label}`));
+  const ends = new Map();
+  for (const number of group.walks) {
+    const end = words(DATA.walks[number].end);
+    ends.set(end, (ends.get(end) || 0) + 1);
+  }
+  const rows = make("ol", { class: "rows", "aria-label": group.label });
+  side.append(make("h3", {}, "How they end"), endsTable(ends, rows));
+  if (group.left_out) {
+    side.append(make("p", { class: "warn" }, `${count(group.left_out, "packet")} more aren't shown.`));
+  }
+  if (group.uncounted) {
+    const which = count(group.uncounted, "packet");
+    side.append(make("p", { class: "warn uncounted" }, `Of ${which} the walks over all choices aren't counted: it would take too long.`));
+  }
+  side.append(make("h3", {}, "One by one"));
+  for (const number of group.walks) {
+    const walk = DATA.walks[number];
+    const end = words(walk.end);
+    rows.append(make("li", { "data-end": end }, make("button", { type: "button", id: `walk${number}`, "data-walk": number },
+      make("span", { class: "number soft" }, String(walk.number)),
+      make("span", { class: endClass(end) }, endSign(end)), make("span", {}, end))));
+  }
+  rows.addEventListener("click", (event) => {
+    const row = event.target.closest("button");
+    if (row) {
+      showWalk(Number(row.dataset.walk), 0);
+    }
+  });
+  side.append(rows);
+  if (group.unread.length) {
+    side.append(make("h3", {}, "Not read"), make("ul", { class: "unread" }, ...group.unread.map(([number, cause]) =>
+      make("li", {}, `packet ${number}: ${cause}`))));
+  }
+  return side;
 }
 
 // How many packets have each end; a click shows those alone, another one all of them.

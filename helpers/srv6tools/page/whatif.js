@@ -3,29 +3,30 @@
 const SIGNS = { kept: "=", other: "\u2260", none: "\u2715", refused: "!" };
 
 function showTables() {
-  const side = byId("side");
-  side.replaceChildren();
+  pane("whatif", () => DATA.tables.flatMap(tableSums));
   const detail = make("div", { class: "split" });
   const box = make("div", { class: "heatbox" });
   byId("detail").replaceChildren(detail);
-  DATA.tables.forEach((table, place) => {
-    const counts = {};
-    for (const row of table.failures) {
-      for (const cell of row.cells) {
-        counts[cell.state] = (counts[cell.state] || 0) + 1;
-      }
-    }
-    side.append(make("h2", {}, `${count(table.failures.length, "failure")}, ${count(table.intents.length, "intent")}`),
-      make("table", { class: "heat" }, ...Object.entries(table.states).map(([state, what]) => make("tr", {},
-        make("td", {}, make("button", { type: "button", class: state, tabindex: "-1", disabled: true }, `${SIGNS[state]} ${counts[state] || 0}`)),
-        make("td", { class: "what" }, what)))),
-      make("p", { class: "soft" }, "In a cell: the sign, the containers and the need of the list that is the least one then, and what becomes of a packet that still has the list from before (\u00d7 where it is lost): at first, while routes are the old ones and only next hops are left out that are gone, and later, once routes are found anew."));
-    box.append(heatTable(table, place));
-  });
+  DATA.tables.forEach((table, place) => box.append(heatTable(table, place)));
   const said = make("p", { id: "cellsaid", class: "soft" }, "A click on a cell shows its walk here.");
   detail.append(box, make("div", {}, said, make("div", { id: "walker" })));
   clearMap();
   byId("legend").textContent = "A click on a cell shows the failure and the walk there";
+}
+
+// What the signs of a table mean, and how many cells have each.
+function tableSums(table) {
+  const counts = {};
+  for (const row of table.failures) {
+    for (const cell of row.cells) {
+      counts[cell.state] = (counts[cell.state] || 0) + 1;
+    }
+  }
+  return [make("h2", {}, `${count(table.failures.length, "failure")}, ${count(table.intents.length, "intent")}`),
+    make("table", { class: "heat" }, ...Object.entries(table.states).map(([state, what]) => make("tr", {},
+      make("td", {}, make("button", { type: "button", class: state, tabindex: "-1", disabled: true }, `${SIGNS[state]} ${counts[state] || 0}`)),
+      make("td", { class: "what" }, what)))),
+    make("p", { class: "soft" }, "In a cell: the sign, the containers and the need of the list that is the least one then, and what becomes of a packet that still has the list from before (\u00d7 where it is lost): at first, while routes are the old ones and only next hops are left out that are gone, and later, once routes are found anew.")];
 }
 
 function heatTable(table, place) {
