@@ -1,6 +1,7 @@
 //! Intents compiled, and certificates judged, over the legs that they and their networks ask for.
 
-ghost use Rattle.std.specs.Prelude.{◌≡◌, []};
+ghost use Rattle.std.specs.Prelude.{◌≡◌, [], Ok};
+ghost use Rattle.net_flatness.specs.Flat.{flatness_of};
 ghost use Rattle.intent_reader.specs.IntentRulesTerms.{IsIntent};
 ghost use Rattle.list_certificate.specs.CertsTerms.{IsCert};
 ghost use Rattle.list_certificate.specs.Verdicts.{IsVerdict};
@@ -12,7 +13,7 @@ use crate::intent_legs::IntentLegs;
 use base::NoMemory;
 use intent_reader::Intent;
 use list_certificate::{Cert, Verdict};
-use net_flatness::compilable;
+use net_flatness::{compilable, flat_networks_are_refused_for_nothing};
 use net_model::Net;
 use path_compiler::{CompileFault, Compiled, checked_over, compile_over};
 use std::alloc::Global;
@@ -34,11 +35,23 @@ pub fn compile(alloc: Global, net: &Net, intent: &Intent) -> Result<Compiled, Co
     ensures answer { IntentAnswers net.now intent.now result }
     ensures handing { NoneLessFor net.now intent.now result }
 {
-    net.keeps_rules();
     match compilable(alloc, net) {
-        Err(why) => return Err(CompileFault::NotFlat(why)),
-        Ok(()) => {}
+        Err(why) => Err(CompileFault::NotFlat(why)),
+        Ok(()) => compile_flat(alloc, net, intent),
     }
+}
+
+/// Compiles an intent as `compile` does, in a network that is known to be flat, since `compilable`
+/// said so once: a network that is asked many times isn't tested anew. `NotFlat` never comes.
+pub fn compile_flat(alloc: Global, net: &Net, intent: &Intent) -> Result<Compiled, CompileFault>
+    requires whole { net.now.hidden ≡ [] }
+    requires flat { flatness_of net.now ≡ Ok tt }
+    requires intent { IsIntent net.now intent.now }
+    ensures answer { IntentAnswers net.now intent.now result }
+    ensures handing { NoneLessFor net.now intent.now result }
+{
+    net.keeps_rules();
+    flat_networks_are_refused_for_nothing();
     match IntentLegs::build(alloc, net, intent) {
         Ok(legs) => compile_over(alloc, net, intent, &legs),
         Err(NoMemory) => Err(CompileFault::NoMemory),

@@ -14,5 +14,5 @@ mod intent_compiling;
 mod intent_legs;
 pub mod laws;
 
-pub use intent_compiling::{check, compile};
+pub use intent_compiling::{check, compile, compile_flat};
 pub use intent_legs::IntentLegs;
