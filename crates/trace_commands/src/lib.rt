@@ -5,5 +5,8 @@
 #![tactic(auto)]
 
 pub mod laws;
+mod packet_trace;
 pub mod replay_command;
 pub mod trace_command;
+
+pub use packet_trace::write_packet_trace;

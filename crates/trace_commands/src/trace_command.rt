@@ -69,7 +69,7 @@ pub fn trace_of_words(alloc: Global, words: &[String]) -> Result<Option<TraceWor
 
 /// Writes the first line.
 #[tactic(auto, using(command_output::proofs::PublicLaws::going))]
-fn put_head<O: Sink, E: Sink>(
+pub(crate) fn put_head<O: Sink, E: Sink>(
     alloc: Global,
     pool: &mut Pool,
     out: &mut O,
@@ -122,10 +122,10 @@ fn put_stopped<O: Sink, E: Sink>(
 /// What is written of a frame by the walk of its packet: the network, the node that packets enter
 /// at, and the choices of each walk.
 #[derive(Drop)]
-struct WalkTeller<'a> {
-    net: &'a Net,
-    node: u32,
-    choices: &'a [u32],
+pub(crate) struct WalkTeller<'a> {
+    pub(crate) net: &'a Net,
+    pub(crate) node: u32,
+    pub(crate) choices: &'a [u32],
 }
 
 /// Walks a packet from a place and writes a line for each stage, as it goes. Decision d takes the
@@ -169,15 +169,15 @@ fn put_stages<O: Sink, E: Sink>(
 
 /// A packet that is traced: its number, and what enters of it as a packet of a family.
 #[derive(Drop)]
-struct Entering {
-    number: u32,
-    family: Family,
-    content: Content,
+pub(crate) struct Entering {
+    pub(crate) number: u32,
+    pub(crate) family: Family,
+    pub(crate) content: Content,
 }
 
 /// Writes the lines of a packet: its bytes as it enters at the node, and its walk from there.
 #[tactic(auto, using(crate::proofs::TraceSteps::lines))]
-fn put_packet<O: Sink, E: Sink>(
+pub(crate) fn put_packet<O: Sink, E: Sink>(
     alloc: Global,
     teller: &WalkTeller<'_>,
     packet: Entering,
@@ -242,7 +242,7 @@ impl Puts for WalkTeller<'_> {
 
 /// Writes the last line.
 #[tactic(auto, using(command_output::proofs::PublicLaws::going))]
-fn put_end<O: Sink, E: Sink>(
+pub(crate) fn put_end<O: Sink, E: Sink>(
     alloc: Global,
     pool: &mut Pool,
     out: &mut O,
