@@ -15,7 +15,7 @@ ghost use Rattle.end_behaviours.specs.SrhStepping.{Reaches};
 use crate::end_headers::{Decision, Found};
 use crate::header_finding::{decide, find};
 use crate::last_headers::{LastHeader, LastHeaders};
-use crate::writing::{shift_on, step_over, take_out_all};
+use crate::writing::{shift_on, step_over, take_out_all, take_out_of};
 use endpoint_chain::EndOutcome;
 use ip6_headers::{ChainPlace, Ip6View};
 use pkt_buf::PktBuf;
@@ -49,8 +49,11 @@ fn carry_out(sid: &SidEntry, buf: &mut PktBuf, decision: Decision) -> EndOutcome
 
 /// What comes of a packet whose segment routing header at a place is taken out, with those after it
 /// that are taken out too. They go from the last to the first, once it is known what comes of the
-/// packet.
-fn step_without(
+/// packet. The stack has room for the places of as many as a packet has room for, and all of it is
+/// written, so this is for packets out of which more than one goes.
+#[cold]
+#[inline(never)]
+fn step_without_all(
     sid: &SidEntry,
     allow: &[u8],
     buf: &mut PktBuf,
@@ -77,6 +80,36 @@ fn step_without(
     outcome
 }
 
+/// The same, without that room where the header at the place is the only one that is taken out.
+fn step_without(
+    sid: &SidEntry,
+    allow: &[u8],
+    buf: &mut PktBuf,
+    place: ChainPlace,
+    next: ChainPlace,
+) -> EndOutcome
+    requires goes_on { goes_on sid.now ≡ true }
+    requires suits { SuitsCompression sid.now }
+    requires packet { HoldsAlone buf.old.bytes }
+    requires header { LiesAt (packet_at buf.old.bytes) place.at (place_view place)
+        (next.at - place.at) }
+    requires stands { StandsIn (packet_at buf.old.bytes) (place_view next) }
+    ensures outcome { ComesOf (outcome_without
+        (header_of (packet_at buf.old.bytes) (place_view place) (next.at - place.at))
+        (at_sid_from sid.now allow.now (packet_at buf.old.bytes) (place_view next)))
+        buf.old.bytes buf.new.bytes result }
+    ensures front { FrontAfter buf.old buf.new result }
+{
+    match find(sid, allow, buf.view(), next) {
+        Found::Last { .. } => step_without_all(sid, allow, buf, place, next),
+        Found::Decided(decision) => {
+            let outcome = carry_out(sid, buf, decision);
+            take_out_of(outcome, buf, place, next.at - place.at);
+            outcome
+        }
+    }
+}
+
 /// A packet at a SID that goes on, in its bytes, of a node that takes some upper layers at its SIDs
 /// (RFC 8986 sections 4.1 to 4.3, 4.13, 4.14 and 4.16, RFC 9800 sections 4.1 and 4.2); of a binding
 /// SID it is the step alone, without the policy's header.
@@ -94,8 +127,8 @@ fn step_without(
 /// the packet as it came, 0 where the reason has none; no byte changes then. But for `Hand` as many
 /// bytes are spare in front as before.
 ///
-/// It takes no memory but for the places of the headers that USP takes out, at most 8,191 of them,
-/// for which the stack has room of its own.
+/// It takes no memory. Where USP takes out more than one header, their places, at most 8,191, lie on
+/// the stack.
 pub fn end_step(sid: &SidEntry, allow: &[u8], buf: &mut PktBuf) -> EndOutcome
     requires goes_on { goes_on sid.now ≡ true }
     requires suits { SuitsCompression sid.now }
