@@ -4,4 +4,5 @@ pub mod IntentTables
 pub mod IntentAlike
 pub mod IntentStrict
 pub mod IntentAnswering
+pub mod AnyPreference
 pub mod PublicLaws

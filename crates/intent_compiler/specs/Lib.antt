@@ -7,3 +7,4 @@ pub mod IntentSmall
 pub mod CompilerAnswers
 pub mod IntentVerdicts
 pub mod IntentVerdictsTerms
+pub mod OtherPreferences

@@ -43,6 +43,7 @@ ghost use Rattle.intent_compiler.specs.KeptSteps.{KeepsToSteps};
 ghost use Rattle.intent_compiler.specs.KeptStepsTerms.{IsOfSteps};
 ghost use Rattle.intent_compiler.specs.IntentVerdicts.{SaysFor, SaysOfHandingFor};
 ghost use Rattle.intent_compiler.specs.IntentVerdictsTerms.{CertifiesAnswerFor, CertifiesFor};
+ghost use Rattle.intent_compiler.specs.OtherPreferences.{DifferInPreference, TellsNoList};
 
 /// In a flat network the legs of an intent keep the laws of legs, their SIDs are SIDs of the
 /// network, and they mean the legal lists that realize the intent. A SID costs what the intent
@@ -88,6 +89,26 @@ pub fn an_intent_has_one_answer()
     ensures { (net : Network) (intent : Intent) (a b : Result Compiled CompileFault)
         → IntentAnswers net intent a → IntentAnswers net intent b
         → a ≢ Err faults.NoMemory → b ≢ Err faults.NoMemory → a ≡ b }
+{}
+
+/// Two intents that differ in nothing but what they prefer are realized by the same lists with the
+/// same needs, as many SIDs of a list are executed, and the same lists hand over even one packet at
+/// the same hop limits; so there is no list for the one exactly where there is none for the other.
+pub fn no_list_whichever_is_preferred()
+    ensures realizes { (net : Network) (intent other : Intent) (list : List Container) (need : ℕ)
+        → DifferInPreference intent other
+        → ListRealizesFor net intent list need ↔ ListRealizesFor net other list need }
+    ensures executes { (net : Network) (intent other : Intent) (list : List Container) (count : ℕ)
+        → DifferInPreference intent other
+        → ListExecutesFor net intent list count ↔ ListExecutesFor net other list count }
+    ensures hands { (net : Network) (intent other : Intent) (list : List Container) (hop : ℕ)
+        → DifferInPreference intent other
+        → ListHandsFor net intent list hop ↔ ListHandsFor net other list hop }
+    ensures none { (net : Network) (intent other : Intent) (a b : Result Compiled CompileFault)
+        → DifferInPreference intent other
+        → IntentAnswers net intent a → IntentAnswers net other b
+        → a ≢ Err faults.NoMemory → b ≢ Err faults.NoMemory
+        → TellsNoList a ↔ TellsNoList b }
 {}
 
 /// What a verdict says of the legal lists that realize an intent holds in a flat network of those
