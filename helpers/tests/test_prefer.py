@@ -4,18 +4,11 @@ key `prefer`, the words of `srv6-say`, and the fields of `to-json`.
 
 import json
 import unittest
-from pathlib import Path
 
+from rows_case import rows_are_answered
 from srv6tools import say
-from srv6tools.check_certificate import Checker
-from srv6tools.compiling import compiled
-from srv6tools.description import read_network
-from srv6tools.intent import read_intent
-from srv6tools.loose import legs_of
-from srv6tools.report import certificate_in
-from support import EXAMPLES, HELPERS, ToolCase, run_here
+from support import EXAMPLES, ToolCase, run_here
 
-ROWS = HELPERS.parent / "crates" / "worked_rows" / "data" / "prefer"
 REPORT = """\
 # container fcbb:bb00:5:f001::
 # containers 1
@@ -33,32 +26,8 @@ end
 class TestPrefer(ToolCase):
     """What an intent prefers."""
 
-    @unittest.skipUnless(ROWS.is_dir(), "the rows of the key prefer aren't there")
     def test_rows(self):
-        """The answers of `compile` and `check`, byte by byte; walks, updates, and faults of an
-        intent's text, are the program's.
-        """
-        for row in sorted(ROWS.iterdir()):
-            words = (row / "args").read_text().split()
-            err = (row / "stderr").read_text()
-            if words[0] not in ("compile", "check") or err.startswith("refused 33 "):
-                continue
-            with self.subTest(row.name):
-                wants = [(row / name).read_text() for name in ("stdout", "stderr", "status")]
-                self.assertEqual(self._of_row(row, words), (*wants[:2], wants[2].strip()))
-
-    def _of_row(self, row: Path, words: list[str]) -> tuple[str, str, str]:
-        net, intent = read_network(row / words[1]), read_intent(row / words[2])
-        if words[0] == "check":
-            checker = Checker(legs_of(net, intent))
-            certificate = certificate_in((row / words[3]).read_text())
-            if bad := checker.first_bad_line(certificate):
-                return "", f"refused 45 BadCert {bad}\n", "1"
-            verdict = checker.verdict(certificate)
-            return f"{verdict}\n", "", "4" if verdict.startswith("no ") else "0"
-        answer = compiled(net, intent)
-        out = "".join(f"{line}\n" for line in answer.out)
-        return out, f"{answer.err}\n" if answer.err else "", str(answer.status)
+        rows_are_answered(self, "prefer")
 
     def test_as_json(self):
         """SIDs stand where the text has them."""
