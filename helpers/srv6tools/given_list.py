@@ -1,13 +1,19 @@
-"""The list on standard input that tools for headends turn into the words of one: `srv6 compile` printed it."""
+"""The list on standard input that tools for headends turn into the words of one: `srv6 compile` printed it. And what these
+tools share as commands.
+"""
 
 import re
+import sys
+from collections.abc import Iterable
 from ipaddress import IPv4Network, IPv6Network
 
-from .command import Fault, Status
+from .command import Fault, Parser, Status
 from .files import FILE_LIMIT, STDIN, decoded, read_input
 from .intent import Intent
 from .items import Prefix
+from .linux import KERNEL_HELP
 from .report import Report, report_of
+from .words import address_word, name_word, number_word
 
 NETWORKS = {6: IPv6Network, 4: IPv4Network}
 DEVICE = re.compile(r"[A-Za-z0-9_.-]{1,15}")
@@ -41,3 +47,32 @@ def device_of(dev: str) -> str:
     if not DEVICE.fullmatch(dev):
         raise Fault(f"no name of an interface: {dev!r}", Status.USAGE)
     return dev
+
+
+def add_route_words(parser: Parser) -> None:
+    """The words of a tool that writes a route of Linux."""
+    parser.add_argument("intent", metavar="INTENT", help="the intent of the list")
+    parser.add_argument("prefix", metavar="PREFIX", help="the destinations of inner packets")
+    parser.add_argument("dev", metavar="DEV", help="an interface of the headend")
+    parser.add_argument("--kernel", metavar="VERSION", help=KERNEL_HELP)
+
+
+def add_policy_words(parser: Parser) -> None:
+    """The words of a tool that writes a policy with a name as text."""
+    parser.add_argument("intent", metavar="INTENT", help="the intent of the list")
+    parser.add_argument("color", metavar="COLOR", type=number_word, help="the policy's color, a number")
+    parser.add_argument("endpoint", metavar="ENDPOINT", type=address_word, help="the policy's endpoint, an IPv6 address")
+    parser.add_argument("--name", metavar="NAME", type=name_word, default="compiled", help="of the policy and its list; compiled")
+
+
+def write_text(tool: str, text: str, remarks: Iterable[str]) -> Status:
+    """Writes what a headend takes, and on `err` where it does something else, or chooses by itself."""
+    print(text, flush=True)
+    return remark(tool, remarks)
+
+
+def remark(tool: str, remarks: Iterable[str]) -> Status:
+    """Writes remarks on `err`, a line each."""
+    for one in remarks:
+        print(f"{tool}: {one}", file=sys.stderr)
+    return Status.DONE

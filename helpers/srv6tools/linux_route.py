@@ -7,10 +7,10 @@ import shlex
 import sys
 from collections.abc import Iterator, Sequence
 
-from .command import Parser, Status, run_tool
-from .given_list import destinations_of, device_of, given_lines, given_report
+from .command import Parser, run_tool
+from .given_list import add_route_words, destinations_of, device_of, given_lines, given_report, write_text
 from .intent import Intent, read_intent
-from .linux import KERNEL_HELP, Kernel, wanted_kernel
+from .linux import Kernel, wanted_kernel
 from .report import Report
 
 TOOL = "linux-route"
@@ -86,17 +86,12 @@ def work(words: argparse.Namespace) -> int:
     kernel = wanted_kernel(words.kernel)
     intent = read_intent(words.intent)
     report = given_report(intent, given_lines())
-    print(route_of(intent, report, words.prefix, words.dev), flush=True)
-    for difference in differences(intent, report, kernel):
-        print(f"{TOOL}: {difference}", file=sys.stderr)
-    return Status.DONE
+    line = route_of(intent, report, words.prefix, words.dev)
+    return write_text(TOOL, line, differences(intent, report, kernel))
 
 
 def main(words: Sequence[str] | None = None) -> int:
     """The command."""
     parser = Parser(TOOL, DESCRIPTION, MORE)
-    parser.add_argument("intent", metavar="INTENT", help="the intent of the list")
-    parser.add_argument("prefix", metavar="PREFIX", help="the destinations of inner packets")
-    parser.add_argument("dev", metavar="DEV", help="an interface of the headend")
-    parser.add_argument("--kernel", metavar="VERSION", help=KERNEL_HELP)
+    add_route_words(parser)
     return run_tool(parser, work, sys.argv[1:] if words is None else words)

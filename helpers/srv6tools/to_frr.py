@@ -8,9 +8,9 @@ from collections.abc import Iterator, Sequence
 from ipaddress import IPv6Address
 
 from .command import Fault, Parser, Status, run_tool
-from .given_list import destinations_of, device_of, given_lines, given_report
+from .given_list import add_route_words, destinations_of, device_of, given_lines, given_report, write_text
 from .intent import Intent, read_intent
-from .linux import KERNEL_HELP, wanted_kernel
+from .linux import wanted_kernel
 from .linux_route import differences as linux_differences
 from .report import Report
 from .words import address_word
@@ -69,18 +69,12 @@ def work(words: argparse.Namespace) -> int:
     report = given_report(intent, given_lines())
     line = route_of(intent, report, words.prefix, words.dev, words.via)
     judge(intent, report)
-    print(line, flush=True)
-    for difference in differences(intent, report, words.kernel):
-        print(f"{TOOL}: {difference}", file=sys.stderr)
-    return Status.DONE
+    return write_text(TOOL, line, differences(intent, report, words.kernel))
 
 
 def main(words: Sequence[str] | None = None) -> int:
     """The command."""
     parser = Parser(TOOL, DESCRIPTION, MORE)
-    parser.add_argument("intent", metavar="INTENT", help="the intent of the list")
-    parser.add_argument("prefix", metavar="PREFIX", help="the destinations of inner packets")
-    parser.add_argument("dev", metavar="DEV", help="an interface of the headend")
+    add_route_words(parser)
     parser.add_argument("--via", metavar="ADDRESS", type=address_word, help="the next hop over DEV")
-    parser.add_argument("--kernel", metavar="VERSION", help=KERNEL_HELP)
     return run_tool(parser, work, sys.argv[1:] if words is None else words)

@@ -11,7 +11,7 @@ from ipaddress import IPv4Address
 
 from .bgp_policy import CandidatePath
 from .command import Fault, Parser, Status, progress, run_tool
-from .given_list import given_lines, given_report
+from .given_list import given_lines, given_report, remark
 from .gobgp_api import Api, add_request
 from .headends import unsaid
 from .intent import read_intent
@@ -60,9 +60,7 @@ def work(words: argparse.Namespace) -> int:
         print(json.dumps(request, indent=1), flush=True)
     else:
         send(path, request, words.send)
-    for one in unsaid(intent, report):
-        print(f"{TOOL}: {one}", file=sys.stderr)
-    return Status.DONE
+    return remark(TOOL, unsaid(intent, report))
 
 
 def send(path: CandidatePath, request: dict, place: str) -> None:

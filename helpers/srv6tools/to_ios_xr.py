@@ -9,11 +9,11 @@ from ipaddress import IPv6Address, IPv6Network
 
 from .command import Fault, Parser, Status, run_tool
 from .files import STDIN
-from .given_list import given_lines, given_report
+from .given_list import add_policy_words, given_lines, given_report, write_text
 from .headends import unsaid
 from .intent import read_intent
 from .report import Report, certificate_of
-from .words import address_word, name_word, number_word
+from .words import name_word, number_word
 
 TOOL = "to-ios-xr"
 BLOCK, CSID, CONTAINER = 32, 16, 128  # bits, by the format F3216
@@ -89,19 +89,13 @@ def work(words: argparse.Namespace) -> int:
     report = given_report(intent, lines)
     sids = [step.prefix for step in certificate_of(lines, STDIN).path]
     usids(report, sids)
-    print("\n".join(policy_lines(words, sids)), flush=True)
-    for one in unsaid(intent, report):
-        print(f"{TOOL}: {one}", file=sys.stderr)
-    return Status.DONE
+    return write_text(TOOL, "\n".join(policy_lines(words, sids)), unsaid(intent, report))
 
 
 def main(words: Sequence[str] | None = None) -> int:
     """The command."""
     parser = Parser(TOOL, DESCRIPTION, MORE)
-    parser.add_argument("intent", metavar="INTENT", help="the intent of the list")
-    parser.add_argument("color", metavar="COLOR", type=number_word, help="the policy's color, a number")
-    parser.add_argument("endpoint", metavar="ENDPOINT", type=address_word, help="the policy's endpoint, an IPv6 address")
-    parser.add_argument("--name", metavar="NAME", type=name_word, default="compiled", help="of the policy and its list; compiled")
+    add_policy_words(parser)
     parser.add_argument("--preference", metavar="N", type=number_word, default=100, help="of the candidate path; 100")
     parser.add_argument("--locator", metavar="NAME", type=name_word, help="the locator of the policy's binding SID")
     return run_tool(parser, work, sys.argv[1:] if words is None else words)

@@ -8,11 +8,10 @@ from collections.abc import Iterator, Sequence
 
 from .command import Fault, Parser, Status, run_tool
 from .files import STDIN
-from .given_list import given_lines, given_report
+from .given_list import add_policy_words, given_lines, given_report, write_text
 from .headends import unsaid
 from .intent import read_intent
 from .report import Report, certificate_of
-from .words import address_word, name_word, number_word
 
 TOOL = "to-junos"
 FIRST_LINE = "# NO TEST LOADS THIS: it has the forms of Juniper's guide to static SRv6 traffic engineering"
@@ -58,17 +57,11 @@ def work(words: argparse.Namespace) -> int:
     lines = given_lines()
     report = given_report(intent, lines)
     judge(report, lines)
-    print("\n".join(policy_lines(words, report)), flush=True)
-    for one in unsaid(intent, report):
-        print(f"{TOOL}: {one}", file=sys.stderr)
-    return Status.DONE
+    return write_text(TOOL, "\n".join(policy_lines(words, report)), unsaid(intent, report))
 
 
 def main(words: Sequence[str] | None = None) -> int:
     """The command."""
     parser = Parser(TOOL, DESCRIPTION, MORE)
-    parser.add_argument("intent", metavar="INTENT", help="the intent of the list")
-    parser.add_argument("color", metavar="COLOR", type=number_word, help="the policy's color, a number")
-    parser.add_argument("endpoint", metavar="ENDPOINT", type=address_word, help="the policy's endpoint, an IPv6 address")
-    parser.add_argument("--name", metavar="NAME", type=name_word, default="compiled", help="of the policy and its list; compiled")
+    add_policy_words(parser)
     return run_tool(parser, work, sys.argv[1:] if words is None else words)
