@@ -115,7 +115,7 @@ declare -gA _srv6_options=(
     [to-junos]='--name=any'
     [to-linux]='--kernel=any --tun --namespace=any'
     [to-raw]='--keep-numbers --interface=any --direction=in,out --from=any'
-    [view]='--at=any --choices=any --new=toml --plan=toml --most=any --no-fans --title=any'
+    [view]='--at=any --choices=any --new=toml --preferences --plan=toml --most=any --no-fans --title=any'
     [why-no-list]=''
 )
 # What stands behind each tool, word by word: `toml`, `file`, `node` (of the description before it), `start` (a node or

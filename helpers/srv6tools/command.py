@@ -38,7 +38,7 @@ class Fault(Exception):
 class Parser(argparse.ArgumentParser):
     """Reads a tool's words; the text of `--help` says that the tool isn't proved."""
 
-    def __init__(self, tool: str, description: str, more: str = ""):
+    def __init__(self, tool: str, description: str, more: str = "", any_order: bool = False):
         super().__init__(
             prog=tool,
             description=description,
@@ -46,6 +46,13 @@ class Parser(argparse.ArgumentParser):
             formatter_class=argparse.RawDescriptionHelpFormatter,
             allow_abbrev=False,
         )
+        self._any_order = any_order
+
+    def parse_args(self, args=None, namespace=None) -> argparse.Namespace:
+        """Reads the words; where they may stand in any order, files behind options too."""
+        if self._any_order:
+            return self.parse_intermixed_args(args, namespace)
+        return super().parse_args(args, namespace)
 
     def error(self, message: str) -> None:
         usage = " ".join(self.format_usage().removeprefix("usage:").split())

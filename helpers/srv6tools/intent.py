@@ -7,6 +7,9 @@ from typing import Any
 
 from .files import read_toml
 from .items import Item, items_of
+from .toml_writer import item_lines, value_text
+
+PREFERENCES = ("need", "sids")  # the first one where an intent says none
 
 
 @dataclass(frozen=True, slots=True)
@@ -78,9 +81,16 @@ def intent_of(root: dict[str, Any], path: str) -> Intent:
         item.integer("max_containers", 10, 1, 127),
         item.integer("traffic_class", 0, 0, 255),
         item.integer("flow_label", 0, 0, 1_048_575),
-        item.word("prefer", ("need", "sids"), "need"),
+        item.word("prefer", PREFERENCES, PREFERENCES[0]),
         tuple(_step(step) for step in items_of(root, "step", path)),
     )
+
+
+def preferring(root: dict[str, Any], preference: str) -> str:
+    """The text of an intent with another preference, and with the same keys else."""
+    keys = {key: value for key, value in root.items() if key != "step"} | {"prefer": preference}
+    lines = [f"{key} = {value_text(value)}\n" for key, value in keys.items()]
+    return "".join([*lines, *(item_lines("step", step) for step in root.get("step", []))])
 
 
 def _step(item: Item) -> Step:

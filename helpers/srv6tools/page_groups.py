@@ -124,12 +124,17 @@ def _onward(net: Network, firsts: dict[int, Any], choices: str) -> dict[int, Wal
     return found
 
 
+def most_calls(entries: int) -> int:
+    """How often the program may be asked that reads so many entries each time."""
+    return max(LEAST_CALLS, ENTRIES // (entries + ENTRIES_OF_A_START))
+
+
 def count_fans(pages: Pages, group: Group, node: str | None, intent: str | None) -> None:
     """All walks of a group's packets, over all choices; of those alone whose walks are found
     before the program was asked too often.
     """
     walks = Walks(pages.net, VISITS)
-    walks.calls = max(LEAST_CALLS, ENTRIES // (walks.entries_a_call + ENTRIES_OF_A_START))
+    walks.calls = most_calls(walks.entries_a_call)
     shown = [one for one in group.packets if intent is None or one.first]
     if not shown:
         return

@@ -3,7 +3,7 @@ nodes that execute them, and what `srv6 check` says of the certificate.
 """
 
 import tempfile
-from collections.abc import Sequence
+from collections.abc import Iterator, Sequence
 from dataclasses import dataclass
 from ipaddress import IPv6Address
 from pathlib import Path
@@ -13,12 +13,14 @@ from .captures import raw_capture
 from .command import Fault, Status
 from .decisions import sid_rfc
 from .description import Network, Sid, read_network
-from .intent import Intent, read_intent
+from .files import read_toml
+from .intent import PREFERENCES, Intent, preferring, read_intent
 from .legs import Leg, Rooms
 from .loose import legs_of
 from .packet_parts import ip4, ip6
 from .program import Answer, judge_answer, run_program
 from .report import Certificate, Report, certificate_in, report_of
+from .spread import spread_of
 
 NO_ANSWER = {
     "NoList": "no legal list realizes the intent",
@@ -39,9 +41,39 @@ class Compiled:
     verdict: str  # the line of `srv6 check`, or the one on `err` of `srv6 compile`
 
     @property
-    def refused(self) -> bool:
-        """Whether the intent or the description is refused."""
-        return self.answer.status == Status.REFUSED
+    def is_kept(self) -> bool:
+        """Whether there is a list, and it keeps the intent's limits."""
+        return self.report.has_list and self.answer.status == Status.DONE
+
+    @property
+    def segments(self) -> tuple[Any, ...]:
+        """What makes it another list than others."""
+        path = [(step.stays, step.prefix) for step in self.certificate.path]
+        return tuple(self.report.containers), tuple(path)
+
+
+def each_preference(path: str, folder: Path) -> Iterator[tuple[str, str]]:
+    """The preferences, each with the file of an intent that has it and is the same else; the file of
+    the path where it is the intent's own. Others are made in a folder.
+    """
+    own = read_intent(path).prefer
+    for preference in PREFERENCES:
+        made = folder / f"{len(list(folder.iterdir()))}-{Path(path).name}"
+        if preference != own:
+            made.write_text(preferring(read_toml(path), preference), encoding="utf-8")
+        yield preference, path if preference == own else str(made)
+
+
+def walks_of(one: Compiled, calls: int) -> int | None:
+    """Over how many walks the list spreads packets under all choices; None where there is no list,
+    or the program would have to be asked more often than is said.
+    """
+    if not one.is_kept:
+        return None
+    try:
+        return spread_of(one.net, one.intent.path, calls).fan.walks
+    except Fault:
+        return None
 
 
 def compiled(net: Network, intent_path: str) -> Compiled:
@@ -179,12 +211,12 @@ def as_data(one: Compiled, label: str, sids: dict, nodes: dict[str, int]) -> dic
     """A list, for the page."""
     intent = one.intent
     data: dict[str, Any] = {
-        "label": label, "net": one.net.path, "intent": intent.path,
+        "label": label, "net": one.net.path, "prefer": intent.prefer,
         "headend": nodes.get(intent.headend, -1), "inner": intent.inner,
-        "mode": intent.mode, "hop_limit": intent.hop_limit,
+        "mode": intent.mode, "hop_limit": intent.hop_limit, "walks": "", "same": "",
         "steps": [str(step) for step in intent.steps],
         "check": one.verdict, "verdict": verdict_words(one),
-        "potentials": len(one.certificate.potentials),
+        "potentials": len(one.certificate.potentials), "form": one.certificate.form,
         "containers": [], "sids": [], "header": one.report.header, "need": one.report.need,
         "refusal": "", "walk": -1,
     }  # fmt: skip

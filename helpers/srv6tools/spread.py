@@ -41,10 +41,10 @@ class Spread:
         return {"walks": self.fan.walks, "links": links}
 
 
-def spread_of(net: Network, path: str) -> Spread:
-    """The walks of the list that the program finds for an intent."""
+def spread_of(net: Network, path: str, calls: int | None = None) -> Spread:
+    """The walks of the list that the program finds for an intent, where it may be asked so often."""
     inner = _inner(read_intent(path))
-    walks = Walks(net, VISITS)
+    walks = Walks(net, VISITS, calls)
     (start,) = walks.from_intent(path, b"".join(raw_capture([(0, 0, inner)])))
     if walks.is_cut:
         raise Fault(f"{path}: a packet comes to more than {VISITS} visits at nodes")

@@ -4,6 +4,7 @@ import argparse
 import functools
 import json
 import sys
+import tempfile
 from collections.abc import Iterator, Sequence
 from dataclasses import dataclass, field
 from pathlib import Path
@@ -15,8 +16,10 @@ from .decisions import sid_rfc
 from .description import MOST_MTU, Network, read_network
 from .files import INPUT_LIMIT, parse_toml, read_bytes, read_text
 from .layout import commented, ends, positions
-from .page_groups import Group, along, arriving, count_fans, enter_group
-from .page_lists import Compiled, as_capture, as_data, compiled, network_like, probe
+from .page_groups import Group, along, arriving, count_fans, enter_group, most_calls
+from .page_lists import (
+    Compiled, as_capture, as_data, compiled, each_preference, network_like, probe, walks_of,
+)  # fmt: skip
 from .page_packets import Entered, Pages
 from .plan import make_links, read_plan
 from .program import judge_description
@@ -35,6 +38,7 @@ else beside it.
   view NET CAPTURE --at NODE > page.html          walks of packets that arrive at NODE
   view NET INTENT.. [CAPTURE] > page.html         lists of intents, and inner packets along them
   view --new NEW NET INTENT > page.html           a list before and after an update
+  view --preferences NET INTENT > page.html       the lists by `prefer = "need"` and `"sids"`
   view NET WHAT-IF.json > page.html               a table of failures by intents
 
 Which kind a file is, is found by its first bytes. Positions of nodes are taken from comments
@@ -112,7 +116,7 @@ def network_data(net: Network, plan: str | None) -> dict[str, Any]:
 def list_data(pages: Pages, one: Compiled, label: str, same_net: bool) -> dict[str, Any]:
     """A list, with a packet along it."""
     data = as_data(one, label, pages.sids if same_net else {}, pages.nodes)
-    if not one.report.has_list or one.answer.status != Status.DONE:
+    if not one.is_kept:
         return data
     holder = pages if same_net else Pages(one.net)
     group = along(one.net, one.intent.path, "0", as_capture(probe(one)), f"along {label}", 1)
@@ -166,6 +170,7 @@ def table_data(pages: Pages, table: WhatIf) -> dict[str, Any]:
         rows.append({
             "name": failure.name,
             "links": [pages.links[name] for name in failure.links],
+            "nodes": [pages.nodes[name] for name in failure.nodes],
             "cells": [
                 _cell_data(pages, cell, f"{failure.name} failed, {intent}")
                 for cell, intent in zip(cells, table.intents)
@@ -179,6 +184,7 @@ def table_data(pages: Pages, table: WhatIf) -> dict[str, Any]:
 def _cell_data(pages: Pages, cell: Cell, label: str) -> dict[str, Any]:
     return {
         "state": cell.state, "answer": cell.answer, "containers": cell.containers, "need": cell.need,
+        "why": cell.why, "largest_inner": cell.largest_inner,
         "at_once": _traffic_data(pages, cell.at_once, f"{label}, at first"),
         "traffic": _traffic_data(pages, cell.traffic, label),
     }  # fmt: skip
@@ -253,13 +259,44 @@ def _groups(asked_for: Asked, words: argparse.Namespace, pages: Pages) -> Iterat
 
 
 def _lists(asked_for: Asked, words: argparse.Namespace, pages: Pages) -> Iterator[dict[str, Any]]:
-    new = network_like(words.new, asked_for.net) if words.new else None
+    """The lists of each intent: before and after an update, each of these by both preferences."""
+    nets = {"": asked_for.net}
+    if words.new:
+        nets = {", before": asked_for.net, ", after": network_like(words.new, asked_for.net)}
     for intent in asked_for.intents:
-        name = Path(intent).name
-        before = f"{name}, before" if new else name
-        yield list_data(pages, compiled(asked_for.net, intent), before, True)
-        if new:
-            yield list_data(pages, compiled(new, intent), f"{name}, after", False)
+        for when, net in nets.items():
+            label = f"{Path(intent).name}{when}"
+            if not words.preferences:
+                yield _list(pages, compiled(net, intent), label, words)
+                continue
+            with tempfile.TemporaryDirectory() as folder:
+                yield from _by_preference(pages, net, intent, label, words, Path(folder))
+
+
+def _by_preference(
+    pages: Pages, net: Network, intent: str, label: str, words: argparse.Namespace, folder: Path
+) -> Iterator[dict[str, Any]]:
+    """The lists of an intent by each preference; of one that is like an earlier one it is said."""
+    paths = dict(each_preference(intent, folder))
+    # The intent's own first, so that what is refused is so by its own file.
+    found = {one: compiled(net, paths[one]) for one in sorted(paths, key=lambda one: paths[one] != intent)}
+    met: dict[Any, str] = {}
+    for preference in paths:
+        one = found[preference]
+        data = _list(pages, one, f"{label}, {preference}", words)
+        if one.report.has_list:
+            data["same"] = met.get(one.segments, "")
+            met.setdefault(one.segments, data["label"])
+        yield data
+
+
+def _list(pages: Pages, one: Compiled, label: str, words: argparse.Namespace) -> dict[str, Any]:
+    """A list, and over how many walks it spreads packets where that may be counted."""
+    data = list_data(pages, one, label, one.net is pages.net)
+    if not words.no_fans:
+        walks = walks_of(one, most_calls(len(one.net.routes) + len(one.net.sids)))
+        data["walks"] = "" if walks is None else str(walks)
+    return data
 
 
 def _sorted(words: argparse.Namespace) -> Asked:
@@ -275,6 +312,8 @@ def _sorted(words: argparse.Namespace) -> Asked:
         raise Fault("where do the packets arrive? Give --at NODE, or an intent", Status.USAGE)
     if words.new and not found.intents:
         raise Fault("--new needs an intent, whose list is shown before and after", Status.USAGE)
+    if words.preferences and not found.intents:
+        raise Fault("--preferences needs an intent, whose lists are shown by each", Status.USAGE)
     return found
 
 
@@ -304,7 +343,7 @@ def _choices(text: str) -> str:
 
 def main(words: Sequence[str]) -> int:
     """Runs the tool."""
-    parser = Parser("view", DESCRIPTION)
+    parser = Parser("view", DESCRIPTION, any_order=True)
     parser.usage = "view [OPTION].. NET [CAPTURE|INTENT|WHAT-IF.json].. > page.html"
     parser.add_argument("net", metavar="NET", help="a description")
     parser.add_argument(
@@ -316,6 +355,9 @@ def main(words: Sequence[str]) -> int:
         help="choices among equal next hops (0)",
     )  # fmt: skip
     parser.add_argument("--new", metavar="NEW", help="the new description of an update")
+    parser.add_argument(
+        "--preferences", action="store_true", help="lists by need and by SIDs, whichever is preferred"
+    )
     parser.add_argument("--plan", metavar="PLAN", help="the plan, for metrics and positions")
     parser.add_argument(
         "--most", metavar="N", type=positive, default=MOST_PACKETS,

@@ -43,14 +43,17 @@ class Cell:
     need: int | None
     at_once: Traffic | None  # before routes are found anew: next hops that are gone are left out
     traffic: Traffic | None  # once they are
+    why: str = ""  # there is no list, in a line
+    largest_inner: int | None = None  # bytes of the largest inner packet that fits the list's links
 
 
 @dataclass(frozen=True, slots=True)
 class Failure:
-    """Links that are gone."""
+    """Links that are gone, and nodes."""
 
     name: str
     links: tuple[str, ...]
+    nodes: tuple[str, ...] = ()
 
 
 @dataclass(slots=True)
@@ -118,16 +121,8 @@ def read_what_if(path: str | Path, net: Network) -> WhatIf:
     reader = _Reader(name, net)
     names = reader.rows(root.get("intents"), "intents", str)
     intents = [reader.text(one, "intents") for one in names]
-    failures = [
-        Failure(
-            reader.text(row.get("name"), f"failure {number}"),
-            tuple(
-                reader.link(link, f"failure {number}")
-                for link in reader.rows(row.get("links"), f"failure {number}", str)
-            ),
-        )
-        for number, row in enumerate(reader.rows(root.get("failures"), "failures"), 1)
-    ]
+    rows = enumerate(reader.rows(root.get("failures"), "failures"), 1)
+    failures = [_failure(reader, row, f"failure {number}") for number, row in rows]
     table = reader.rows(root.get("cells"), "cells", list)
     if len(table) != len(failures) or any(len(row) != len(intents) for row in table):
         raise reader.fault("cells", "not a row for each failure with a cell for each intent")
@@ -141,6 +136,15 @@ def read_what_if(path: str | Path, net: Network) -> WhatIf:
     return WhatIf(name, intents, failures, cells)
 
 
+def _failure(reader: _Reader, row: dict[str, Any], where: str) -> Failure:
+    nodes = row.get("nodes")
+    return Failure(
+        reader.text(row.get("name"), where),
+        tuple(reader.link(link, where) for link in reader.rows(row.get("links"), where, str)),
+        tuple(reader.node(node, where) for node in reader.rows([] if nodes is None else nodes, where, str)),
+    )
+
+
 def _cell(reader: _Reader, cell: dict[str, Any], where: str) -> Cell:
     state = reader.text(cell.get("state"), where)
     if state not in STATES:
@@ -152,6 +156,8 @@ def _cell(reader: _Reader, cell: dict[str, Any], where: str) -> Cell:
         reader.count(cell.get("need"), where),
         _traffic(reader, cell.get("at_once"), "at_once", where),
         _traffic(reader, cell.get("traffic"), "traffic", where),
+        reader.text(cell.get("why") or "", where),
+        reader.count(cell.get("largest_inner"), where),
     )
 
 

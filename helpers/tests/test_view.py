@@ -233,6 +233,66 @@ class View(ToolCase):
         self.assertNotEqual(lists[0]["containers"], lists[1]["containers"])
         self.named_answer(run_here("view", "--new", DOMAIN / "net.toml", old, INTENT), [1])
 
+    def preferring(self, intent, preference: str):
+        """A file with an intent's text, and another preference."""
+        text = re.sub('(?m)^prefer = .*\n', "", intent.read_text())
+        return self.file(f"{preference}-{intent.name}", f'prefer = "{preference}"\n{text}')
+
+    def test_both_preferences(self):
+        """The lists of either preference are those of the intent with that one in its text."""
+        net, fewer = DOMAIN / "net.toml", 0
+        for intent in ("red.toml", "by-firewall.toml", "green.toml", "blue.toml", "any-way.toml"):
+            lists = data_of(self.page("--preferences", net, DOMAIN / intent))["lists"]
+            self.assertEqual([one["label"] for one in lists], [f"{intent}, need", f"{intent}, sids"])
+            for form, (preference, shown) in enumerate(zip(("need", "sids"), lists), 1):
+                with self.subTest(intent=intent, prefer=preference):
+                    path = self.preferring(DOMAIN / intent, preference)
+                    out = run_program(["compile", net, path]).out
+                    said = run_program(["check", net, path, self.file("cert", out)]).out.decode().strip()
+                    self.assertEqual((shown["check"], shown["form"], shown["prefer"]), (said, form, preference))
+                    numbers = [len(shown["containers"]), shown["need"]]
+                    if form == 2:
+                        numbers.insert(1, len(shown["sids"]))
+                    self.assertEqual(said.split(), ["least", *map(str, numbers)])
+                    addresses = re.findall("# container (.*)", out.decode())
+                    self.assertEqual([one["address"] for one in shown["containers"]], addresses)
+                    self.assertTrue(all(one["stage"] >= 0 for one in shown["sids"]))
+                    count = run_here("all-paths", "--count", net, path).out.split()
+                    self.assertEqual(["walks", shown["walks"]], count[:2])
+            by_need, by_sids = lists
+            self.assertEqual(len(by_need["containers"]), len(by_sids["containers"]))
+            is_same = [by_need[key] for key in ("containers", "sids")] == [by_sids[key] for key in ("containers", "sids")]
+            self.assertEqual((by_need["same"], by_sids["same"]), ("", by_need["label"] if is_same else ""))
+            fewer += len(by_sids["sids"]) < len(by_need["sids"])
+        self.assertGreater(fewer, 3)
+
+    def test_options_may_stand_anywhere(self):
+        intent, net = DOMAIN / "red.toml", DOMAIN / "net.toml"
+        pages = {
+            self.page("--preferences", "--no-fans", net, intent), self.page(net, intent, "--preferences", "--no-fans"),
+            self.page(net, "--preferences", intent, "--no-fans"),
+        }  # fmt: skip
+        self.assertEqual(len(pages), 1)
+
+    def test_both_preferences_of_what_has_one_list_or_none(self):
+        lists = data_of(self.page("--preferences", M2, INTENT))["lists"]
+        self.assertEqual([one["same"] for one in lists], ["", "intent.toml, need"])
+        self.assertEqual([one["check"] for one in lists], ["least 4 4", "least 4 4 4"])
+        lists = data_of(self.page("--preferences", DOMAIN / "net.toml", DOMAIN / "no-list.toml"))["lists"]
+        self.assertEqual([(one["check"], one["same"], one["walks"]) for one in lists], [("none", "", "")] * 2)
+        words = ["--preferences", "--new", EXAMPLES / "renumbered.toml", EXAMPLES / "compressed.toml", INTENT]
+        lists = data_of(self.page(*words, "--no-fans"))["lists"]
+        labels = [f"intent.toml, {when}, {which}" for when in ("before", "after") for which in ("need", "sids")]
+        self.assertEqual([(one["label"], one["walks"]) for one in lists], [(label, "") for label in labels])
+
+    def test_walks_are_counted_as_far_as_the_program_may_be_asked(self):
+        with (
+            unittest.mock.patch("srv6tools.page_groups.LEAST_CALLS", 1),
+            unittest.mock.patch("srv6tools.page_groups.ENTRIES", 0),
+        ):
+            lists = data_of(self.page("--preferences", DOMAIN / "net.toml", DOMAIN / "red.toml"))["lists"]
+        self.assertEqual([one["walks"] for one in lists], ["", ""])
+
     def test_what_if(self):
         data = data_of(self.page(DOMAIN / "net.toml", DOMAIN / "what-if.json"))
         table = json.loads((DOMAIN / "what-if.json").read_text())
@@ -269,6 +329,23 @@ class View(ToolCase):
         ran = run_here("view", DOMAIN / "net.toml", self.file("wrong.json", json.dumps(small)))
         self.assertIn("failure 1, intent 1: `traffic` is no object", ran.err)
 
+    def test_what_if_of_nodes(self):
+        """A failure may have nodes, and a cell why there is no list, and the largest inner packet."""
+        table = json.loads((DOMAIN / "what-if.json").read_text())
+        small = table | {"failures": [table["failures"][0] | {"nodes": ["p1"]}], "cells": table["cells"][:1]}
+        small["cells"][0][0] |= {"why": "no SID of p1 is left", "largest_inner": 1460}
+        shown = data_of(self.page(DOMAIN / "net.toml", self.file("nodes.json", json.dumps(small))))
+        row = shown["tables"][0]["failures"][0]
+        self.assertEqual([shown["net"]["nodes"][node]["name"] for node in row["nodes"]], ["p1"])
+        told = [(cell["why"], cell["largest_inner"]) for cell in row["cells"]]
+        self.assertEqual(told, [("no SID of p1 is left", 1460)] + [("", None)] * 3)
+        for wrong, said in (({"nodes": ["p9"]}, "has no node 'p9'"), ({"nodes": "p1"}, "no list")):
+            small["failures"] = [table["failures"][0] | wrong]
+            ran = run_here("view", DOMAIN / "net.toml", self.file("wrong.json", json.dumps(small)))
+            self.assertEqual((ran.status, ran.out), (1, ""))
+            self.assertIn("failure 1: ", ran.err)
+            self.assertIn(said, ran.err)
+
     def test_what_if_example_is_what_its_script_writes(self):
         done = subprocess.run([DOMAIN / "what-if"], capture_output=True, text=True)
         said = [line for line in done.stderr.splitlines() if not line.endswith(" ..")]  # progress where there is other work
@@ -280,6 +357,8 @@ class View(ToolCase):
             ([M2, EXAMPLES / "srh.bin"], 2, "--at NODE"),
             ([M2, EXAMPLES / "srh.bin", "--at", "b"], 1, 'no node "b"'),
             ([M2, "--new", M2], 2, "needs an intent"),
+            ([M2, "--preferences"], 2, "needs an intent"),
+            (["--preferences", DOMAIN / "net.toml", INTENT], 1, "intent.toml: refused"),
             ([M2, EXAMPLES / "no-such"], 5, "No such file"),
             ([M2, EXAMPLES / "srh.bin", "--at", "B", "--choices", "x"], 2, "no list of numbers"),
             ([M2, self.file("a.json", '{"kind": "else"}')], 1, "what-if"),

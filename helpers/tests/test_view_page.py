@@ -197,6 +197,30 @@ class Page(PageCase):
         self.assertIn("no answer NoList", page.text("#list2"))
         self.is_quiet()
 
+    def test_both_preferences(self):
+        """What the two lists come to stands side by side, and where they differ is said by a sign too."""
+        page = self.opened("--preferences", NET, DOMAIN / "red.toml", DOMAIN / "no-list.toml")
+        self.assertEqual(page.texts("#comparison thead th"), ["red.toml, need", "red.toml, sids"])
+        self.assertEqual(page.texts("#comparison tbody tr"), [
+            "= Containers11", "\u2260 SIDs63", "= Header bytes in front4040", "= Hop limit lowered (need)66",
+            "= Walks over all choices44", "\u2260 Certificateform 1form 2", "\u2260 srv6 check saysleast 1 6least 1 3 6",
+        ])  # fmt: skip
+        self.assertEqual(len(page.texts("#comparison .differs")), 3)
+        self.assertEqual(page.texts(".list h2"), ["red.toml, need", "red.toml, sids"])
+        self.assertEqual([len(page.texts(f"#list{number} .sids li")) for number in (0, 1)], [6, 3])
+        for number, words in ((0, "as many and a smaller need"), (1, "as many and fewer SIDs")):
+            self.assertIn(words, page.text(f"#list{number} .verdict"))
+            self.assertIn("Packets spread over 4 walks.", page.text(f"#list{number}"))
+        page.click("#list1 .along")
+        self.assertIn("Packet 1, along red.toml, sids", page.text("#walker"))
+        for box in range(4):
+            page.click(f"#pick{box}")
+        self.assertEqual(page.texts("#comparison tbody tr")[0], "= Containersnonenone")
+        page.click("#pick2")
+        self.assertEqual((page.texts("#comparison"), page.texts(".list h2")), ([], ["no-list.toml, sids"]))
+        self.assertEqual(page.nameless(), [])
+        self.is_quiet()
+
     def test_what_if(self):
         table = json.loads((DOMAIN / "what-if.json").read_text())
         page = self.opened(NET, DOMAIN / "what-if.json")
@@ -222,6 +246,24 @@ class Page(PageCase):
         page.run("document.querySelector('.heatbox').scrollTop = 0")
         page.click("#cell0-1-0")
         self.assertEqual(len(page.texts(".link.broken")), 2)
+        self.is_quiet()
+
+    def test_what_if_of_nodes(self):
+        table = json.loads((DOMAIN / "what-if.json").read_text())
+        table["failures"][0] |= {"name": "p1", "nodes": ["p1"]}
+        table["cells"][0][0] |= {"state": "none", "why": "pe1 has no other SID", "largest_inner": 1460}
+        page = self.opened(NET, self.file("nodes.json", json.dumps(table)))
+        page.click("#cell0-0-0")
+        said = page.text("#cellsaid")
+        self.assertIn("pe1 has no other SID. The largest inner packet has 1460 bytes.", said)
+        broken = "return [...document.querySelectorAll('.node.broken')].map((one) => one.id)"
+        self.assertEqual(page.run(broken), ["node4"])
+        self.assertEqual(page.text("#legend"), "Crossed: links and nodes that failed")
+        page.press("left")
+        self.assertEqual(page.run(broken), ["node4"])
+        page.run("document.querySelector('.heatbox').scrollTop = 0")
+        page.click("#cell0-1-0")
+        self.assertEqual((page.run(broken), page.text("#legend")), ([], "Crossed: links that failed"))
         self.is_quiet()
 
     def breaks_as(self, end: str, links: list[str]) -> None:

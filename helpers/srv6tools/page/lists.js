@@ -33,11 +33,33 @@ function drawLists() {
   KIND.broken = null;
   const shown = [...KIND.lists].sort((one, other) => one - other).map((number) => DATA.lists[number]);
   byId("detail").replaceChildren(
+    ...(shown.length > 1 ? [comparison(shown)] : []),
     make("div", { class: "lists" }, ...shown.map((list) => listBox(list))),
     make("div", { id: "walker" }));
   if (shown.length) {
     markList(shown[0]);
   }
+}
+
+// What lists side by side come to, a row for each number; rows in which they differ have a sign.
+function comparison(shown) {
+  const has = (list, what) => (list.containers.length ? what : "none");
+  const rows = [
+    ["Containers", (list) => has(list, String(list.containers.length))],
+    ["SIDs", (list) => has(list, String(list.sids.length))],
+    ["Header bytes in front", (list) => has(list, String(list.header))],
+    ["Hop limit lowered (need)", (list) => has(list, String(list.need))],
+    ["Walks over all choices", (list) => list.walks || (list.containers.length ? "not counted" : "none")],
+    ["Certificate", (list) => `form ${list.form}`],
+    ["srv6 check says", (list) => list.check],
+  ].map(([what, tell]) => {
+    const told = shown.map(tell);
+    const differs = told.some((one) => one !== told[0]);
+    return make("tr", { class: differs ? "differs" : null }, make("th", { scope: "row" }, `${differs ? "\u2260" : "="} ${what}`),
+      ...told.map((one) => make("td", { class: "mono" }, one)));
+  });
+  return make("table", { id: "comparison" }, make("thead", {}, make("tr", {}, make("td", {}),
+    ...shown.map((list) => make("th", { scope: "col" }, list.label)))), make("tbody", {}, ...rows));
 }
 
 // Marks on the map the nodes that execute a list's SIDs, and draws the walk of the packet along it.
@@ -60,7 +82,8 @@ function listBox(list) {
   const isGood = list.containers.length > 0 && !list.refusal;
   box.append(make("p", { class: isGood ? "verdict" : "verdict no" }, make("code", { class: "check" }, list.check), " ", list.verdict,
     list.refusal ? make("span", { class: "bad" }, ` ${list.refusal}.`) : null));
-  box.append(make("p", {}, `From ${NET.nodes[list.headend] ? NET.nodes[list.headend].name : "?"}, ${list.inner} inside, ${list.mode} header: ${list.header} bytes in front, the hop limit ${list.hop_limit} is lowered ${count(list.need, "time")}.`));
+  box.append(make("p", {}, `From ${NET.nodes[list.headend] ? NET.nodes[list.headend].name : "?"}, ${list.inner} inside, ${list.mode} header: ${list.header} bytes in front, the hop limit ${list.hop_limit} is lowered ${count(list.need, "time")}.${list.walks ? ` Packets spread over ${count(list.walks, "walk")}.` : ""}`),
+    list.same ? make("p", { class: "same" }, `The same list as that of ${list.same}.`) : "");
   list.containers.forEach((container, at) => {
     const bar = make("div", { class: "bar", role: "img", "aria-label": `container ${at + 1}: ${container.address}` });
     for (const [from, bits, what, sid, digits] of container.bits) {

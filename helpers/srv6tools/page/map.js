@@ -380,6 +380,15 @@ function markLinks(numbers, how) {
   dressOver();
 }
 
+// Marks what failed, and says so.
+function markFailure(failure) {
+  markLinks(failure.links, "broken");
+  for (const number of failure.nodes) {
+    mark(MAP.nodes[number], "broken");
+  }
+  byId("legend").textContent = failure.nodes.length ? "Crossed: links and nodes that failed" : "Crossed: links that failed";
+}
+
 // Draws a walk up to a stage: what was sent before, what is sent now, and what comes later.
 function drawWalk(walk, now) {
   const sends = new Map();

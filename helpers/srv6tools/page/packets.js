@@ -97,8 +97,7 @@ function showWalk(number, stage) {
   }
   clearMap();
   if (KIND.broken) {
-    markLinks(KIND.broken, "broken");
-    byId("legend").textContent = "Crossed: links that failed";
+    markFailure(KIND.broken);
   }
   if (KIND.fan && walk.fan >= 0) {
     drawFan(DATA.fans[walk.fan]);

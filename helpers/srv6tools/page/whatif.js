@@ -64,8 +64,10 @@ function showCell(place, row, column) {
     old.removeAttribute("aria-current");
   }
   byId(`cell${place}-${row}-${column}`).setAttribute("aria-current", "true");
-  KIND.broken = failure.links;
-  const said = `Without ${failure.name}, ${table.intents[column]}: ${table.states[cell.state]} (${cell.answer}).`;
+  KIND.broken = failure;
+  const why = cell.why ? ` ${cell.why}.` : "";
+  const largest = cell.largest_inner === null ? "" : ` The largest inner packet has ${cell.largest_inner} bytes.`;
+  const said = `Without ${failure.name}, ${table.intents[column]}: ${table.states[cell.state]} (${cell.answer}).${why}${largest}`;
   announce(said);
   byId("cellsaid").replaceChildren(said, ...whenButtons(cell));
   byId("cellsaid").classList.remove("soft");
@@ -75,9 +77,8 @@ function showCell(place, row, column) {
     showTraffic(shown);
   } else {
     clearMap();
-    markLinks(failure.links, "broken");
+    markFailure(failure);
     byId("walker").replaceChildren();
-    byId("legend").textContent = "Crossed: links that failed";
   }
 }
 
