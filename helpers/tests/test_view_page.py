@@ -200,22 +200,24 @@ class Page(PageCase):
     def test_both_preferences(self):
         """What the two lists come to stands side by side, and where they differ is said by a sign too."""
         page = self.opened("--preferences", NET, DOMAIN / "red.toml", DOMAIN / "no-list.toml")
-        self.assertEqual(page.texts("#comparison thead th"), ["red.toml, need", "red.toml, sids"])
-        self.assertEqual(page.texts("#comparison tbody tr"), [
-            "= Containers11", "\u2260 SIDs63", "= Header bytes in front4040", "= Hop limit lowered (need)66",
-            "= Walks over all choices44", "\u2260 Certificateform 1form 2", "\u2260 srv6 check saysleast 1 6least 1 3 6",
+        self.assertEqual(page.texts("#comparison thead th"), [
+            "= Containers", "\u2260 SIDs", "= Header", "= Need", "= Walks", "\u2260 Certificate",
         ])  # fmt: skip
-        self.assertEqual(len(page.texts("#comparison .differs")), 3)
+        self.assertEqual(page.texts("#comparison tbody th"), ["red.toml, need", "red.toml, sids"])
+        self.assertEqual(page.texts("#comparison tbody td"), [
+            "1", "6", "40", "6", "2", "form 1: least 1 6", "1", "3", "40", "6", "2", "form 2: least 1 3 6",
+        ])  # fmt: skip
+        self.assertEqual(len(page.texts("#comparison .differs")), 6)
         self.assertEqual(page.texts(".list h2"), ["red.toml, need", "red.toml, sids"])
         self.assertEqual([len(page.texts(f"#list{number} .sids li")) for number in (0, 1)], [6, 3])
         for number, words in ((0, "as many and a smaller need"), (1, "as many and fewer SIDs")):
             self.assertIn(words, page.text(f"#list{number} .verdict"))
-            self.assertIn("Packets spread over 4 walks.", page.text(f"#list{number}"))
+            self.assertIn("Packets spread over 2 walks up to the hand-over.", page.text(f"#list{number}"))
         page.click("#list1 .along")
         self.assertIn("Packet 1, along red.toml, sids", page.text("#walker"))
         for box in range(4):
             page.click(f"#pick{box}")
-        self.assertEqual(page.texts("#comparison tbody tr")[0], "= Containersnonenone")
+        self.assertEqual(page.texts("#comparison tbody tr")[1], "no-list.toml, sidsnonenonenonenonenoneform 2: none")
         page.click("#pick2")
         self.assertEqual((page.texts("#comparison"), page.texts(".list h2")), ([], ["no-list.toml, sids"]))
         self.assertEqual(page.nameless(), [])

@@ -41,25 +41,26 @@ function drawLists() {
   }
 }
 
-// What lists side by side come to, a row for each number; rows in which they differ have a sign.
+// What lists side by side come to, a row each; a column in which they differ has a sign.
 function comparison(shown) {
-  const has = (list, what) => (list.containers.length ? what : "none");
-  const rows = [
-    ["Containers", (list) => has(list, String(list.containers.length))],
-    ["SIDs", (list) => has(list, String(list.sids.length))],
-    ["Header bytes in front", (list) => has(list, String(list.header))],
-    ["Hop limit lowered (need)", (list) => has(list, String(list.need))],
-    ["Walks over all choices", (list) => list.walks || (list.containers.length ? "not counted" : "none")],
-    ["Certificate", (list) => `form ${list.form}`],
-    ["srv6 check says", (list) => list.check],
-  ].map(([what, tell]) => {
+  const has = (list, what) => (list.containers.length ? String(what) : "none");
+  const columns = [
+    ["Containers", "of 16 bytes", (list) => has(list, list.containers.length)],
+    ["SIDs", "in all containers", (list) => has(list, list.sids.length)],
+    ["Header", "bytes in front of the inner packet", (list) => has(list, list.header)],
+    ["Need", "how often the hop limit is lowered up to the hand-over", (list) => has(list, list.need)],
+    ["Walks", "over all choices among equal next hops, up to the hand-over", (list) => list.walks || has(list, "not counted")],
+    ["Certificate", "its form, and what srv6 check says of it", (list) => `form ${list.form}: ${list.check}`],
+  ].map(([name, what, tell]) => {
     const told = shown.map(tell);
-    const differs = told.some((one) => one !== told[0]);
-    return make("tr", { class: differs ? "differs" : null }, make("th", { scope: "row" }, `${differs ? "\u2260" : "="} ${what}`),
-      ...told.map((one) => make("td", { class: "mono" }, one)));
+    return { name, what, told, differs: told.some((one) => one !== told[0]) };
   });
-  return make("table", { id: "comparison" }, make("thead", {}, make("tr", {}, make("td", {}),
-    ...shown.map((list) => make("th", { scope: "col" }, list.label)))), make("tbody", {}, ...rows));
+  const look = (column) => (column.differs ? "differs" : null);
+  return make("table", { id: "comparison" },
+    make("thead", {}, make("tr", {}, make("td", {}), ...columns.map((column) => make("th", { scope: "col", class: look(column), title: column.what },
+      `${column.differs ? "\u2260" : "="} ${column.name}`)))),
+    make("tbody", {}, ...shown.map((list, at) => make("tr", {}, make("th", { scope: "row" }, list.label),
+      ...columns.map((column) => make("td", { class: column.differs ? "mono differs" : "mono" }, column.told[at]))))));
 }
 
 // Marks on the map the nodes that execute a list's SIDs, and draws the walk of the packet along it.
@@ -82,7 +83,7 @@ function listBox(list) {
   const isGood = list.containers.length > 0 && !list.refusal;
   box.append(make("p", { class: isGood ? "verdict" : "verdict no" }, make("code", { class: "check" }, list.check), " ", list.verdict,
     list.refusal ? make("span", { class: "bad" }, ` ${list.refusal}.`) : null));
-  box.append(make("p", {}, `From ${NET.nodes[list.headend] ? NET.nodes[list.headend].name : "?"}, ${list.inner} inside, ${list.mode} header: ${list.header} bytes in front, the hop limit ${list.hop_limit} is lowered ${count(list.need, "time")}.${list.walks ? ` Packets spread over ${count(list.walks, "walk")}.` : ""}`),
+  box.append(make("p", {}, `From ${NET.nodes[list.headend] ? NET.nodes[list.headend].name : "?"}, ${list.inner} inside, ${list.mode} header: ${list.header} bytes in front, the hop limit ${list.hop_limit} is lowered ${count(list.need, "time")}.${list.walks ? ` Packets spread over ${count(list.walks, "walk")} up to the hand-over.` : ""}`),
     list.same ? make("p", { class: "same" }, `The same list as that of ${list.same}.`) : "");
   list.containers.forEach((container, at) => {
     const bar = make("div", { class: "bar", role: "img", "aria-label": `container ${at + 1}: ${container.address}` });
