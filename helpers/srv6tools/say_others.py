@@ -324,6 +324,10 @@ def explain_no_answer(why: str, number: int | None, net: str, intent: str) -> It
         yield f"the least list lowers the hop limit {number} times;"
         yield f"{intent} has {has} (`{key}`{own}), which has to be above {number}"
     yield from file.quote_root(key)
+    if why == "HopLimit" and file.root.get("prefer") == "sids":
+        yield 'it prefers few SIDs (`prefer = "sids"`): another list of as many containers may need less;'
+        yield 'with `prefer = "need"` srv6 finds the one that needs least'
+        yield from file.quote_root("prefer")
 
 
 def is_swapped(net: str, intent: str) -> bool:
