@@ -71,6 +71,14 @@ class Checker:
             last = place
         return certificate.bad
 
+    def judged(self, text: str) -> tuple[str, Status]:
+        """The line that `srv6 check` has for a text, on `err` where it is refused, and the status."""
+        certificate = certificate_in(text)
+        if bad := self.first_bad_line(certificate):
+            return f"refused 45 BadCert {bad}", Status.REFUSED
+        verdict = self.verdict(certificate)
+        return verdict, Status.SAYS_NO if verdict.startswith("no ") else Status.DONE
+
     def verdict(self, certificate: Certificate) -> str:
         """The line of `check`."""
         left: dict[State, Cost] = {
@@ -156,10 +164,6 @@ def _work(tool: str, words: argparse.Namespace) -> int:
     with progress(tool, "going through the states"):
         legs = legs_of(read_network(words.net), read_intent(words.intent))
         text = read_bytes(words.cert).decode("latin-1")
-        checker, certificate = Checker(legs), certificate_in(text)
-        if bad := checker.first_bad_line(certificate):
-            print(f"refused 45 BadCert {bad}", file=sys.stderr)
-            return Status.REFUSED
-        verdict = checker.verdict(certificate)
-    print(verdict)
-    return Status.SAYS_NO if verdict.startswith("no ") else Status.DONE
+        line, status = Checker(legs).judged(text)
+    print(line, file=sys.stderr if status == Status.REFUSED else sys.stdout)
+    return status

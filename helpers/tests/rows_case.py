@@ -4,11 +4,11 @@ import unittest
 from pathlib import Path
 
 from srv6tools.check_certificate import Checker
+from srv6tools.command import Status
 from srv6tools.compiling import compiled
 from srv6tools.description import read_network
 from srv6tools.intent import read_intent
 from srv6tools.loose import legs_of
-from srv6tools.report import certificate_in
 from support import HELPERS
 
 ROWS = HELPERS.parent / "crates" / "worked_rows" / "data"
@@ -33,12 +33,8 @@ def rows_are_answered(case: unittest.TestCase, kind: str) -> None:
 def _of_row(row: Path, words: list[str]) -> tuple[str, str, str]:
     net, intent = read_network(row / words[1]), read_intent(row / words[2])
     if words[0] == "check":
-        checker = Checker(legs_of(net, intent))
-        certificate = certificate_in((row / words[3]).read_text())
-        if bad := checker.first_bad_line(certificate):
-            return "", f"refused 45 BadCert {bad}\n", "1"
-        verdict = checker.verdict(certificate)
-        return f"{verdict}\n", "", "4" if verdict.startswith("no ") else "0"
+        line, status = Checker(legs_of(net, intent)).judged((row / words[3]).read_text())
+        return *(("", f"{line}\n") if status == Status.REFUSED else (f"{line}\n", "")), str(int(status))
     answer = compiled(net, intent)
     out = "".join(f"{line}\n" for line in answer.out)
     return out, f"{answer.err}\n" if answer.err else "", str(answer.status)
