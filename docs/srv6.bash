@@ -101,7 +101,7 @@ declare -gA _srv6_options=(
     [draw-walk]='--used --lines=file --new=file --new-lines=file'
     [from-bgp-ls]='--ask=any --keep=file --plan=file --block=any --addresses=any'
     [from-frr]='--addresses=any --block=any --plan=file'
-    [from-linux]='--ipv4=file --rules=file --sid-table=any --node=any --address=any --source=any --link=any'
+    [from-linux]='--ipv4=file --rules=file --ipv4-rules=file --vrfs=file --sid-table=any --node=any --address=any --source=any --link=any'
     [largest-inner]='--json'
     [linux-route]='--kernel=any'
     [name-links]=''

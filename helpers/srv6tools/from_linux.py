@@ -6,14 +6,14 @@ import argparse
 import re
 import sys
 from collections.abc import Iterable, Iterator, Sequence
-from ipaddress import IPv6Address, IPv6Network
+from ipaddress import IPv6Address
 
 from .command import Fault, Parser, Status, progress, run_tool
 from .files import INPUT_LIMIT, STDIN, read_bytes, read_input
-from .ip_json import LOCAL, LinuxRoute, Prefix, Unread, routes_in, rules_in
+from .ip_json import LOCAL, LinuxRoute, LinuxRule, Unread, routes_in, rules_in
 from .items import address_of
-from .linux import MAIN_TABLE, OWN_TABLES
 from .linux_reading import Links, Reading, tables_of
+from .linux_rules import Vrfs, put_before_main, rules_before_main, vrfs_in
 from .toml_writer import lined_text
 
 TOOL = "from-linux"
@@ -32,9 +32,12 @@ Several nodes make a network: their texts one after the other, where --link says
   ip -6 -j route show table all > six; ip -4 -j route show table all > four
   from-linux --node A --ipv4 four --link eth0=ab:B six > a.toml
 
-Where SIDs stand in a table of their own, `ip -6 -j rule > rules` and --rules rules find it; a rule
-counts that asks for a destination alone and comes before the main table's. Where all SIDs are left
-out for their tables the status is 3.
+Routes of other tables than the main one, as of VRFs, are routes of tables of these numbers. Where
+rules lead packets to some destinations into a table before the main one, `ip -6 -j rule > rules` and
+--rules rules put what they find there into table 0 too; other rules are named. `ip -d -j link > links`
+and --vrfs links say which interfaces belong to VRFs: packets that come in there are looked up in
+their tables, which a description can't say. Where all SIDs are left out for their tables the status
+is 3.
 
 What is known of Linux is that of 6.18, whose output was read, with iproute2 6.1."""
 
@@ -90,24 +93,13 @@ def listed(name: str, family: int, notes: list[str]) -> Iterator[LinuxRoute]:
             yield route
 
 
-def sid_tables(words: argparse.Namespace, notes: list[str]) -> dict[int, list[Prefix]]:
-    """The tables in which packets look for SIDs before the main one: those that words name, or rules."""
-    found: dict[int, list[Prefix]] = {table: [IPv6Network("::/0")] for table in words.sid_table or ()}
-    if not words.rules:
-        return found
-    rules = []
-    for rule in rules_in(read_bytes(words.rules, INPUT_LIMIT), words.rules):
-        if isinstance(rule, Unread):
-            notes.append(f"{words.rules}: rule {rule.number}: {rule.why}")
-        else:
-            rules.append(rule)
-    for rule in sorted(rules, key=lambda rule: rule.priority):
-        if rule.more and rule.table not in OWN_TABLES:
-            notes.append(f"{words.rules}: {rule}: it asks for more than a destination ({', '.join(rule.more)})")
-        elif rule.table == MAIN_TABLE:
-            break
-        elif not rule.more and rule.table not in OWN_TABLES:
-            found.setdefault(rule.table, []).append(rule.prefix)
+def asked_first(words: argparse.Namespace, notes: list[str]) -> list[LinuxRule]:
+    """The rules that lead into tables before the main one."""
+    found = []
+    for path, family in ((words.rules, 6), (words.ipv4_rules, 4)):
+        if path:
+            rules = rules_in(read_bytes(path, INPUT_LIMIT), path, family)
+            found += rules_before_main(rules, path, bool(words.vrfs), notes)
     return found
 
 
@@ -117,9 +109,11 @@ def described(words: argparse.Namespace, notes: list[str]) -> tuple[str, bool]:
     if words.ipv4:
         routes += listed(words.ipv4, 4, notes)
     address = words.address or own_address(routes)
+    vrfs = vrfs_in(read_bytes(words.vrfs, INPUT_LIMIT), words.vrfs) if words.vrfs else Vrfs()
+    notes += vrfs.notes(words.vrfs)
+    routes = put_before_main(routes, asked_first(words, notes), notes)
     links = Links(words.node, dict(words.link or ()))
-    tables = sid_tables(words, notes)
-    reading = Reading(words.node, address, words.source or address, links, routes, tables)
+    reading = Reading(words.node, address, words.source or address, links, routes, frozenset(words.sid_table or ()), vrfs.tables)
     reading.made.notes = notes
     reading.read()
     return lined_text(tables_of(reading)), bool(reading.made.elsewhere and not reading.made.sids)
@@ -151,7 +145,9 @@ def main(words: Sequence[str] | None = None) -> int:
     parser = Parser(TOOL, DESCRIPTION, MORE)
     parser.add_argument("routes", metavar="IN", nargs="?", default="-", help="the JSON of ip")
     parser.add_argument("--ipv4", metavar="FILE", help="JSON of ip -4 -j route show table all")
-    parser.add_argument("--rules", metavar="FILE", help="JSON of ip -6 -j rule, which may lead to SIDs in other tables")
+    parser.add_argument("--rules", metavar="FILE", help="JSON of ip -6 -j rule, which may lead into other tables")
+    parser.add_argument("--ipv4-rules", metavar="FILE", help="JSON of ip -4 -j rule")
+    parser.add_argument("--vrfs", metavar="FILE", help="JSON of ip -d -j link, which has the VRFs")
     parser.add_argument(
         "--sid-table", metavar="N", type=table_word, action="append",
         help="a table beside the main one whose SIDs are taken",

@@ -53,17 +53,20 @@ class LinuxRoute:
 
 @dataclass(frozen=True)
 class LinuxRule:
-    """A rule of Linux that names a table: for which destinations, and what more it asks for."""
+    """A rule of Linux: for which destinations, what it does, and what more it asks for."""
 
     number: int  # in the list, from 1
     priority: int
     prefix: Prefix
-    table: int
+    table: int | None  # in which packets are looked up; None where it does something else
     more: tuple[str, ...] = ()
     """What it asks for beside the destination, in words."""
+    action: str = "lookup"
+    """`lookup`, `l3mdev`, `goto N`, or how it drops."""
 
     def __str__(self) -> str:
-        return f"rule {self.number} to {self.prefix}, which names table {self.table}"
+        does = f"which names table {self.table}" if self.table is not None else self.action
+        return f"rule {self.number} to {self.prefix}, {does}"
 
 
 @dataclass(frozen=True)
@@ -95,7 +98,7 @@ def routes_in(content: bytes, name: str, family: int) -> Iterator[LinuxRoute | U
 
 
 def rules_in(content: bytes, name: str, family: int = 6) -> Iterator[LinuxRule | Unread]:
-    """The rules of the JSON of `ip` that name a table."""
+    """The rules of the JSON of `ip`."""
     try:
         listed = json.loads(decoded(content, name))
     except (ValueError, RecursionError):
@@ -103,8 +106,6 @@ def rules_in(content: bytes, name: str, family: int = 6) -> Iterator[LinuxRule |
     if not isinstance(listed, list) or not all(isinstance(one, dict) for one in listed):
         raise Fault(f"{name}: no list of rules, as `ip -6 -j rule` writes it")
     for number, values in enumerate(listed, 1):
-        if "table" not in values:
-            continue
         try:
             yield _rule(number, values, family)
         except ValueError as fault:
@@ -115,11 +116,13 @@ def _rule(number: int, values: dict[str, Any], family: int) -> LinuxRule:
     prefix = "default"
     if (address := values.get("dst", "all")) != "all":
         prefix = f"{address}/{values['dstlen']}" if "dstlen" in values else str(address)
-    known = ("priority", "dst", "dstlen", "table", "protocol")
+    known = ("priority", "dst", "dstlen", "table", "protocol", "l3mdev", "goto", "action")
     more = [key for key in values if key not in known and not (key == "src" and values[key] == "all")]
-    return LinuxRule(
-        number, _number(values.get("priority", 0), "priority"), _prefix(prefix, family), table_of(values["table"]), tuple(more)
-    )
+    priority, table = _number(values.get("priority", 0), "priority"), None
+    action = "l3mdev" if "l3mdev" in values else f"goto {values['goto']}" if "goto" in values else str(values.get("action", "lookup"))
+    if action == "lookup":
+        table = table_of(values.get("table"))
+    return LinuxRule(number, priority, _prefix(prefix, family), table, tuple(more), action)
 
 
 def _is_object(value: Any) -> bool:

@@ -108,12 +108,16 @@ class Reading:
     source: IPv6Address
     links: Links
     routes: list[LinuxRoute]
-    sid_tables: dict[int, list[Prefix]] = field(default_factory=dict)
-    """The tables beside the main one whose SIDs are taken, with the prefixes for which packets look up there first."""
+    sid_tables: frozenset[int] = frozenset()
+    """The tables beside the main one whose SIDs are taken."""
+    vrfs: dict[str, int] = field(default_factory=dict)
+    """The tables of VRFs, by the device."""
     made: Made = field(default_factory=Made)
 
     def __post_init__(self) -> None:
         self.matches = BestMatch(self.routes)
+        self.dropped: dict[tuple[int, Prefix], int] = {}
+        self.in_main = {(route.number, route.prefix.version) for route in self.routes if route.table == MAIN_TABLE}
         self.neighbours = set(self._neighbours())
         count: dict[tuple[str, int], int] = {}
         for interface, address in self.neighbours:
@@ -144,7 +148,8 @@ class Reading:
         if self._is_linux_own(route):
             return
         if route.kind != UNICAST:
-            raise LeftOut(f"a description has no {route.kind} routes")
+            self._take_drop(route)
+            return
         if route.encap == "seg6local":
             self._take_sid(route)
         elif route.encap or any(hop.encap for hop in route.hops):
@@ -152,6 +157,13 @@ class Reading:
             raise LeftOut(f"it encapsulates ({encap}); `srv6 walk` does so by an intent")
         elif not self._is_of_a_neighbour(route):
             self._take_route(route)
+
+    def _take_drop(self, route: LinuxRoute) -> None:
+        """A route by which packets are dropped: at the end of a table that is what becomes of them anyway."""
+        key = 0 if route.table == MAIN_TABLE else route.table, route.prefix
+        self.dropped.setdefault(key, route.metric)
+        if route.kind != "unreachable" or route.prefix.prefixlen:
+            raise LeftOut(f"a description has no {route.kind} routes")
 
     def _is_linux_own(self, route: LinuxRoute) -> bool:
         """Whether each router of Linux has it, or it only tells of an address of its own."""
@@ -182,8 +194,10 @@ class Reading:
         if not route.hops:
             raise LeftOut("it names no interface")
         table = self._table(route.table)
-        if table and self._is_asked_first(route):
-            self.made.note(route, "packets look it up before the main table, which a description can't say of a route")
+        if self.dropped.get((table, route.prefix), route.metric) < route.metric:
+            raise LeftOut("a route of a lower metric drops packets to the prefix")
+        if route.table in self.sid_tables:
+            self.made.note(route, "it stays in that table, of which SIDs alone are taken (--sid-table)")
         if len({hop.weight for hop in route.hops}) > 1:
             self.made.note(route, "the weights of its next hops are left out; they are equal here")
         via = list(dict.fromkeys(self._link_of(hop) for hop in route.hops))
@@ -199,7 +213,12 @@ class Reading:
     def _link_of(self, hop: NextHop) -> str:
         if hop.interface == "lo":
             raise LeftOut("it leads to the interface lo")
-        return self.links.of(hop.interface, hop.gateway)
+        return self._link(hop.interface, hop.gateway)
+
+    def _link(self, interface: str, neighbour: str | None) -> str:
+        if interface in self.vrfs:
+            raise LeftOut(f"it leads into table {self.vrfs[interface]}, of the VRF {interface}, and a description has no such links")
+        return self.links.of(interface, neighbour)
 
     def _table(self, table: int) -> int:
         """The number that a description has for a table of Linux."""
@@ -210,7 +229,9 @@ class Reading:
         return table
 
     def _take_sid(self, route: LinuxRoute) -> None:
-        if route.table != MAIN_TABLE and not self._is_asked_first(route):
+        if route.table != MAIN_TABLE and route.table not in self.sid_tables:
+            if (route.number, route.prefix.version) in self.in_main:
+                return  # a rule leads there
             self.made.elsewhere += 1
             raise LeftOut("SIDs of a description are in table 0, Linux' main table (--rules and --sid-table take those of others)")
         if not isinstance(route.prefix, IPv6Network) or route.prefix.prefixlen == 0:
@@ -219,11 +240,6 @@ class Reading:
             raise LeftOut("another SID of the prefix has a lower metric")
         item: dict[str, Any] = {"node": self.node, "prefix": str(route.prefix)}
         self.made.sids[route.prefix] = item | self._behaviour(route) | self._flavours(route)
-
-    def _is_asked_first(self, route: LinuxRoute) -> bool:
-        """Whether packets to the route's prefix look it up in its table before the main one."""
-        prefixes = [one for one in self.sid_tables.get(route.table, ()) if one.version == route.prefix.version]
-        return any(route.prefix.subnet_of(one) for one in prefixes)  # type: ignore[arg-type]
 
     def _behaviour(self, route: LinuxRoute) -> dict[str, Any]:
         action, words = str(route.action.get("action")), route.action
@@ -265,7 +281,7 @@ class Reading:
         interface = self._interface_to(route, neighbour)
         if interface is None:
             raise LeftOut(f"no route leads to its next hop {neighbour}")
-        return {"behaviour": action, "links": [self.links.of(interface, str(neighbour))]}
+        return {"behaviour": action, "links": [self._link(interface, str(neighbour))]}
 
     def _interface_to(self, route: LinuxRoute, neighbour: Address) -> str | None:
         """The interface over which a next hop is reached: `oif`, or that of the best match."""
