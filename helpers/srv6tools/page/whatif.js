@@ -2,14 +2,14 @@
 
 const SIGNS = { kept: "=", other: "\u2260", none: "\u2715", refused: "!" };
 
+const HEAT = { box: null }; // the tables, which are made once: they may have thousands of cells
+
 function showTables() {
   pane("whatif", () => DATA.tables.flatMap(tableSums));
-  const detail = make("div", { class: "split" });
-  const box = make("div", { class: "heatbox" });
-  byId("detail").replaceChildren(detail);
-  DATA.tables.forEach((table, place) => box.append(heatTable(table, place)));
+  HEAT.box = HEAT.box || make("div", { class: "heatbox" }, ...DATA.tables.map(heatTable));
+  leaveCell();
   const said = make("p", { id: "cellsaid", class: "soft" }, "A click on a cell shows its walk here.");
-  detail.append(box, make("div", {}, said, make("div", { id: "walker" })));
+  byId("detail").replaceChildren(make("div", { class: "split" }, HEAT.box, make("div", {}, said, make("div", { id: "walker" }))));
   clearMap();
   byId("legend").textContent = "A click on a cell shows the failure and the walk there";
 }
@@ -29,12 +29,37 @@ function tableSums(table) {
     make("p", { class: "soft" }, "In a cell: the sign, the containers and the need of the list that is the least one then, and what becomes of a packet that still has the list from before (\u00d7 where it is lost): at first, while routes are the old ones and only next hops are left out that are gone, and later, once routes are found anew.")];
 }
 
+function leaveCell() {
+  const old = HEAT.box.querySelector('.cell[aria-current="true"]');
+  if (old) {
+    old.removeAttribute("aria-current");
+  }
+}
+
+// A table whose rows are laid out once they are seen, so that their columns have widths by the names above them.
 function heatTable(table, place) {
+  const widths = [["without", ...table.failures.map((failure) => failure.name)], ...table.intents.map((intent) => [intent])]
+    .map((names) => Math.max(...names.map((name) => name.length)));
+  const columns = widths.map((letters, at) => `${Math.max(at ? 5.2 : 4, Math.min(letters * 0.56 + 1, 18)).toFixed(1)}em`);
   const head = make("tr", {}, make("th", { scope: "col" }, "without"),
-    ...table.intents.map((intent) => make("th", { scope: "col" }, intent)));
-  const rows = table.failures.map((failure, row) => make("tr", {}, make("th", { scope: "row" }, failure.name),
+    ...table.intents.map((intent) => make("th", { scope: "col", title: intent }, intent)));
+  const rows = table.failures.map((failure, row) => make("tr", {}, make("th", { scope: "row", title: failure.name }, failure.name),
     ...failure.cells.map((cell, column) => make("td", {}, cellButton(table, place, row, column)))));
-  return make("table", { class: "heat", id: `heat${place}` }, make("thead", {}, head), make("tbody", {}, ...rows));
+  const heat = make("table", { class: "heat", id: `heat${place}`, style: `--columns: ${columns.join(" ")}` },
+    make("thead", {}, head), make("tbody", {}, ...rows));
+  heat.addEventListener("click", (event) => {
+    const cell = event.target.closest(".cell");
+    if (cell) {
+      showCell(...cell.id.slice("cell".length).split("-").map(Number));
+    }
+  });
+  heat.addEventListener("mouseover", (event) => {
+    const cell = event.target.closest(".cell");
+    if (cell) {
+      cell.title = cell.getAttribute("aria-label");
+    }
+  });
+  return heat;
 }
 
 function cellButton(table, place, row, column) {
@@ -44,8 +69,7 @@ function cellButton(table, place, row, column) {
   const ends = [["at first", cell.at_once], ["later", cell.traffic]].filter(([, one]) => one).map(([when, one]) => `; packet ${when}: ${one.end}`);
   const label = `without ${table.failures[row].name}, ${table.intents[column]}: ${table.states[cell.state]}, ${cell.answer}${ends.join("")}`;
   return make("button", {
-    type: "button", class: `cell ${cell.state}`, id: `cell${place}-${row}-${column}`, title: label,
-    "aria-label": label, on: () => showCell(place, row, column),
+    type: "button", class: `cell ${cell.state}`, id: `cell${place}-${row}-${column}`, "aria-label": label,
   }, `${SIGNS[cell.state]}${size}`, make("small", { class: lost ? "bad" : "" }, told));
 }
 
@@ -60,9 +84,7 @@ function showCell(place, row, column) {
   const table = DATA.tables[place];
   const failure = table.failures[row];
   const cell = failure.cells[column];
-  for (const old of document.querySelectorAll('.cell[aria-current="true"]')) {
-    old.removeAttribute("aria-current");
-  }
+  leaveCell();
   byId(`cell${place}-${row}-${column}`).setAttribute("aria-current", "true");
   KIND.broken = failure;
   const why = cell.why ? ` ${cell.why}.` : "";
