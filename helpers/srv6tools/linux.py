@@ -15,8 +15,8 @@ from ipaddress import IPv4Address, IPv6Network
 from .command import Fault, Status
 
 KERNEL_HELP = "6.1 or later; without it the running one"
-MAIN_TABLE = 254
-OWN_TABLES = {253: "default", 254: "main", 255: "local"}
+MAIN_TABLE, LOCAL_TABLE = 254, 255
+OWN_TABLES = {253: "default", MAIN_TABLE: "main", LOCAL_TABLE: "local"}
 INTERFACE_NAME_LIMIT = 15  # bytes
 NEXT_HOPS_6 = IPv6Network("fdff:ffff:ffff:ffff::/64")
 NEXT_HOPS_4 = IPv4Address("169.254.0.0")

@@ -10,9 +10,8 @@ from ipaddress import IPv4Address, IPv6Address, IPv6Network, ip_address
 from typing import Any
 
 from .ip_json import LOCAL, UNICAST, LinuxRoute, NextHop, Prefix, object_of, table_of
-from .linux import MAIN_TABLE, OWN_TABLES
+from .linux import LOCAL_TABLE, MAIN_TABLE, OWN_TABLES
 
-LOCAL_TABLE = 255
 BLOCK_LENGTHS = (16, 32, 48, 64)
 Address = IPv6Address | IPv4Address
 

@@ -11,7 +11,7 @@ from typing import Any
 from .command import Fault
 from .files import decoded
 from .ip_json import LinuxRoute, LinuxRule, Prefix, Unread, table_of
-from .linux import MAIN_TABLE, OWN_TABLES
+from .linux import LOCAL_TABLE, MAIN_TABLE
 
 
 def rules_before_main(rules: Iterable[LinuxRule | Unread], name: str, has_vrfs: bool, notes: list[str]) -> list[LinuxRule]:
@@ -28,9 +28,9 @@ def rules_before_main(rules: Iterable[LinuxRule | Unread], name: str, has_vrfs: 
     for rule in sorted(read, key=lambda rule: rule.priority):
         if why := _left_out(rule, has_vrfs):
             notes.append(f"{name}: {rule}: {why}")
-        elif rule.table == MAIN_TABLE and not rule.more:
+        elif rule.table == MAIN_TABLE and not rule.prefix.prefixlen:
             break
-        elif rule.table is not None and rule.table not in OWN_TABLES:
+        elif rule.table not in (None, LOCAL_TABLE):
             found.append(rule)
     return found
 
@@ -44,7 +44,7 @@ def _left_out(rule: LinuxRule, has_vrfs: bool) -> str:
         )  # fmt: skip
     if rule.action != "lookup":
         return f"a description has no rules that do so ({rule.action})"
-    if rule.more and rule.table not in OWN_TABLES:
+    if rule.more and rule.table != LOCAL_TABLE:
         return f"it asks for more than a destination ({', '.join(rule.more)})"
     return ""
 

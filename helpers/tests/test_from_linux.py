@@ -174,7 +174,7 @@ class FromLinux(ToolCase):
                 LinuxRoute(number, "unicast", one, table, (NextHop(f"e{number}"),))
                 for number, (table, one) in enumerate(sorted(prefixes))
             ]
-            rules = [LinuxRule(number, number, prefix(), chance.choice((10, 11))) for number in range(chance.randrange(4))]
+            rules = [LinuxRule(number, number, prefix(), chance.choice((10, 11, MAIN_TABLE))) for number in range(chance.randrange(4))]
             notes: list[str] = []
             made = put_before_main(routes, rules, notes)
             hidden += bool(notes)
@@ -206,6 +206,20 @@ class FromLinux(ToolCase):
             (line,) = [line for line in said.splitlines() if f"rule {number} " in line]
             self.assertIn(text, line)
         self.assertEqual(len(said.splitlines()), 6)
+
+    def test_rules_that_name_the_main_table(self):
+        """One for some destinations doesn't end what is asked before it for others."""
+        rules = [
+            {"priority": 1, "src": "all", "dst": "fc01::", "dstlen": 16, "table": "main"},
+            {"priority": 2, "src": "all", "table": "main", "suppress_prefixlen": 0},
+            {"priority": 3, "src": "all", "dst": "fc00::", "dstlen": 8, "table": "7"}, {"priority": 4, "src": "all", "table": "main"},
+            {"priority": 5, "src": "all", "dst": "fd00::", "dstlen": 8, "table": "7"},
+        ]  # fmt: skip
+        listed = [{"dst": "fc01::/16", "dev": "a"}, {"dst": "default", "dev": "b", "table": "7"}]
+        net, said = self.described(listed, "--rules", self.file("rules", json.dumps(rules)))
+        found = {str(route.prefix): route.via for route in net.routes if not route.table}
+        self.assertEqual(found, {"fc01::/16": ("a",), "fc00::/8": ("b",)})
+        self.assertIn("rule 2 to ::/0, which names table 254: it asks for more than a destination (suppress_prefixlen)", said)
 
     def test_rules_of_ipv4(self):
         listed = [
