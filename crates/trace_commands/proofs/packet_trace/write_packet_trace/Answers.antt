@@ -1,6 +1,7 @@
 use Rattle.std.proofs.Common.{[], ◌∷◌}
 use Rattle.std.proofs.lemmas.Result.{err_from_is_err_and}
 use Rattle.srx_edge.specs.CallSteps.{Whole}
+use Rattle.srx_edge.proofs.PublicLaws.{cut_none}
 use Rattle.srv6_rules.specs.Packet.{entered}
 use Rattle.command_output.specs.CommandAnswers.{ending_of_failure}
 use Rattle.command_output.specs.GatheredTerms.{pooled}
@@ -12,6 +13,20 @@ use Rattle.run_commands.proofs.PublicLaws.{out_alone}
 use Rattle.trace_replay.specs.Written.{trace_text}
 use Rattle.trace_commands.specs.TraceCommand.{traced_as}
 use Rattle.trace_commands.proofs.packet_trace.write_packet_trace.Goals as goal
+
+pub returns-in_err-entering : goal.returns-in_err-entering
+returns-in_err-entering g c =
+    let p = err_from_is_err_and c.from_residual.result c.from_residual.ensures.1 in
+    let a = c.args in
+    rw (p.1, p.2) (cut_none (trace_text a.net.now (traced_as a.node a.choices.now 1 a.family (entered a.family a.packet.now) ∷ []))
+    (g.O.Sink.seen a.out.now))
+
+pub returns-in_err-pool : goal.returns-in_err-pool
+returns-in_err-pool g c =
+    let p = err_from_is_err_and c.from_residual-in_err-pool.result c.from_residual-in_err-pool.ensures.1 in
+    let a = c.args in
+    rw (p.1, p.2) (cut_none (trace_text a.net.now (traced_as a.node a.choices.now 1 a.family (entered a.family a.packet.now) ∷ []))
+    (g.O.Sink.seen a.out.now))
 
 pub returns-in_err-put_packet_trace : goal.returns-in_err-put_packet_trace
 returns-in_err-put_packet_trace g c =
