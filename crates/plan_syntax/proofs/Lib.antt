@@ -1,0 +1,2 @@
+pub mod PlanListReading
+pub mod PlanCounts

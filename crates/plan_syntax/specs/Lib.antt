@@ -1,0 +1,4 @@
+pub mod PlanWords
+pub mod PlanFaults
+pub mod PlanTree
+pub mod PlanText
