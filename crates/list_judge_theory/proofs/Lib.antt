@@ -1,6 +1,3 @@
-pub mod ReadingFull
-pub mod ReadingPacked
-pub mod ReadingLists
 pub mod LastPlaces
 pub mod CoursePaths
 pub mod EarlyPaths

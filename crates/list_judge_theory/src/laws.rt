@@ -8,16 +8,9 @@ ghost use Rattle.intent_reader.specs.IntentRules.{has_reach};
 ghost use Rattle.intent_reader.specs.IntentRulesTerms.{IsIntent};
 ghost use Rattle.intent_reader.specs.declared.intent.Intent.{Intent};
 ghost use Rattle.list_pack.specs.declared.types.Container.{Container};
-ghost use Rattle.list_pack.specs.SidLists.{IsLegalList, list_values, prefixes_in};
+ghost use Rattle.list_pack.specs.SidLists.{IsLegalList, prefixes_in};
 ghost use Rattle.intent_compiler.specs.IntentLegs.{ListRealizesFor, intent_legs_value};
 ghost use Rattle.list_judge_theory.specs.ListCourses.{Course, tail_of};
-
-/// In a flat network no two legal lists are spelled alike: with the same values, in order, they have
-/// the same containers and SIDs (RFC 9800 sections 4.1 and 4.2, and own rules).
-pub fn segments_spell_one_list()
-    ensures { (net : Network) (a b : List Container) → IsNetwork net → IsFlat net
-        → IsLegalList net a → IsLegalList net b → list_values net a ≡ list_values net b → a ≡ b }
-{}
 
 /// A legal list of a flat network realizes an intent, with a need, exactly where there is a course
 /// along its SIDs with as many hops: legs of the intent from SID to SID and a finish. The finish is

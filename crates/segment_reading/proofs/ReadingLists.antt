@@ -12,9 +12,9 @@ use Rattle.list_pack.specs.declared.types.Container.{Container}
 use Rattle.list_pack.specs.declared.types.Container.TheVariants.{Full, Packed}
 use Rattle.list_pack.specs.SidLists.{IsLegalList, IsSidPrefix, KeepsNests, container_in, list_in, list_sid, list_values, prefixes_in}
 use Rattle.list_pack.proofs.PublicLaws.{flat_lists, legal_flat}
-use Rattle.list_judge_theory.specs.Readings.{AreAt, IsAt, asked_behind}
-use Rattle.list_judge_theory.proofs.ReadingFull.{first_same, more_same}
-use Rattle.list_judge_theory.proofs.ReadingPacked.{packed_same, packed_width}
+use Rattle.segment_reading.specs.Readings.{AreAt, IsAt, asked_behind}
+use Rattle.segment_reading.proofs.ReadingFull.{first_same, more_same}
+use Rattle.segment_reading.proofs.ReadingPacked.{packed_same, packed_width}
 
 heads : {X : Type 0} (a b : X) (xs ys : List X) → Path (List X) (a ∷ xs) (b ∷ ys) → (a ≡ b) × (xs ≡ ys)
 heads a b xs ys e = (cc, cc)

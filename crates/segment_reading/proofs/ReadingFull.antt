@@ -28,7 +28,7 @@ use Rattle.list_pack.proofs.PublicLaws.{legal_flat}
 use Rattle.leg_table.specs.NestLegsTerms.{PlaceKeeps}
 use Rattle.leg_table.proofs.FlatNets.{FlatFacts, flat_facts}
 use Rattle.leg_table.proofs.OwnPlaces.{first_keeps, list_keeps, own_at}
-use Rattle.list_judge_theory.specs.Readings.{IsFullAt, LongestOf}
+use Rattle.segment_reading.specs.Readings.{IsFullAt, LongestOf}
 
 pub prefix_same : (p q : PrefixValue) → p.value ≡ q.value → p.len ≡ q.len → p ≡ q
 prefix_same p q e f = ap (λ (v : ℕ). record p { value = v }) e ∙ ap (λ (l : ℕ). record p { value = q.value; len = l }) f

@@ -1,14 +1,16 @@
 -- Need not be believed: helps proofs and other laws.
 -- How lists are read back from their values.
-use Rattle.std.specs.Prelude.{◌≡◌, ℕ, ◌+◌, ◌<◌, ◌≤◌, List, [], ◌∷◌, map, All, Option, Some, None, slice_get}
+use Rattle.std.specs.Prelude.{◌≡◌, ◌≢◌, ◌⊎◌, ℕ, ◌+◌, ◌<◌, ◌≤◌, Bool, true, false, ◌==◌, ◌&&◌, List, [], ◌∷◌, map, All, Option, Some, None, slice_get}
 use Rattle.v6_addr.specs.Address.{PrefixValue, Holds, IsInside}
-use Rattle.srv6_rules.specs.Compressed.{csid_of}
+use Rattle.v6_addr.specs.AddressTerms.{IsPrefix}
+use Rattle.v6_addr.specs.declared.address.Addr.{Addr}
+use Rattle.srv6_rules.specs.Compressed.{argument_of, csid_of, shift_of}
 use Rattle.srv6_rules.specs.CompressedTerms.{IsCsidLen}
 use Rattle.srv6_rules.specs.declared.sid.Csid.TheVariants.{Replace}
 use Rattle.srv6_rules.specs.declared.sid.SidEntry.{SidEntry}
 use Rattle.net_model.specs.Network.{Network}
 use Rattle.net_model.specs.declared.parts.Block.{Block}
-use Rattle.sid_list_spec.specs.SegmentLists.{SidBlock, Follow, IsPacked, full_value, packed_value}
+use Rattle.sid_list_spec.specs.SegmentLists.{SidBlock, Follow, IsPacked, block_len, full_value, packed_value}
 use Rattle.sid_list_theory.specs.SegmentListsTerms.{IsFlatSid, IsFlatList}
 use Rattle.list_pack.specs.declared.types.Container.{Container}
 use Rattle.list_pack.specs.declared.types.Container.TheVariants.{Full, Packed}
@@ -78,3 +80,25 @@ pub record AreAt (net : Network) (asked : Option SidBlock) (list : List Containe
   pub named : All (IsSidPrefix net) (prefixes_in list)
   pub nests : All (KeepsNests net) list
   pub values : list_values net list ≡ told
+
+-- ---- what the code's steps find
+
+-- the address with which the SID after one comes in a full container: what is behind the one is moved up to its block; none where nothing is
+-- behind it, or where it isn't longer than its block
+abbrev pub NextAt : Network → PrefixValue → ℕ → Option Addr → Type 0
+NextAt net p address None = (argument_of address p.len ≡ 0) ⊎ (p.len ≤ block_len (list_sid net p).block)
+NextAt net p address (Some next) =
+    (argument_of address p.len ≢ 0) × (next.value ≡ shift_of address (block_len (list_sid net p).block) p.len)
+
+-- the prefix of a SID of a block with a CSID, of the first SIDs, so many
+abbrev pub PrefixWith : List SidEntry → ℕ → Block → ℕ → Option PrefixValue → Type 0
+PrefixWith sids count b csid None =
+    (n : ℕ) (s : SidEntry) → n < count → slice_get sids n ≡ Some s → ¬ HasCsid b.prefix b.csid csid s.prefix
+PrefixWith sids count b csid (Some p) = IsPrefix p × HasCsid b.prefix b.csid csid p
+
+-- two lists of addresses have the same values
+abbrev pub equal_values : List Addr → List Addr → Bool
+equal_values [] [] = true
+equal_values [] (b ∷ bs) = false
+equal_values (a ∷ rest) [] = false
+equal_values (a ∷ rest) (b ∷ bs) = (a.value == b.value) && equal_values rest bs

@@ -15,8 +15,8 @@ use Rattle.sid_list_spec.specs.SegmentLists.{ListSid, SidBlock, prefix_of}
 use Rattle.sid_list_theory.specs.SegmentListsTerms.{IsFlatSid}
 use Rattle.sid_list_theory.proofs.Sids.{replace_sid}
 use Rattle.list_pack.specs.SidLists.{list_sid}
-use Rattle.list_judge_theory.specs.Readings.{HasCsid, IsPackedAt}
-use Rattle.list_judge_theory.proofs.ReadingFull.{prefix_same}
+use Rattle.segment_reading.specs.Readings.{HasCsid, IsPackedAt}
+use Rattle.segment_reading.proofs.ReadingFull.{prefix_same}
 
 -- ---- a prefix by its CSID
 

@@ -1,5 +1,0 @@
-use Rattle.list_judge_theory.proofs.ReadingLists.{values_same}
-use Rattle.list_judge_theory.proofs.laws.segments_spell_one_list.Goals as goal
-
-pub returns : goal.returns
-returns c = λ net a b network flat legal also same. values_same net network flat a b legal also same

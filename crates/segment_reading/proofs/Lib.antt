@@ -1,0 +1,10 @@
+pub mod ReadingFull
+pub mod ReadingPacked
+pub mod ReadingLists
+pub mod AskedBlocks
+pub mod LongestSteps
+pub mod MoreSteps
+pub mod PackedSteps
+pub mod ListReads
+pub mod Found
+pub mod PublicLaws
