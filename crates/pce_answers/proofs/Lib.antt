@@ -1,0 +1,7 @@
+pub mod PlainTexts
+pub mod CertificateTexts
+pub mod Answering
+pub mod FoundLists
+pub mod Refusals
+pub mod PacketTraces
+pub mod Replying

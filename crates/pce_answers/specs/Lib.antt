@@ -1,0 +1,2 @@
+pub mod NetAnswers
+pub mod NetAnswersTerms
