@@ -1,0 +1,5 @@
+pub mod FileTexts
+pub mod Held
+pub mod Lines
+pub mod OtherNetworks
+pub mod PartsLeft

@@ -1,0 +1,2 @@
+pub mod EngineReplies
+pub mod EngineTerms
