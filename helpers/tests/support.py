@@ -14,6 +14,7 @@ from collections.abc import Iterator, Sequence
 from dataclasses import dataclass
 from pathlib import Path
 
+from srv6tools.engine import EngineEnded, find_engine
 from srv6tools.program import find_program
 
 HELPERS = Path(__file__).resolve().parents[1]
@@ -80,6 +81,15 @@ def run_here(tool: str, *words: str | Path, given: bytes = b"", **settings: str)
 def needs_program(test):
     """Skips a test where the program srv6 isn't built."""
     return unittest.skipUnless(find_program(), "the program srv6 isn't there")(test)
+
+
+def needs_engine(test):
+    """Skips a test where the program srv6-pce isn't built."""
+    try:
+        find_engine()
+    except EngineEnded:
+        return unittest.skip("the program srv6-pce isn't there")(test)
+    return test
 
 
 def needs_tool(name: str):

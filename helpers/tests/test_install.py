@@ -29,13 +29,14 @@ class Install(ToolCase):
         super().setUp()
         self.program = self.file("program", "#!/bin/sh\necho the program\n")
         self.program.chmod(0o755)
+        self.programs = {"SRV6": str(self.program), "SRV6_PCE": str(self.program)}
 
     def test_install(self):
         prefix = self.folder / "in stalled"
-        ran = run_tool("install", prefix, SRV6=str(self.program))
+        ran = run_tool("install", prefix, **self.programs)
         self.assertEqual((ran.status, ran.err), (0, ""))
         tools = {path.name for path in HELPERS.iterdir()} - NOT_INSTALLED
-        names = {"srv6"} | {"srv6-" + tool.removeprefix("srv6-") for tool in tools}
+        names = {"srv6", "srv6-pce"} | {"srv6-" + tool.removeprefix("srv6-") for tool in tools}
         self.assertEqual({path.name for path in (prefix / "bin").iterdir()}, names)
         self.assertFalse(any(path.name == "tests" for path in prefix.rglob("*")))
         asked = [prefix / "bin" / "srv6-routes", "--help"]
@@ -48,7 +49,8 @@ class Install(ToolCase):
             self.assertNotIn("the top of the repository", text)
             self.paths_are_there(text, prefix / "share" / "doc" / "srv6")
         for name in names:
-            self.assertTrue((prefix / "share/bash-completion/completions" / name).is_file())
+            completion = prefix / "share/bash-completion/completions" / name
+            self.assertEqual(completion.is_file(), name != "srv6-pce")  # which takes no words
             self.assertTrue((prefix / "share/man/man1" / f"{name}.1.gz").is_file())
 
     def paths_are_there(self, page: str, top: Path) -> None:
@@ -80,15 +82,17 @@ class Install(ToolCase):
             self.assertIn(f"helpers/{tool}", ran.out)
             self.assertEqual(run_tool(tool, "--no-such-word").status, 2)
         self.assertEqual(run_tool("install").status, 2)
-        absent = run_tool("install", self.folder / "x", SRV6=str(self.folder / "absent"))
-        self.assertEqual((absent.status, len(absent.err.splitlines())), (6, 1))
-        shut = run_tool("install", "/proc/nothing", SRV6=str(self.program))
+        for name in self.programs:
+            lacking = self.programs | {name: str(self.folder / "absent")}
+            absent = run_tool("install", self.folder / "x", **lacking)
+            self.assertEqual((absent.status, len(absent.err.splitlines())), (6, 1))
+        shut = run_tool("install", "/proc/nothing", **self.programs)
         self.assertEqual(shut.status, 5)
 
     @needs_tool("dpkg")
     @needs_tool("dpkg-deb")
     def test_package(self):
-        ran = run_tool("package", self.folder / "deb", SRV6=str(self.program))
+        ran = run_tool("package", self.folder / "deb", **self.programs)
         self.assertEqual((ran.status, ran.err), (0, ""))
         package = ran.out.strip()
         asked = ["dpkg-deb", "--show", "--showformat", "${Package} ${Version}", package]
@@ -98,5 +102,6 @@ class Install(ToolCase):
         subprocess.run(["dpkg-deb", "--extract", package, tree], check=True)
         done = subprocess.run([tree / "usr/bin/srv6"], capture_output=True, text=True)
         self.assertEqual(done.stdout, "the program\n")
-        again = run_tool("package", self.folder / "deb2", SRV6=str(self.program))
+        self.assertTrue((tree / "usr/bin/srv6-pce").is_file())
+        again = run_tool("package", self.folder / "deb2", **self.programs)
         self.assertEqual(Path(package).read_bytes(), Path(again.out.strip()).read_bytes())
