@@ -1,3 +1,4 @@
+-- Need not be believed: neither program stands on it yet.
 -- Which lists addresses spell, as the segments in the order in which they are visited.
 use Rattle.std.specs.Prelude.{◌≡◌, List, map, Result, Ok, Err}
 use Rattle.v6_addr.specs.declared.address.Addr.{Addr}
