@@ -102,8 +102,10 @@ declare -gA _srv6_options=(
     [from-bgp-ls]='--ask=any --keep=file --plan=file --block=any --addresses=any'
     [from-frr]='--addresses=any --block=any --plan=file'
     [from-linux]='--ipv4=file --rules=file --ipv4-rules=file --vrfs=file --sid-table=any --node=any --address=any --source=any --link=any'
+    [judge]='--json'
     [largest-inner]='--json'
     [linux-route]='--kernel=any'
+    [mesh]='--to-title=any --headend=any --via=any --strict --prefer=need,sids --mode=full,reduced --inner=ipv6,ipv4 --hop-limit=any --max-containers=any --csv --json --since=file --intents=file --jobs=any'
     [name-links]=''
     [packets]='--manifest=file --seed=any --more=any'
     [routes]='--compact --unjudged'
@@ -116,6 +118,7 @@ declare -gA _srv6_options=(
     [to-linux]='--kernel=any --tun --namespace=any'
     [to-raw]='--keep-numbers --interface=any --direction=in,out --from=any'
     [view]='--at=any --choices=any --new=toml --preferences --plan=toml --most=any --no-fans --title=any'
+    [what-if]='--lists=file --sets=toml --only=cable,bundle,node,set --least --fail-on=at-once,after,none --details --json --html --title=any --jobs=any'
     [why-no-list]=''
 )
 # What stands behind each tool, word by word: `toml`, `file`, `node` (of the description before it), `start` (a node or
@@ -128,8 +131,10 @@ declare -gA _srv6_arguments=(
     [from-bgp-ls]='file'
     [from-frr]='file'
     [from-linux]='file'
+    [judge]='toml toml'
     [largest-inner]='toml toml'
     [linux-route]='toml any any'
+    [mesh]='toml toml'
     [name-links]='toml'
     [packets]='toml node'
     [routes]='toml toml'
@@ -142,6 +147,7 @@ declare -gA _srv6_arguments=(
     [to-linux]='toml node'
     [to-raw]='file'
     [view]='file file' # any, as an editor has this name too
+    [what-if]='toml toml file file file'
     [why-no-list]='toml toml'
 )
 

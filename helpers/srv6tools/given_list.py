@@ -6,12 +6,14 @@ import re
 import sys
 from collections.abc import Iterable
 from ipaddress import IPv4Network, IPv6Network
+from pathlib import Path
 
 from .command import Fault, Parser, Status
 from .files import FILE_LIMIT, STDIN, decoded, read_input
 from .intent import Intent
 from .items import Prefix
 from .linux import KERNEL_HELP
+from .lists_file import is_lists, lists_of
 from .report import Report, report_of
 from .words import address_word, name_word, number_word
 
@@ -19,9 +21,20 @@ NETWORKS = {6: IPv6Network, 4: IPv4Network}
 DEVICE = re.compile(r"[A-Za-z0-9_.-]{1,15}")
 
 
-def given_lines() -> list[str]:
-    """The lines of the report and the certificate on the input."""
-    return decoded(read_input(FILE_LIMIT), STDIN).splitlines()
+def given_lines(intent: str) -> list[str]:
+    """The lines of the report and the certificate on the input; of a file of lists the report of the
+    list that has the name of the intent's file.
+    """
+    content = read_input()
+    if is_lists(content):
+        name = Path(intent).stem
+        for one in lists_of(decoded(content, STDIN), STDIN):
+            if one.name == name:
+                return one.report().splitlines()
+        raise Fault(f"{STDIN}: no list is called {name!r}, as the file of the intent is")
+    if len(content) > FILE_LIMIT:
+        raise Fault(f"{STDIN}: more than {FILE_LIMIT} bytes")
+    return decoded(content, STDIN).splitlines()
 
 
 def given_report(intent: Intent, lines: list[str]) -> Report:

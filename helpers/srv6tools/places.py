@@ -68,11 +68,13 @@ class Table:
     def enter(self, prefix: Prefix, rank: int, entry: Sid | Node | Via) -> None:
         """Of equal prefixes the one with the greater rank holds."""
         shift = 128 - prefix.prefixlen
-        rows = self._rows.setdefault(shift, {})
+        if shift not in self._rows:
+            self._rows[shift] = {}
+            self._shifts = sorted(self._rows)
+        rows = self._rows[shift]
         key = int(prefix.network_address) >> shift
         if key not in rows or rows[key][0] < rank:
             rows[key] = rank, entry
-        self._shifts = sorted(self._rows)
 
     def look_up(self, address: int) -> Found:
         """The entry for an address."""

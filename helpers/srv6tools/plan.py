@@ -156,11 +156,14 @@ class LinkMaker:
         self.other_mtus: dict[str, int] = {}  # of links that are there with another one
         self.metrics: dict[str, int] = {}
         self.cables: dict[frozenset[str], int] = {}  # how many there are between two nodes
+        self.pairs: list[tuple[str, str]] = []  # the links of each cable
 
     def cable(self, cable: Cable, default_mtu: int | None) -> None:
         """The two links of a cable, named after its ends where it gives no names."""
+        names = cable.links or self._names(cable.ends)
+        self.pairs.append(names)
         for name, ends, metric, mtu in zip(
-            cable.links or self._names(cable.ends),
+            names,
             (cable.ends, cable.ends[::-1]),
             cable.metrics,
             cable.mtus,

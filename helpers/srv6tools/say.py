@@ -11,6 +11,7 @@ from dataclasses import dataclass, field
 from .command import Fault, Parser, Status, progress, run_tool
 from .err_lines import EditLine, NoAnswer, PacketLine, Refusal, err_line_of
 from .files import FILE_LIMIT
+from .named_lists import named_list
 from .program import the_program
 from .say_drops import explain_drops, given_input
 from .say_items import OF_THIS_KIND, TomlFile, explain_intent, explain_text, near
@@ -61,7 +62,7 @@ class Run:
     words: Sequence[str]
     status: int = 0
     last: str = ""  # the last line on `err`
-    verdict: str = ""  # what `check` and `replay` write
+    verdict: str = ""  # what `check`, `replay` and `compile` write
     drops: collections.Counter[tuple[str, str]] = field(default_factory=collections.Counter)
     stopped: int = 0  # packets that used all their stages
     edits: collections.Counter[str] = field(default_factory=collections.Counter)
@@ -116,7 +117,7 @@ def _run(run: Run) -> None:
     they come.
     """
     sys.stdout.flush()
-    keeps_out = run.command in ("check", "replay")
+    keeps_out = run.command in ("check", "replay", "compile")
     path = the_program()
     try:
         program = subprocess.Popen(
@@ -164,6 +165,8 @@ def _explained(run: Run) -> Iterator[str]:
     yield from explain_edits(run.edits)
     said = err_line_of(run.last)
     match run.status:
+        case Status.DONE if run.command == "compile":
+            yield from named_list(run.word(1), run.word(2), run.verdict)
         case Status.REFUSED if isinstance(said, Refusal):
             yield from _refused(run, said)
         case Status.USAGE:

@@ -66,7 +66,7 @@ def work(words: argparse.Namespace) -> int:
     """Writes the route, and where the headend differs."""
     wanted_kernel(words.kernel)
     intent = read_intent(words.intent)
-    report = given_report(intent, given_lines())
+    report = given_report(intent, given_lines(words.intent))
     line = route_of(intent, report, words.prefix, words.dev, words.via)
     judge(intent, report)
     return write_text(TOOL, line, differences(intent, report, words.kernel))

@@ -53,7 +53,7 @@ def name_word(text: str) -> str:
 def work(words: argparse.Namespace) -> int:
     """Writes the request, or sends it and writes what the table has."""
     intent = read_intent(words.intent)
-    report = given_report(intent, given_lines())
+    report = given_report(intent, given_lines(words.intent))
     path = CandidatePath(words.distinguisher, words.color, words.endpoint, tuple(report.containers), words.preference, words.name or "")
     request = add_request(path, words.headend, str(words.next_hop))
     if words.send is None:

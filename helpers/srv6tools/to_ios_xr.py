@@ -85,7 +85,7 @@ def policy_lines(words: argparse.Namespace, sids: Sequence[IPv6Network]) -> Iter
 def work(words: argparse.Namespace) -> int:
     """Writes the configuration, and what it doesn't say."""
     intent = read_intent(words.intent)
-    lines = given_lines()
+    lines = given_lines(words.intent)
     report = given_report(intent, lines)
     sids = [step.prefix for step in certificate_of(lines, STDIN).path]
     usids(report, sids)

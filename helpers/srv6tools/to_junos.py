@@ -54,7 +54,7 @@ def policy_lines(words: argparse.Namespace, report: Report) -> Iterator[str]:
 def work(words: argparse.Namespace) -> int:
     """Writes the commands, and what they don't say."""
     intent = read_intent(words.intent)
-    lines = given_lines()
+    lines = given_lines(words.intent)
     report = given_report(intent, lines)
     judge(report, lines)
     return write_text(TOOL, "\n".join(policy_lines(words, report)), unsaid(intent, report))

@@ -25,7 +25,7 @@ from .plan import make_links, read_plan
 from .program import judge_description
 from .say_items import near
 from .trace import Stage, Walk
-from .what_if import STATES, Cell, Traffic, WhatIf, read_what_if
+from .what_if_table import STATES, Cell, Traffic, WhatIf, read_what_if
 
 PAGE = Path(__file__).resolve().parent / "page"
 SCRIPTS = ("base.js", "map.js", "packets.js", "lists.js", "whatif.js", "main.js")
