@@ -1,5 +1,5 @@
-"""A network with its plan, whose links may be down: what is left of it at once, and what routing finds
-again over the links that are up. (own rule: `docs/FORMATS.md`, 'Lines of srv6-pce', `without`)
+"""A network with its plan, whose links may be down: what is left of it at once, as `docs/FORMATS.md` has
+it ('Lines of `srv6-pce`', `without`), and what routing finds again over the links that are up.
 """
 
 import dataclasses
