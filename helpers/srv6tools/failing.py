@@ -1,5 +1,6 @@
 """What becomes of intents where a part of a network fails: each in one case for each failure."""
 
+import dataclasses
 import enum
 import functools
 from collections.abc import Iterator, Sequence
@@ -14,7 +15,8 @@ from .intent import Intent
 from .judged import REFUSED, Judging, Situation, Verdict
 from .lists_file import OneList
 from .loose import legs_of
-from .mesh import ListNames, list_of, started
+from .mesh import started
+from .named_lists import list_of
 from .planned import Planned, without
 from .sent_packets import Targets, Went, ends_at, went
 from .why_no_list import Reasons, Search
@@ -122,6 +124,8 @@ class Failing:
             if self.planned.plan is None:
                 yield "no plan: all routes are static, and none is found again"
                 return
+            if static := len(self.planned.static.routes):
+                yield f"{self.planned.path} has {static} routes: they are static, and none of them is found again"
             self.can_again = _has(engine, "plan", "load", **{"as": "none", "network": "", "plan": ""})
             if not self.can_again:
                 yield CANT_AGAIN
@@ -169,7 +173,10 @@ class Failing:
         at_once = self._judged(once, one)
         then = at_once if once is after else self._judged(after, one)
         traffic = self._traffic(one, once, at_once), self._traffic(one, after, then)
-        return self._outcome(one, after, at_once, then, traffic)
+        case = self._outcome(one, after, at_once, then, traffic)
+        # without their courses, which another process has no use for
+        at_once, then = (dataclasses.replace(verdict, course=None) for verdict in (at_once, then))
+        return dataclasses.replace(case, at_once=at_once, after=then)
 
     def _judged(self, here: Situation, one: Named) -> Verdict:
         installed = one.installed
@@ -191,7 +198,7 @@ class Failing:
         if found.answer != "list":
             why = f"no answer {found.answer}"
             return Case(Outcome.NONE, why, at_once, then, why=self._why(after, one, found), **known)
-        new = list_of(one.name, one.text, found, _names(after))
+        new = list_of(one.name, one.text, found, after.names)
         inner = self._inner(after, one, new, None)
         answer = f"list of {found.containers} containers, need {found.need}"
         if then.holds and (new.segments, new.path) == (installed.segments, installed.path):
@@ -245,11 +252,6 @@ def _has(engine: Engine, field: str, request: str, **fields: Any) -> bool:
     except EngineError:
         pass
     return True
-
-
-def _names(here: Situation) -> ListNames:
-    """The names of SIDs there."""
-    return ListNames(here.net, here.courses)
 
 
 def why_none(here: Situation, intent: Intent) -> str:

@@ -89,8 +89,7 @@ def answer_of(here: Situation, text: str, intent: Intent, segments: Sequence[Any
     path = here.speller.path(segments)
     names: tuple[str, ...] = ()
     if path:
-        stands = here.courses.course(intent, path).stands
-        names = tuple(SidNames(here.net).listed([prefix for _, prefix in path], stands))
+        names = tuple(here.names.listed(intent, path))
     least, within = _limits(intent, (len(segments), len(names), verdict.need), verdict, found)
     walk = None
     if verdict.answer == NO:

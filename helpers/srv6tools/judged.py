@@ -14,7 +14,7 @@ from .courses import Course, Courses
 from .description import Network
 from .engine import BadRequest, Compiled, Engine, Refused
 from .intent import Intent
-from .items import Prefix
+from .named_lists import ListNames
 from .spelled_lists import Path, Speller
 
 REALIZES, NOT_LEGAL, NO, REFUSED = "realizes", "not legal", "no", "refused"
@@ -73,6 +73,11 @@ class Situation:
     def courses(self) -> Courses:
         """The courses of lists in it."""
         return Courses(self.net)
+
+    @functools.cached_property
+    def names(self) -> ListNames:
+        """The names of SIDs in it."""
+        return ListNames(self.net, self.courses)
 
     @functools.cached_property
     def speller(self) -> Speller:

@@ -2,7 +2,6 @@
 
 import argparse
 import csv
-import dataclasses
 import fnmatch
 import functools
 import io
@@ -14,15 +13,13 @@ from dataclasses import dataclass
 from pathlib import Path
 
 from .command import Fault, Parser, Status, positive, progress, run_tool
-from .courses import Courses
 from .description import Network, Sid
 from .engine import Compiled, Engine, EngineEnded, NotFlat, Refused
-from .items import address_of, prefix_of
 from .lists_file import OneList, lists_text, read_lists
+from .named_lists import ListNames, list_of
 from .paths import Topology
 from .planned import Planned
 from .say_items import near
-from .sid_names import SidNames
 from .toml_writer import quoted
 
 MOST_PAIRS = 100_000
@@ -161,7 +158,7 @@ def compile_all(network: str, net: Network, asked: Sequence[Asked], jobs: int) -
     return lists
 
 
-def _compile_share(network: str, names: "ListNames", asked: Sequence[Asked]) -> list[OneList]:
+def _compile_share(network: str, names: ListNames, asked: Sequence[Asked]) -> list[OneList]:
     with started() as engine:
         held = engine.load("net", network=network)
         if not held.flat:
@@ -174,28 +171,6 @@ def _compiled(engine: Engine, text: str) -> Compiled | Refused:
         return engine.compile("net", text)
     except Refused as refused:
         return refused
-
-
-class ListNames:
-    """The names of the SIDs of lists, by the nodes that execute them."""
-
-    def __init__(self, net: Network, courses: Courses | None = None) -> None:
-        self._names, self._courses = SidNames(net), courses or Courses(net)
-
-    def listed(self, one: OneList) -> tuple[str, ...]:
-        """The names of the SIDs of a list."""
-        stands = self._courses.course(one.intent, list(one.path)).stands
-        return tuple(self._names.listed(one.prefixes, stands))
-
-
-def list_of(name: str, text: str, found: Compiled | Refused, names: ListNames) -> OneList:
-    """What was compiled, as a file of lists has it."""
-    if isinstance(found, Refused):
-        return OneList(name, text, "refused", why=found.fields["why"])
-    path = tuple((sid.stays, prefix_of(sid.prefix)) for sid in found.path)
-    segments = tuple(address_of(text) for text in found.segments)
-    one = OneList(name, text, found.answer, segments, path, (), found.header, found.need)
-    return dataclasses.replace(one, names=names.listed(one))
 
 
 def started() -> Engine:

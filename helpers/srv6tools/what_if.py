@@ -25,6 +25,7 @@ from .mesh import Asked, compile_all, table_lines
 from .planned import Planned
 from .progress_line import ProgressLine
 
+Rows = Sequence[Sequence[Case]]  # of each failure a case for each intent
 STATUSES = ("at-once", "after", "none")
 DESCRIPTION = """\
 Takes each cable, each bundle of cables between two nodes and each node of a network out in turn, and says of
@@ -82,7 +83,7 @@ class Tally:
         return [self.name, *map(str, numbers), *([str(self.inner or "")] if inner else []), some]
 
 
-def tables(failures: Sequence[Failure], names: Sequence[str], rows: Sequence[Sequence[Case]]) -> Iterator[str]:
+def tables(failures: Sequence[Failure], names: Sequence[str], rows: Rows) -> Iterator[str]:
     """The tables by intent and by failure, the worst first."""
     by_intent = [Tally(name) for name in names]
     by_failure = [Tally(str(failure)) for failure in failures]
@@ -102,7 +103,7 @@ def tables(failures: Sequence[Failure], names: Sequence[str], rows: Sequence[Seq
         yield ""
 
 
-def details(failures: Sequence[Failure], names: Sequence[str], rows: Sequence[Sequence[Case]]) -> Iterator[str]:
+def details(failures: Sequence[Failure], names: Sequence[str], rows: Rows) -> Iterator[str]:
     """A line for each case in which a list breaks."""
     for failure, row in zip(failures, rows):
         for name, case in zip(names, row):
@@ -220,12 +221,15 @@ def all_rows(failing: Failing, failures: Sequence[Failure], jobs: int, line: Pro
 # ---- what is written
 
 
-def as_json(words: argparse.Namespace, plan: str | None, failures: Sequence[Failure], names: Sequence[str], rows: Sequence[Sequence[Case]]) -> dict[str, Any]:
+def as_json(
+    words: argparse.Namespace, plan: str | None, failures: Sequence[Failure], names: Sequence[str], rows: Rows
+) -> dict[str, Any]:
     """The table as `docs/FORMATS.md` has it."""
     return {
         "kind": "what-if", "net": words.base, "plan": plan, "intents": list(names),
         "failures": [
-            {"name": str(one), "kind": one.kind, "links": list(one.links), "nodes": list(one.nodes)} for one in failures
+            {"name": str(one), "kind": one.kind, "links": list(one.links), "nodes": list(one.nodes)}
+            for one in failures
         ],
         "cells": [[case.as_json() for case in row] for row in rows],
     }  # fmt: skip
@@ -243,7 +247,7 @@ def _page(planned: Planned, plan: str | None, table: dict[str, Any], title: str 
         return view([str(net), str(cells), *more, "--no-fans", "--title", title or "What if"])
 
 
-def _status(words: argparse.Namespace, rows: Sequence[Sequence[Case]]) -> int:
+def _status(words: argparse.Namespace, rows: Rows) -> int:
     cases = [case for row in rows for case in row if case.outcome is not Outcome.LEFT_OUT]
     bad = {
         "at-once": any(not case.at_once.holds for case in cases),
@@ -280,7 +284,7 @@ def _work(tool: str, words: argparse.Namespace) -> int:
     return _status(words, rows)
 
 
-def _print(failures: Sequence[Failure], names: Sequence[str], rows: Sequence[Sequence[Case]], with_details: bool) -> None:
+def _print(failures: Sequence[Failure], names: Sequence[str], rows: Rows, with_details: bool) -> None:
     kinds = {kind: sum(one.kind == kind for one in failures) for kind in KINDS}
     counted = ", ".join(f"{count} {kind}{'s' * (count > 1)}" for kind, count in kinds.items() if count)
     print(f"{len(failures)} failures ({counted}), {len(names)} intents")

@@ -1,9 +1,7 @@
 """what-if: its verdicts against all walks of the program over failed descriptions, tables, words."""
 
-import dataclasses
 import json
 import unittest
-from collections.abc import Iterator
 from pathlib import Path
 
 from srv6tools.captures import raw_capture
