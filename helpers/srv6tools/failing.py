@@ -55,6 +55,7 @@ class Case:
     at_once: Verdict
     after: Verdict
     names: tuple[str, ...] = ()  # of the SIDs of the installed list
+    containers: int = 0  # of the installed list
     new: OneList | None = None  # where the installed list breaks
     why: str = ""  # there is none
     largest_inner: int | None = None
@@ -92,7 +93,8 @@ class Case:
         need = new.need if new else self.after.need if self.after.holds else None
         return {
             "state": self.outcome.value, "answer": self.answer,
-            "containers": len(new.segments) if new else None, "need": need, "why": self.why,
+            "containers": None if need is None else len(new.segments) if new else self.containers,
+            "need": need, "why": self.why,
             "largest_inner": self.largest_inner,
             "judged_at_once": self.at_once.as_json(), "judged": self.after.as_json(),
             "segments": [str(one) for one in new.segments] if new else None,
@@ -187,7 +189,10 @@ class Failing:
         """The case, with the list that is found where the installed one breaks."""
         installed = one.installed
         assert installed is not None
-        known = {"names": installed.names, "traffic": traffic, "shows_inner": self.shows_inner}
+        known = {
+            "names": installed.names, "containers": len(installed.segments), "traffic": traffic,
+            "shows_inner": self.shows_inner,
+        }  # fmt: skip
         if then.holds and not self.least:
             inner = self._inner(after, one, installed, then)
             return Case(Outcome.KEPT, f"holds, need {then.need}", at_once, then, largest_inner=inner, **known)

@@ -248,6 +248,7 @@ class Tables(ToolCase):
         read = read_what_if(self.file("w.json", out), read_network(NET))
         by_name = {failure.name: cells for failure, cells in zip(read.failures, read.cells)}
         self.assertEqual([cell.state for cell in by_name["node pe1"]], ["refused", "kept"])
+        self.assertEqual([(cell.containers, cell.need) for cell in by_name["node pe1"]], [(None, None), (1, 4)])
         self.assertEqual([cell.state for cell in by_name["node p4"]], ["none", "none"])
         self.assertEqual(by_name["node p4"][0].why, "step 1 (reach p4): no way leads there from pe1")
         lost = by_name["node p2"][0]
