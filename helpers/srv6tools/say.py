@@ -52,7 +52,7 @@ NUMBERS = re.compile(r"(0|[1-9][0-9]*)(,(0|[1-9][0-9]*))*")
 DESCRIPTION = """\
 Runs srv6 with the words, the same output and the same status, and says on standard error what its
 lines mean: the file, the line and the text of what is refused, the file that is missing, the
-forms of the commands, why packets are dropped."""
+forms of the commands, why packets are dropped; of a compiled list the names of its SIDs."""
 
 
 @dataclass(slots=True)

@@ -56,7 +56,7 @@ class Install(ToolCase):
     def paths_are_there(self, page: str, top: Path) -> None:
         """Each file of docs/ and examples/ that a page names stands below a folder."""
         for path in re.findall(r"\b(?:docs|examples)/[\w./-]*\w", page.replace("\\-", "-")):
-            if not path.endswith(("srv6.1", "srv6.5", "srv6-tools.1", "srv6.bash", "_srv6")):
+            if not path.endswith(("srv6.1", "srv6.5", "srv6-pce.1", "srv6-tools.1", "srv6.bash", "_srv6")):
                 self.assertTrue((top / path).exists(), path)
 
     def test_pages(self):

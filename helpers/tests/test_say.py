@@ -241,6 +241,13 @@ class Say(ToolCase):
                 last = (answer.err.splitlines() or [""])[-1]
                 self.assertEqual((last, answer.status), (case.line, case.status))
 
+    @needs_program
+    def test_sids_of_a_list_are_named(self):
+        words = ("compile", EXAMPLES / "domain" / "net.toml", EXAMPLES / "domain" / "red.toml")
+        ran = run_tool("srv6-say", *words)
+        self.assertEqual((ran.status, ran.raw), (0, run_program(words).out))
+        self.assertEqual(ran.err, "srv6-say: the list is uN p1, uN p3, uN fw1, uN p3, uN pe3, uDT red-pe3\n")
+
     def test_usage(self):
         for words, wants in USAGES:
             with self.subTest(words):
