@@ -9,7 +9,7 @@ from typing import Any
 
 from .command import Fault
 from .description import MOST_MTU, Network
-from .engine import BadRequest, Compiled, Engine, EngineError, Held, Refused
+from .engine import BadRequest, Compiled, Engine, EngineError, Refused
 from .failures import Failure
 from .intent import Intent
 from .judged import REFUSED, Judging, Situation, Verdict
@@ -118,33 +118,38 @@ class Failing:
         self.engine: Engine | None = None
 
     def probe(self) -> Iterator[str]:
-        """What the engine can't do, each said in a line; it is asked once, before processes part."""
+        """What the engine can't do, and what is static, each in a line. It is asked once, before processes
+        part; a fault where the network isn't flat.
+        """
         with started() as engine:
             self.judging.engine_can = _has(engine, "do", "judge", **{"in": "none", "intent": "", "list": []})
-            if not self.judging.engine_can:
-                yield CANT_JUDGE
-            if self.planned.plan is None:
-                yield "no plan: all routes are static, and none is found again"
-                return
-            if static := len(self.planned.static.routes):
-                yield f"{self.planned.path} has {static} routes: they are static, and none of them is found again"
-            self.can_again = _has(engine, "plan", "load", **{"as": "none", "network": "", "plan": ""})
-            if not self.can_again:
-                yield CANT_AGAIN
+            if self.planned.plan:
+                self.can_again = _has(engine, "plan", "load", **{"as": "none", "network": "", "plan": ""})
+            self._load(engine)
+        if not self.judging.engine_can:
+            yield CANT_JUDGE
+        if self.planned.plan is None:
+            yield "no plan: all routes are static, and none is found again"
+            return
+        if not self.can_again:
+            yield CANT_AGAIN
+        if static := len(self.planned.static.routes):
+            yield f"{self.planned.path} has {static} routes: they are static, and none of them is found again"
 
     def begin(self) -> Engine:
         """Starts an engine that holds the whole network, in the process that asks for cases."""
         self.engine = started()
-        held = self._load(self.engine)
-        if not held.flat:
-            raise Fault(f"{self.planned.path}: the network isn't flat: {held.why}")
+        self._load(self.engine)
         return self.engine
 
-    def _load(self, engine: Engine) -> Held:
+    def _load(self, engine: Engine) -> None:
         """Holds the whole network, with its plan where the engine takes one."""
         if self.can_again:
-            return engine.load(WHOLE, file=self.planned.path, plan_file=str(self.planned.plan_path))
-        return engine.load(WHOLE, network=self.planned.text(self.whole))
+            held = engine.load(WHOLE, file=self.planned.path, plan_file=str(self.planned.plan_path))
+        else:
+            held = engine.load(WHOLE, network=self.planned.text(self.whole))
+        if not held.flat:
+            raise Fault(f"{self.planned.path}: the network isn't flat: {held.why}")
 
     def cases(self, failure: Failure) -> list[Case]:
         """The cases of a failure, one for each intent."""

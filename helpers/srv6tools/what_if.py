@@ -2,6 +2,7 @@
 
 import argparse
 import concurrent.futures
+import concurrent.futures.process
 import functools
 import json
 import multiprocessing
@@ -208,13 +209,16 @@ def all_rows(failing: Failing, failures: Sequence[Failure], jobs: int, line: Pro
     _FAILING = failing
     context = multiprocessing.get_context("fork")
     rows: list[list[Case]] = []
-    with concurrent.futures.ProcessPoolExecutor(min(jobs, len(failures)), context, _begin) as aside:
-        for row in aside.map(_row, failures):
-            if isinstance(row, Fault):
-                aside.shutdown(cancel_futures=True)
-                raise row
-            rows.append(row)
-            line.step(len(rows), len(failures), "failures")
+    try:
+        with concurrent.futures.ProcessPoolExecutor(min(jobs, len(failures)), context, _begin) as aside:
+            for row in aside.map(_row, failures):
+                if isinstance(row, Fault):
+                    aside.shutdown(cancel_futures=True)
+                    raise row
+                rows.append(row)
+                line.step(len(rows), len(failures), "failures")
+    except concurrent.futures.process.BrokenProcessPool:
+        raise Fault("a process ended before its work was done", Status.OUTSIDE_FAULT) from None
     return rows
 
 

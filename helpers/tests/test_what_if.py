@@ -269,6 +269,15 @@ class Tables(ToolCase):
         self.assertTrue(out.startswith("<!DOCTYPE html>"))
         self.assertIn("bundle p1-p3", out)
 
+    def test_a_network_that_isnt_flat(self):
+        """Also where its lists are told, so that none is compiled."""
+        lists = self.file("lists.json", run_here("mesh", NET, "--to-title", "red-pe3", "--headend", "pe1", "--json").out)
+        inside = '    { node = "p1", prefix = "fcbb:bb00:13:1::/64", via = ["p1-p2"] },'
+        net = self.file("net.toml", NET.read_text().replace("route = [", f"route = [\n{inside}"))
+        ran = run_here("what-if", net, lists)
+        self.named_answer(ran, (1,))
+        self.assertIn("the network isn't flat: 41 Nested", ran.err)
+
     def test_no_list_to_begin_with(self):
         ran = run_here("what-if", BASE, PLAN, DOMAIN / "no-list.toml")
         self.assertEqual((ran.status, ran.out), (3, ""))
