@@ -6,6 +6,7 @@ from pathlib import Path
 
 from srv6tools.captures import raw_capture
 from srv6tools.description import Network, read_network
+from srv6tools.engine import find_engine
 from srv6tools.failing import Failing, Named, Outcome
 from srv6tools.failures import Failure, cables_of, each_failure, read_sets
 from srv6tools.fans import each_walk
@@ -268,6 +269,18 @@ class Tables(ToolCase):
         self.assertEqual(status, 0)
         self.assertTrue(out.startswith("<!DOCTYPE html>"))
         self.assertIn("bundle p1-p3", out)
+
+    def test_an_engine_that_judges_and_finds_routes_again(self):
+        """It is asked for both, nothing is said of a model, and lists after a failure are those of the other way."""
+        words = (BASE, PLAN, INTENTS[1], "--only", "cable,node", "--json", "--least", "--jobs", "2")
+        settings = {"SRV6_PCE": str(Path(__file__).parent / "engine_to_come.py"), "BELOW": find_engine()}
+        ran, other = run_tool("what-if", *words, **settings), run_tool("what-if", *words)
+        self.assertEqual((ran.status, ran.err), (0, ""))
+        rows = [[row[0] for row in json.loads(one.out)["cells"]] for one in (ran, other)]
+        judged = [cell["judged"] for cell in rows[0] if cell["state"] != "refused"]
+        self.assertEqual({(one["answer"], one["by"]) for one in judged}, {("realizes", "srv6-pce")})
+        keys = "segments", "answer", "state"
+        self.assertEqual(*[[[cell[key] for key in keys] for cell in cells] for cells in rows])
 
     def test_a_network_that_isnt_flat(self):
         """Also where its lists are told, so that none is compiled."""
