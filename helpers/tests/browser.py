@@ -20,6 +20,7 @@ ELEMENT = "element-6066-11e4-a52e-4f735466cecf"  # the key of an element (W3C We
 KEYS = {
     "left": "\ue012", "up": "\ue013", "right": "\ue014", "down": "\ue015", "enter": "\ue007",
     "escape": "\ue00c", "home": "\ue011", "end": "\ue010", "shift": "\ue008", "tab": "\ue004",
+    "page down": "\ue00f",
 }  # fmt: skip
 SECONDS = 30
 

@@ -1,6 +1,9 @@
-"""The page of view over 250 nodes and 1,000 packets: its size, how fast it opens and how fast it answers."""
+"""The page of view over 250 nodes and 1,000 packets, and over tables of thousands of cells: its size, how fast it opens and how fast it
+answers.
+"""
 
 import itertools
+import json
 import math
 import unittest
 import unittest.mock
@@ -11,7 +14,7 @@ from page_case import PROGRESS, PageCase
 from srv6tools.captures import frames_of, head_of, raw_capture
 from srv6tools.packet_parts import ip6
 from srv6tools.routes import fill
-from support import needs_program, run_tool
+from support import EXAMPLES, needs_program, run_tool
 
 BYTES = 10 * 2**20  # of the largest page
 LOADED, REACTS = 2_000, 100  # milliseconds of the page's thread, at most: what other work there is doesn't count
@@ -34,6 +37,34 @@ ACTIONS = {
     "packets of one end": "document.querySelector('.end-only').click()",
     "all stages": "document.getElementById('stages').open = !document.getElementById('stages').open",
 }
+TABLES = ((78, 48), (50, 600))  # failures and intents
+TABLE_ACTIONS = {
+    "the tables": ("showView('network')", "showView('whatif')"),
+    "the network": ("showView('whatif')", "showView('network')"),
+    "a cell": ("showView('whatif')", "document.getElementById('cell0-3-3').click()"),
+    "another cell": ("document.getElementById('cell0-3-3').click()", "document.getElementById('cell0-4-2').click()"),
+    "a step": "step(-1)",
+    "dark or light": "turnTheme()",
+    "rows farther down": ("document.querySelector('.heatbox').scrollTop = 0", "document.querySelector('.heatbox').scrollTop = 900"),
+}
+WALKS_OF = 5  # failures whose cells have walks
+IN_ORDER = "return [...document.querySelectorAll('.cell')].map((one) => one.id.split('-').map(Number).slice(1))"
+
+
+def large_table(failures: int, intents: int) -> str:
+    """A table that has those of the example again and again; cells farther down have no walks."""
+    table = json.loads((EXAMPLES / "domain" / "what-if.json").read_text())
+    rows, names, cells = table["failures"], table["intents"], table["cells"]
+    table["failures"] = [rows[at % len(rows)] | {"name": f"failure {at}"} for at in range(failures)]
+    table["intents"] = [f"{names[at % len(names)]}-{at}" for at in range(intents)]
+    table["cells"] = [
+        [
+            cells[row % len(rows)][at % len(names)] | ({} if row < WALKS_OF else {"at_once": None, "traffic": None})
+            for at in range(intents)
+        ]
+        for row in range(failures)
+    ]
+    return json.dumps(table)
 
 
 def nodes_of(number: int) -> tuple[int, int]:
@@ -70,6 +101,28 @@ class Large(PageCase):
             took = min(self.busy(before, action) for _ in range(5))
             self.assertLessEqual(took, REACTS, name)
         self.is_quiet()
+
+    def test_large_tables(self):
+        """They open, stay laid out when another view is shown, and stand in pieces where they have many intents."""
+        for failures, intents in TABLES:
+            table = self.file("table.json", large_table(failures, intents))
+            with unittest.mock.patch("support.SECONDS", 900):
+                page = self.opened(EXAMPLES / "domain" / "net.toml", table)
+            cells = page.run(IN_ORDER)
+            self.assertEqual(sorted(cells), [[row, at] for row in range(failures) for at in range(intents)])
+            heads = page.texts(".heatbox thead th:not(:first-child)")
+            self.assertEqual(heads, json.loads(table.read_text())["intents"])
+            for name, script in TABLE_ACTIONS.items():
+                before, action = ("", script) if isinstance(script, str) else script
+                took = min(self.busy(before, action) for _ in range(5))
+                self.assertLessEqual(took, REACTS, f"{name}, {failures} by {intents}")
+            last = f"cell0-{failures - 1}-{intents - 1}"
+            page.run(f"showView('whatif'); document.getElementById('{last}').focus()")
+            page.settle()
+            page.press("enter")
+            self.assertIn(f"Without failure {failures - 1}, ", page.text("#cellsaid"))
+            self.assertEqual(page.run("return document.activeElement.id"), last)
+            self.is_quiet()
 
     def busy(self, before: str, action: str) -> float:
         """How long an action takes, behind another that isn't counted."""

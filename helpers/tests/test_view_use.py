@@ -58,6 +58,23 @@ class Use(PageCase):
         self.assertIn("p1 2001:db8::1", page.text("#nodebox"))
         self.is_quiet()
 
+    def test_details_scroll_by_keys(self):
+        """Behind the link to the details the keys of the page move them, and what isn't shown takes no focus."""
+        page = self.opened(*ARRIVING, DOMAIN / "what-if.json")
+        page.press("2")
+        page.run("document.querySelector('.skip').click(); document.getElementById('detail').focus()")
+        shown = "return document.activeElement === document.querySelector('#detail > .pane.shown')"
+        self.assertTrue(page.run(shown))
+        page.press("page down")
+        page.settle()
+        self.assertGreater(page.run("return document.activeElement.scrollTop"), 50)
+        page.run("document.getElementById('cell0-1-0').focus()")
+        self.assertNotEqual(page.run(FOCUSED), "cell0-1-0")
+        page.press("4")
+        page.run("document.getElementById('cell0-1-0').focus()")
+        self.assertEqual(page.run(FOCUSED), "cell0-1-0")
+        self.is_quiet()
+
     def test_all_stages_in_words(self):
         page = self.opened(*ARRIVING)
         page.click("#stagessaid")

@@ -38,19 +38,23 @@ function button(label, on, attributes) {
   return make("button", { type: "button", on, ...attributes }, ...[label].flat());
 }
 
-// The list of a view, which is shown in place of the other views' and made once by a function. What isn't shown keeps its layout, so that it
-// is there at once when it is shown again.
-function pane(name, makeParts) {
-  const side = byId("side");
-  let own = byId(`pane-${name}`);
+// A pane of a section (the list at the side, the details), which is shown in place of the section's others and made once by a function. What
+// isn't shown keeps its layout, so that it is there at once when it is shown again.
+function pane(section, name, makeParts) {
+  let own = byId(`${section}-${name}`);
   if (!own) {
-    own = make("div", { class: "pane", id: `pane-${name}` });
-    own.append(...makeParts());
-    side.append(own);
+    own = make("div", { class: "pane", id: `${section}-${name}`, tabindex: "-1" }, ...makeParts());
+    byId(section).append(own);
   }
-  for (const one of side.children) {
+  for (const one of byId(section).children) {
     one.classList.toggle("shown", one === own);
   }
+  return own;
+}
+
+// Shows parts as the details, in place of what was told before.
+function tell(...parts) {
+  pane("detail", "told", () => []).replaceChildren(...parts);
 }
 
 // A text whose parts between backticks are words of files.

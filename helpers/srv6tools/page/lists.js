@@ -1,7 +1,7 @@
 // Lists of intents: containers with the bits of each SID, who executes them, and the verdict.
 
 function showLists() {
-  pane("lists", listPicks);
+  pane("side", "lists", listPicks);
   drawLists();
 }
 
@@ -32,7 +32,7 @@ function drawLists() {
   clearMap();
   KIND.broken = null;
   const shown = [...KIND.lists].sort((one, other) => one - other).map((number) => DATA.lists[number]);
-  byId("detail").replaceChildren(
+  tell(
     ...(shown.length > 1 ? [comparison(shown)] : []),
     make("div", { class: "lists" }, ...shown.map((list) => listBox(list))),
     make("div", { id: "walker" }));

@@ -20,14 +20,15 @@ function showView(name) {
     }
   }
   clearMap();
-  byId("detail").replaceChildren();
+  leaveTables();
+  tell();
   VIEWS.find((view) => view[0] === name)[2]();
   setBox(MAP.box);
 }
 
 function showNetwork() {
-  byId("detail").replaceChildren(make("p", { class: "soft", id: "hint" }, "A click on a node or a link of the map, or in the list, tells of it here."));
-  pane("network", networkList);
+  tell(make("p", { class: "soft", id: "hint" }, "A click on a node or a link of the map, or in the list, tells of it here."));
+  pane("side", "network", networkList);
 }
 
 // What stands beside the map of the network; it is made once.
@@ -47,13 +48,6 @@ function networkList() {
     NET.placed ? make("p", { class: "soft" }, `${NET.placed} positions are the file's own.`) : "",
     ...NET.blocks.map((one) => make("p", { class: "mono soft" }, `block ${one}`)),
     make("h3", {}, "Nodes"), nodes, links];
-}
-
-function leaveForNetwork() {
-  if (KIND.view !== "network") {
-    return byId("nodebox") || make("div", { id: "nodebox" });
-  }
-  return byId("detail");
 }
 
 // A node with its SIDs and links; beside another view it stands above that one's details.
@@ -87,12 +81,15 @@ function showLink(number) {
 }
 
 function putBox(parts) {
-  const place = leaveForNetwork();
-  place.replaceChildren(...parts);
-  if (place.id === "nodebox") {
-    byId("detail").prepend(place);
-    byId("detail").scrollTop = 0;
+  if (KIND.view === "network") {
+    tell(...parts);
+    return;
   }
+  const box = byId("nodebox") || make("div", { id: "nodebox" });
+  box.replaceChildren(...parts);
+  const shown = byId("detail").querySelector(".pane.shown");
+  shown.prepend(box);
+  shown.scrollTop = 0;
 }
 
 // ---- search
@@ -199,6 +196,7 @@ function begin() {
   listenToSearch();
   listenToKeys();
   listenToPrint();
+  byId("detail").addEventListener("focus", () => byId("detail").querySelector(".pane.shown").focus()); // which is what scrolls
   byId("theme").addEventListener("click", turnTheme);
   byId("help").addEventListener("click", () => byId("keys").showModal());
   const first = ["whatif", "packets", "lists", "network"].find((name) => VIEWS.find((view) => view[0] === name)[3]);

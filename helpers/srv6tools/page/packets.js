@@ -5,7 +5,7 @@ const LISTED = DATA.groups.flatMap((group) => group.walks);
 const MOST_ENDS = 12; // that are summed up by themselves
 
 function showPackets() {
-  pane("packets", () => DATA.groups.map(groupList));
+  pane("side", "packets", () => DATA.groups.map(groupList));
   if (LISTED.length) {
     showWalk(LISTED.includes(KIND.walk) ? KIND.walk : LISTED[0], KIND.stage);
   }
@@ -104,7 +104,7 @@ function showWalk(number, stage) {
   } else {
     drawWalk(walk, KIND.stage);
   }
-  const detail = KIND.view === "packets" ? byId("detail") : byId("walker");
+  const detail = KIND.view === "packets" ? byId("detail-told") : byId("walker");
   const focused = detail.contains(document.activeElement) ? document.activeElement.id : "";
   detail.replaceChildren(...walkParts(walk));
   if (focused && byId(focused)) {

@@ -2,15 +2,18 @@
 
 const SIGNS = { kept: "=", other: "\u2260", none: "\u2715", refused: "!" };
 
-const HEAT = { box: null }; // the tables, which are made once: they may have thousands of cells
+const MOST_COLUMNS = 32; // of a table; one with more intents is shown in pieces, one below the other
+
+const HEAT = { // made once, and laid out once: tables may have thousands of cells
+  box: make("div", { class: "heatbox" }, ...DATA.tables.flatMap(heatTables)),
+  beside: make("div", {}), // what a cell tells
+};
 
 function showTables() {
-  pane("whatif", () => DATA.tables.flatMap(tableSums));
-  HEAT.box = HEAT.box || make("div", { class: "heatbox" }, ...DATA.tables.map(heatTable));
-  leaveCell();
-  const said = make("p", { id: "cellsaid", class: "soft" }, "A click on a cell shows its walk here.");
-  byId("detail").replaceChildren(make("div", { class: "split" }, HEAT.box, make("div", {}, said, make("div", { id: "walker" }))));
-  clearMap();
+  pane("side", "whatif", () => DATA.tables.flatMap(tableSums));
+  HEAT.beside.replaceChildren(
+    make("p", { id: "cellsaid", class: "soft" }, "A click on a cell shows its walk here."), make("div", { id: "walker" }));
+  pane("detail", "tables", () => [make("div", { class: "split" }, HEAT.box, HEAT.beside)]);
   byId("legend").textContent = "A click on a cell shows the failure and the walk there";
 }
 
@@ -29,6 +32,16 @@ function tableSums(table) {
     make("p", { class: "soft" }, "In a cell: the sign, the containers and the need of the list that is the least one then, and what becomes of a packet that still has the list from before (\u00d7 where it is lost): at first, while routes are the old ones and only next hops are left out that are gone, and later, once routes are found anew.")];
 }
 
+// Takes away what cells and nodes told beside the tables, which stay.
+function leaveTables() {
+  leaveCell();
+  HEAT.beside.replaceChildren();
+  const box = byId("nodebox");
+  if (box) {
+    box.remove();
+  }
+}
+
 function leaveCell() {
   const old = HEAT.box.querySelector('.cell[aria-current="true"]');
   if (old) {
@@ -36,17 +49,26 @@ function leaveCell() {
   }
 }
 
-// A table whose rows are laid out once they are seen, so that their columns have widths by the names above them.
-function heatTable(table, place) {
-  const widths = [["without", ...table.failures.map((failure) => failure.name)], ...table.intents.map((intent) => [intent])]
+function heatTables(table, place) {
+  const pieces = Math.max(1, Math.ceil(table.intents.length / MOST_COLUMNS));
+  return Array.from({ length: pieces }, (_, at) => heatTable(table, place, at * MOST_COLUMNS));
+}
+
+// The columns of a table from one on, whose rows are laid out once they are seen, so that columns have widths by the names above them.
+function heatTable(table, place, first) {
+  const intents = table.intents.slice(first, first + MOST_COLUMNS);
+  const isPiece = intents.length < table.intents.length;
+  const widths = [["without", ...table.failures.map((failure) => failure.name)], ...intents.map((intent) => [intent])]
     .map((names) => Math.max(...names.map((name) => name.length)));
   const columns = widths.map((letters, at) => `${Math.max(at ? 5.2 : 4, Math.min(letters * 0.56 + 1, 18)).toFixed(1)}em`);
   const head = make("tr", {}, make("th", { scope: "col" }, "without"),
-    ...table.intents.map((intent) => make("th", { scope: "col", title: intent }, intent)));
+    ...intents.map((intent) => make("th", { scope: "col", title: intent }, intent)));
   const rows = table.failures.map((failure, row) => make("tr", {}, make("th", { scope: "row", title: failure.name }, failure.name),
-    ...failure.cells.map((cell, column) => make("td", {}, cellButton(table, place, row, column)))));
-  const heat = make("table", { class: "heat", id: `heat${place}`, style: `--columns: ${columns.join(" ")}` },
-    make("thead", {}, head), make("tbody", {}, ...rows));
+    ...intents.map((_, column) => make("td", {}, cellButton(table, place, row, first + column)))));
+  const heat = make("table", {
+    class: "heat", style: `--columns: ${columns.join(" ")}`,
+    "aria-label": isPiece ? `intents ${first + 1} to ${first + intents.length} of ${table.intents.length}` : null,
+  }, make("thead", {}, head), make("tbody", {}, ...rows));
   heat.addEventListener("click", (event) => {
     const cell = event.target.closest(".cell");
     if (cell) {
