@@ -1,4 +1,3 @@
--- Need not be believed: no program stands on it yet.
 -- The lines of an input.
 use Rattle.std.specs.Prelude.{ℕ, List, [], ◌∷◌, ◌++◌, ◌==◌, if◌then◌else◌}
 

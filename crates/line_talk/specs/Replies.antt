@@ -1,8 +1,5 @@
--- Need not be believed: no program stands on it yet.
 -- Lines that are answered one after another, by replies that depend on a state.
-use Rattle.std.specs.Prelude.{◌≡◌, ℕ, ◌<◌, ◌≤◌, List, [], ◌∷◌, ◌++◌, length, Result, Ok, Err}
-use Rattle.std.specs.Global.{Vec}
-use Rattle.base.specs.declared.no_memory.NoMemory.{NoMemory}
+use Rattle.std.specs.Prelude.{◌≡◌, ℕ, ◌<◌, ◌≤◌, List, [], ◌∷◌, ◌++◌, length}
 use Rattle.line_talk.specs.Lines.{line_feed}
 use Rattle.line_talk.specs.declared.engine.TheConstants.{MAX_LINE}
 
@@ -33,8 +30,3 @@ AllReply {State} rules before (line ∷ lines) (reply ∷ replies) behind =
 abbrev pub text_of : List (List ℕ) → List ℕ
 text_of [] = []
 text_of (reply ∷ replies) = reply ++ line_feed ∷ text_of replies
-
--- what an engine does with a line
-abbrev pub Answers : {State : Type 0} → Rules State → State → List ℕ → Result (Vec ℕ) NoMemory → State → Type 0
-Answers rules before line (Ok reply) behind = rules.Replies before line reply.items behind
-Answers rules before line (Err fault) behind = rules.Spares before behind

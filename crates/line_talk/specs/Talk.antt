@@ -1,4 +1,3 @@
--- Need not be believed: no program stands on it yet.
 -- What a program and its client said so far, and when the program asked for more.
 use Rattle.std.specs.Prelude.{◌≡◌, ℕ, ◌<◌, ◌≤◌, Bool, true, false, List, [], ◌∷◌, ◌++◌, length, take, ◌==◌, Option, option_map, Result, Ok, Err}
 use Rattle.srx_edge.specs.declared.input.Failed.{Failed}

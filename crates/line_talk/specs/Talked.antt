@@ -1,4 +1,3 @@
--- Need not be believed: no program stands on it yet.
 -- What becomes of a talk in which an engine answers each line before the program asks for more.
 use Rattle.std.specs.Prelude.{◌≡◌, ℕ, ◌-◌, ◌^◌, ◌≤◌, true, false, List, [], ◌++◌, length, take, ◌⊎◌, if◌then◌else◌}
 use Rattle.std.specs.List.{AllByRecursion}

@@ -1,6 +1,7 @@
 //! What answers lines.
 ghost use Rattle.std.specs.Prelude.{◌≡◌, ◌≤◌, ℕ, List, length, IfOk};
-ghost use Rattle.line_talk.specs.Replies.{Rules, Answers};
+ghost use Rattle.line_talk.specs.EngineAnswers.{Answers};
+ghost use Rattle.line_talk.specs.Replies.{Rules};
 
 use base::NoMemory;
 use std::alloc::Global;

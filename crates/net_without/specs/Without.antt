@@ -1,4 +1,3 @@
--- Need not be believed: no program stands on it yet.
 -- A network in which some links are down, and with some nodes all links from and to them.
 use Rattle.std.specs.Prelude.{ℕ, Bool, true, false, ◌||◌, not, List, [], ◌∷◌, map, slice_get, Option, None, Some}
 use Rattle.std.specs.List.{filter, filter_map, list_any}

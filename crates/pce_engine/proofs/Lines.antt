@@ -5,7 +5,7 @@ use Rattle.std.specs.Global.{Vec}
 use Rattle.base.specs.declared.no_memory.NoMemory.{NoMemory as NoRoom}
 use Rattle.text_faults.specs.declared.fault.OrNoMemory.{OrNoMemory}
 use Rattle.text_faults.specs.declared.fault.OrNoMemory.TheVariants as reads
-use Rattle.line_talk.specs.Replies.{Answers}
+use Rattle.line_talk.specs.EngineAnswers.{Answers}
 use Rattle.pce_protocol.specs.declared.id.Id.{Id}
 use Rattle.pce_protocol.specs.declared.id.Id.TheVariants as ids
 use Rattle.pce_protocol.specs.declared.request.Request.{Request}

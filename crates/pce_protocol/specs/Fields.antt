@@ -1,4 +1,3 @@
--- Need not be believed: no program stands on it yet.
 -- The names of a request's fields.
 use Rattle.std.specs.Prelude.{ℕ, Bool, List, codes, if◌then◌else◌, Option, Some, None, bytes_eq}
 use Rattle.std.specs.List.{list_any}

@@ -1,4 +1,3 @@
--- Need not be believed: no program stands on it yet.
 -- What may name a request, and how a reply gives it back.
 use Rattle.std.specs.Prelude.{ℕ, Bool, nat_le, length, if◌then◌else◌, Option, Some, None, option_and_then}
 use Rattle.serde_json.specs.Data.{Num, unsigned, negative, float, Data, null, boolean, number, string, array, object}

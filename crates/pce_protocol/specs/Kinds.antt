@@ -1,4 +1,3 @@
--- Need not be believed: no program stands on it yet.
 -- What the value of a field is read as: own rules but for the texts of addresses.
 use Rattle.std.specs.Prelude.{ℕ, ◌/◌, ◌^◌, ◌==◌, Bool, false, ◌&&◌, ◌||◌, nat_lt, nat_le, if◌then◌else◌, List, [], ◌∷◌, length, codes, Option, Some, None, option_map, option_and_then, Result, Ok, Err, bytes_eq}
 use Rattle.hex.specs.Hex.{decode_of}

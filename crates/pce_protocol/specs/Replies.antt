@@ -1,4 +1,3 @@
--- Need not be believed: no program stands on it yet.
 -- The replies, as JSON values. Members stand in ascending order of their names.
 use Rattle.std.specs.Prelude.{ℕ, Bool, true, false, List, map, codes, Option, None, Some, Result, Ok, Err}
 use Rattle.serde_json.specs.Data.{Data, null, boolean, number, string, array, object, unsigned, Members, no_members, member, put}

@@ -1,4 +1,3 @@
--- Need not be believed: no program stands on it yet.
 -- What a line asks for. A line is a JSON object; its faults are found in one order.
 use Rattle.std.specs.Prelude.{ℕ, false, if◌then◌else◌, List, [], ◌∷◌, Option, Some, None, option_and_then, is_some, Result, Ok, Err}
 use Rattle.std.specs.Str.{is_utf8}
