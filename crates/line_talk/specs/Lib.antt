@@ -1,5 +1,6 @@
 pub mod Lines
 pub mod Replies
+pub mod EngineAnswers
 pub mod Talk
 pub mod Talked
 pub mod TalkTerms
