@@ -4,6 +4,7 @@
 ghost use Rattle.std.specs.Prelude.{None};
 
 use srx_edge::{Failed, FileFault, Files, HostFiles, HostSink, Opens, PourFault, pour};
+use std::alloc::{AllocError, Global};
 use std::test::Fail;
 use std::{fs, io};
 
@@ -38,6 +39,35 @@ fn files_of_the_system_at_their_edges(rt: HostRuntime) -> Result<(), Fail> {
     ] {
         let read = files.read(rt.alloc(), name, LIMIT);
         assert_eq!(rt; read.map(|bytes| bytes.len()), want, "at {name}");
+    }
+    Ok(())
+}
+
+/// The name of the empty file, behind so many steps that stay in the folder.
+fn name_behind(alloc: Global, steps: usize) -> Result<String, AllocError> {
+    let mut name = String::new(alloc);
+    for _ in 0..steps {
+        name.push_str("./")?;
+    }
+    name.push_str("empty")?;
+    Ok(name)
+}
+
+/// A path of up to 4,095 bytes is read, and the system has none that is longer.
+#[test]
+fn paths_that_are_long(rt: HostRuntime) -> Result<(), Fail> {
+    fs::write(&rt, "empty", b"".as_slice())?;
+    let mut files = HostFiles::new(&rt);
+    for (steps, want) in [
+        (0, Ok(0)),
+        (200, Ok(0)),
+        (2045, Ok(0)),
+        (2046, Err(FileFault::Failed)),
+        (40_000, Err(FileFault::Failed)),
+    ] {
+        let name = name_behind(rt.alloc(), steps)?;
+        let read = files.read(rt.alloc(), name.as_str(), LIMIT);
+        assert_eq!(rt; read.map(|bytes| bytes.len()), want, "behind {steps}");
     }
     Ok(())
 }

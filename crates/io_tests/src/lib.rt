@@ -4,6 +4,8 @@
 #![tactic(auto)]
 
 #[cfg(test)]
+mod byte_tests;
+#[cfg(test)]
 mod classic_tests;
 #[cfg(test)]
 mod host_files_tests;
