@@ -1,8 +1,13 @@
 -- How the program ends.
-use Rattle.std.specs.Prelude.{◌≡◌, ◌⊎◌, ℕ, List, drop, String}
+use Rattle.std.specs.Prelude.{◌≡◌, ◌≢◌, ◌⊎◌, ℕ, List, [], drop, String, Result, Ok, Err}
+use Rattle.std.specs.IoError.{error_kind}
 use Rattle.std.specs.Process.{exit_status}
+use Rattle.std.specs.Vec.Iter.{into_iter_items}
 use Rattle.std.specs.declared.alloc.Global.{Global}
+use Rattle.std.specs.declared.io.Error.{Error}
+use Rattle.std.specs.declared.io.ErrorKind.TheVariants as kinds
 use Rattle.std.specs.declared.process.ExitCode.{ExitCode}
+use Rattle.std.specs.declared.vec.IntoIter.{IntoIter}
 use Rattle.command_output.specs.Outside.{Outside}
 use Rattle.command_output.specs.Verbs.{words_of}
 use Rattle.command_output.specs.declared.status.Status.{Status}
@@ -33,3 +38,14 @@ pub record Wanted (code : ExitCode) (old new : Outside) : Type 0 where
 
 abbrev pub Ends : List (String Global) → ExitCode → Outside → Outside → Type 0
 Ends all code old new = Served all code old new ⊎ Wanted code old new
+
+-- ---- what the system told of its words
+
+-- want of memory for them, or that they are no texts: then none were served, for which no memory is wanted
+pub record Untold (error : Error) (code : ExitCode) (old new : Outside) : Type 0 where
+  pub memory : error_kind error ≡ kinds.OutOfMemory → Wanted code old new
+  pub no_texts : error_kind error ≢ kinds.OutOfMemory → Served [] code old new
+
+abbrev pub Answers : Result (IntoIter (String Global) Global) Error → ExitCode → Outside → Outside → Type 0
+Answers (Ok all) code old new = Ends (into_iter_items all) code old new
+Answers (Err error) code old new = Untold error code old new

@@ -1,15 +1,16 @@
 //! The program `srv6`: SRv6 nodes run on packets, proved.
 //!
-//! `run` has the clause of the whole program over any files, input and outputs: the words are those
-//! after the program's name, and the exit status is the number of the status. What stands without a
-//! clause is `main`: that the words, the files and the streams are the system's.
+//! `answer` has the clause of the whole program over what the system tells of its words, any files,
+//! input and outputs: the words are those after the program's name, and the exit status is the
+//! number of the status. What stands without a clause is `main`: that the words, the files and the
+//! streams are the system's.
 #![tactic(auto)]
 
 ghost use Rattle.std.specs.Prelude.{◌≡◌, drop, IfOk};
 ghost use Rattle.std.specs.Vec.Iter.{into_iter_items};
 ghost use Rattle.std.specs.Process.{exit_status};
 ghost use Rattle.command_output.specs.Outside.{outside};
-ghost use Rattle.srv6.specs.Exit.{exit_number, Ends};
+ghost use Rattle.srv6.specs.Exit.{exit_number, Answers, Ends};
 
 use srv6_cli::{Status, serve};
 use srx_edge::{Files, HostFiles, HostSink, HostSource, Sink, Source};
@@ -58,24 +59,35 @@ fn run<F: Files, S: Source, O: Sink, E: Sink>(
     exit_code(status)
 }
 
-/// Runs the command that these words name over real files and std's streams.
-fn run_over_system(rt: &HostRuntime, all: env::Args) -> ExitCode {
-    run(
+/// Runs the command of the system's words. Where memory was wanting for them that is answered, and
+/// nothing else is done; words that aren't texts are as no words.
+fn answer<F: Files, S: Source, O: Sink, E: Sink>(
+    alloc: Global,
+    told: io::Result<env::Args>,
+    files: &mut F,
+    input: &mut S,
+    out: &mut O,
+    err: &mut E,
+) -> ExitCode
+    ensures { Answers told result
+        (outside (F.seen files.old) (S.seen input.old) (O.seen out.old) (E.seen err.old))
+        (outside (F.seen files.new) (S.seen input.new) (O.seen out.new) (E.seen err.new)) }
+{
+    match told {
+        Ok(all) => run(alloc, all, files, input, out, err),
+        Err(error) if error.kind() == io::ErrorKind::OutOfMemory => exit_code(Status::NoMemory),
+        Err(_) => exit_code(serve(alloc, &[], files, input, out, err)),
+    }
+}
+
+/// Answers the system's words over its files and streams; the status is the exit number.
+fn main(rt: HostRuntime) -> ExitCode {
+    answer(
         rt.alloc(),
-        all,
-        &mut HostFiles::new(rt),
+        env::args(&rt),
+        &mut HostFiles::new(&rt),
         &mut HostSource::new(rt.stdin()),
         &mut HostSink::new(rt.stdout()),
         &mut HostSink::new(rt.stderr()),
     )
-}
-
-/// Runs the command that the words name; the status is the exit number. Words that aren't texts are
-/// as no words.
-fn main(rt: HostRuntime) -> ExitCode {
-    match env::args(&rt) {
-        Ok(all) => run_over_system(&rt, all),
-        Err(error) if error.kind() == io::ErrorKind::OutOfMemory => exit_code(Status::NoMemory),
-        Err(_) => run_over_system(&rt, Vec::new(rt.alloc()).into_iter()),
-    }
 }
