@@ -1,9 +1,12 @@
 -- The command `update`: the inner packets of the input, at the headend of one intent, while the nodes' tables pass from the description of
 -- one file to that of another.
-use Rattle.std.specs.Prelude.{◌≡◌, ℕ, Bool, true, false, is_ok, if◌then◌else◌, List, [], ◌∷◌, codes, Option, Some, None, Result, Ok, Err, IsSomeAnd, pos}
+use Rattle.std.specs.Prelude.{◌≡◌, ℕ, ◌+◌, Bool, true, false, is_ok, if◌then◌else◌, List, [], ◌∷◌, codes, Option, Some, None, Result, Ok, Err, IsSomeAnd, pos}
 use Rattle.text_faults.specs.declared.text_place.TableKind.{TableKind}
+use Rattle.text_faults.specs.declared.text_place.TableKind.TheVariants as tables
 use Rattle.text_faults.specs.declared.text_place.Key.TheVariants as keys
+use Rattle.text_faults.specs.declared.fault_kind.FaultKind.{FaultKind}
 use Rattle.text_faults.specs.declared.fault_kind.FaultKind.TheVariants as kinds
+use Rattle.net_model.specs.declared.limits.TheConstants.{MAX_ROUTES, MAX_SIDS_OF_NODE}
 use Rattle.net_model.specs.Network.{Network}
 use Rattle.net_flatness.specs.declared.not_flat.NotFlat.{NotFlat}
 use Rattle.net_flatness.specs.Flat.{flatness_of}
@@ -62,9 +65,14 @@ update_words words = update_by (two_words (codes "update") words)
 
 -- ---- what is wanted of two descriptions and an intent in both
 
+-- what is too many, of routes or else of SIDs, with the least count that can be: of all routes, and of the SIDs of a node
+abbrev pub too_many : TableKind → FaultKind
+too_many tables.Route = kinds.Limit keys.Route (pos (MAX_ROUTES + 1))
+too_many other = kinds.Limit keys.Sid (pos (MAX_SIDS_OF_NODE + 1))
+
 -- a table that the entries of both descriptions overfill
 abbrev pub limit_refusal : TableKind → Refusal
-limit_refusal table = refusals.Net (record { place = record { table = table; item = 0 }; kind = kinds.Limit keys.Sid (pos 0) })
+limit_refusal table = refusals.Net (record { place = record { table = table; item = 0 }; kind = too_many table })
 
 -- the input is judged where there are both lists
 

@@ -3,13 +3,13 @@
 ghost use Rattle.std.specs.Prelude.{◌≡◌, []};
 ghost use Rattle.intent_reader.specs.IntentRulesTerms.{IsIntent};
 ghost use Rattle.net_flatness.specs.Flat.{flatness_of};
-ghost use Rattle.update_commands.specs.UpdateCommand.{limit_refusal};
+ghost use Rattle.update_commands.specs.UpdateCommand.{limit_refusal, too_many};
 ghost use Rattle.update_commands.specs.UpdateCommandTerms.{FlatAs, IsPlanHalt, PlansAs, UpdateStartsAs};
 
 use command_inputs::BothIntents;
 use command_output::{EntryName, Failure, Halt, Refusal, Text, refusal_of_not_flat};
 use net_flatness::compilable;
-use net_model::Net;
+use net_model::{MAX_ROUTES, MAX_SIDS_OF_NODE, Net};
 use std::alloc::Global;
 use text_faults::{FaultKind, FaultPlace, Key, TableKind, TextFault};
 use update_driver::Sides;
@@ -26,16 +26,29 @@ pub enum UpdateStart {
     NoList(Text),
 }
 
+/// What is too many, of routes or else of SIDs, with the least count that can be.
+fn too_many(table: TableKind) -> FaultKind
+    ensures { result ≡ too_many table }
+{
+    match table {
+        TableKind::Route => FaultKind::Limit {
+            what: Key::Route,
+            value: MAX_ROUTES as i64 + 1,
+        },
+        _ => FaultKind::Limit {
+            what: Key::Sid,
+            value: MAX_SIDS_OF_NODE as i64 + 1,
+        },
+    }
+}
+
 /// The refusal of a table that the entries of both descriptions overfill.
 fn limit_refusal(table: TableKind) -> Refusal
     ensures { result ≡ limit_refusal table }
 {
     Refusal::Net(TextFault {
         place: FaultPlace { table, item: 0 },
-        kind: FaultKind::Limit {
-            what: Key::Sid,
-            value: 0,
-        },
+        kind: too_many(table),
     })
 }
 
