@@ -15,11 +15,10 @@ from typing import NamedTuple
 from .description import MOST_MTU, Network, Sid
 from .intent import Intent, Step
 from .items import Prefix
-from .places import MULTICAST, Place, Stop, Tables, arrival, place_behind
+from .places import MULTICAST, Found, Halt, Place, Tables, Via, arrival, place_behind
 from .pushed_headers import HeaderWalks, Origin
 from .spelled_lists import Path
 
-OFF_STEPS = (Stop.LINKS, Stop.FUNCTION, Stop.NO_STEP)
 CAUSES = ("lost", "astray", "apart", "early", "unexecuted")  # the first that happens is told
 
 
@@ -104,10 +103,10 @@ class _Follower:
     def follow(self) -> Course:
         """Follows packets from SID to SID, up to the first that isn't executed alike."""
         course = self.course
-        origin = Origin(0, Place(self.intent.headend, 0, None, False))
+        behind = _Behind(Origin(0, Place(self.intent.headend, 0, None, False)))
         for number, (_, prefix) in enumerate(self.path, 1):
-            way = _Way(int(prefix.network_address), prefix, number)
-            lowered = self._on(way, origin.position, origin.place, ())
+            way, origin = _Way(int(prefix.network_address), prefix, number, list(behind.events)), behind.origin
+            lowered = self._on(way, origin.position, origin.place, behind.choices) if origin else 0
             if bad := _first_bad(way.events):
                 return self._broken(number, bad)
             event = way.events[0]
@@ -119,9 +118,6 @@ class _Follower:
                 return self._handed(number, event)
             course.need += lowered + 1
             behind = self._behind(event.sid, event.position)
-            if isinstance(behind, Event):
-                return self._broken(number + 1, behind)
-            origin = behind
         return course
 
     def _broken(self, number: int, bad: Event) -> Course:
@@ -157,20 +153,25 @@ class _Follower:
             return "" if exposes else f"{sid.behaviour} at {sid.node} takes no {self.intent.inner} packet out"
         return "" if sid.goes_on else f"{sid.behaviour} at {sid.node} goes on along no list"
 
-    def _behind(self, sid: Sid, position: int) -> Origin | Event:
-        """From where a packet goes on behind a SID, or what becomes of the header that it pushes."""
+    def _behind(self, sid: Sid, position: int) -> "_Behind":
+        """What follows behind a SID, by way of the header that it pushes if it does."""
         if not sid.binds:
-            return Origin(position, place_behind(sid))
+            return _Behind(Origin(position, place_behind(sid)))
         self.course.has_pushed = True
-        stands = _stands(self.net, self.intent)
-        end = HeaderWalks(self.net, self.intent, stands, self.tables).end(position, sid)
+        walks = _AlongSteps(self.net, self.intent, _stands(self.net, self.intent), self.tables)
+        end = walks.end(position, sid)
+        taken, said = tuple(walks.taken), list(walks.others)
         if isinstance(end, Origin):
-            self.course.choices += (0,) * (end.position - position)
-            return end
-        why = end.why if isinstance(end.why, str) else end.why.stop.value
-        is_astray = "isn't the next step" in why if isinstance(end.why, str) else end.why.stop in OFF_STEPS
-        cause, verb = ("astray", "leaves the steps") if is_astray else ("lost", "is lost")
-        return Event(cause, sid.node, end.position, f"the header that {sid.node} pushes {verb}: {why}", ())
+            return _Behind(end, taken, [self._lost_header(sid, end.position, *one) for one in said])
+        if isinstance(end.why, str):
+            said.append(("astray" if "isn't the next step" in end.why else "lost", end.why, taken))
+        elif not end.why.via:
+            said.append(("lost", end.why.stop.value, taken))
+        return _Behind(None, taken, [self._lost_header(sid, end.position, *one) for one in said])
+
+    def _lost_header(self, sid: Sid, position: int, cause: str, why: str, choices: tuple[int, ...]) -> Event:
+        verb = "leaves the steps" if cause == "astray" else "is lost"
+        return Event(cause, sid.node, position, f"the header that {sid.node} pushes {verb}: {why}", choices)
 
     def _on(self, way: _Way, position: int, place: Place, choices: tuple[int, ...]) -> int:
         """Follows a packet on from a place; the lowerings that are left on the way, at most."""
@@ -251,6 +252,39 @@ class _Follower:
         if position == len(self.steps):
             return "all steps are done"
         return f"what comes next is {self._step(position)}"
+
+
+class _Behind(NamedTuple):
+    """What follows behind a SID: from where packets go on to the next one, None where they don't under any choice, and the
+    members that were taken up to there; and what becomes under other choices of a header that it pushed.
+    """
+
+    origin: Origin | None
+    choices: tuple[int, ...] = ()
+    events: Sequence[Event] = ()
+
+
+class _AlongSteps(HeaderWalks):
+    """The walk of a pushed header that goes on along the steps where some of the links that it meets lead so."""
+
+    def __init__(self, net: Network, intent: Intent, stands: list[str], tables: Tables) -> None:
+        super().__init__(net, intent, stands, tables)
+        self._links, self._steps = net.links, intent.steps
+        self.taken: list[int] = []  # the members along the steps
+        self.others: list[tuple[str, str, tuple[int, ...]]] = []  # of each other one the cause, why, and the members up to it
+
+    def _halt(self, place: Place, found: Found, address: int, position: int) -> Halt | None:
+        halt = super()._halt(place, found, address, position)
+        links = found.links if isinstance(found, Via) else ()
+        ahead = self._steps[position].links if position < len(self._steps) else ()
+        along = [member for member, name in enumerate(links) if name in ahead]
+        for member, name in enumerate(links):
+            if halt and name not in ahead:
+                leaves = self._links[name].end is None
+                why = f"{place.node} sends it out of the network over {name}" if leaves else halt.stop.value
+                self.others.append(("lost" if leaves else "astray", why, (*self.taken, member)))
+        self.taken += along[:1]
+        return None if along else halt
 
 
 def _first_bad(events: Sequence[Event]) -> Event | None:

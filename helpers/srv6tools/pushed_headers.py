@@ -13,7 +13,7 @@ from typing import NamedTuple
 from .command import Fault
 from .description import Network, Policy, Sid
 from .intent import Intent
-from .places import Halt, Place, Tables, Via, arrival, halt_at, place_behind, place_inside
+from .places import Found, Halt, Place, Tables, Via, arrival, halt_at, place_behind, place_inside
 
 MOST_STAGES = 1000  # the execution that pushes the header the first, its hand-over the last
 HEADER_BYTES, ROUTING_BYTES, ENTRY_BYTES = 40, 8, 16
@@ -212,10 +212,14 @@ class HeaderWalks:
             return self._executed(position, header, found)
         if place.lowers and isinstance(found, Via) and header.hop_limit <= 1:
             return Lost(position, address, f"at {place.node} {Fate.HOP_LIMIT.value}")
-        if halt := halt_at(place, found, address, self._intent.steps[position : position + 1]):
+        if halt := self._halt(place, found, address, position):
             return Lost(position, address, halt)
         sent = header._replace(hop_limit=header.hop_limit - place.lowers)
         return Stage(position + 1, arrival(self._stands[position + 1]), sent, None)
+
+    def _halt(self, place: Place, found: Found, address: int, position: int) -> Halt | None:
+        """What keeps a header from going on along the steps, over each of the links that it meets."""
+        return halt_at(place, found, address, self._intent.steps[position : position + 1])
 
     def _executed(self, position: int, header: Header, sid: Sid) -> Stage | Lost:
         """At a SID, whose title has to be the function of the next step."""

@@ -5,6 +5,7 @@ import unittest
 from ipaddress import IPv6Address
 from pathlib import Path
 
+from srv6tools.courses import Courses
 from srv6tools.description import network_of
 from srv6tools.engine import Engine, Judged
 from srv6tools.files import parse_toml
@@ -108,6 +109,60 @@ class Words(ToolCase):
                 self.named_answer(run_here("judge", NET, self.file("intent.toml", text), WHOLE))
         nested = run_tool("judge", NET, RED, WHOLE, SRV6_PCE=str(self.folder / "none"))
         self.assertEqual((nested.status, len(nested.err.splitlines())), (6, 1))
+
+
+class Pushed(unittest.TestCase):
+    """Headers that a binding SID pushes, where equal next hops lead on and off the steps."""
+
+    NET = """\
+node = [{ name = "A", address = "2001:db8::a" }, { name = "B", address = "2001:db8::b" }]
+link = [{ name = "ab0", from = "A", to = "B" }, { name = "ab1", from = "A", to = "B" }, { name = "out", from = "A" }]
+route = [{ node = "A", prefix = "2001:db8:f1::/48", via = %s }]
+policy = [{ name = "p", source = "2001:db8::a", segments = ["2001:db8:f1::"%s] }]
+
+[[sid]]
+node = "B"
+prefix = "2001:db8:f1::/48"
+behaviour = "End"
+flavours = ["usd"]
+
+[[sid]]
+node = "B"
+prefix = "2001:db8:f2::/48"
+behaviour = "End.DT6"
+title = "vpn"
+table = 0
+
+[[sid]]
+node = "A"
+prefix = "2001:db8:b1::/48"
+behaviour = "End.B6.Encaps"
+policy = "p"
+"""
+    INTENT = """\
+headend = "A"
+source = "2001:db8::a"
+inner = "ipv6"
+mode = "reduced"
+step = [{ links = ["ab0"] }, { function = "vpn" }]
+"""
+
+    def test_each_choice_of_a_pushed_header_is_followed(self):
+        """The first cause is told, whichever member leads there; the members are told too."""
+        intent = intent_of(parse_toml(self.INTENT, "intent"), "intent")
+        path = [(False, prefix_of("2001:db8:b1::/48")), (False, prefix_of("2001:db8:f2::/48"))]
+        for via, more, sid, cause, choices in (
+            ('["ab0"]', "", 0, "", (0,)),
+            ('["ab0", "ab1"]', "", 2, "astray", (1,)),
+            ('["ab1"]', "", 2, "astray", (0,)),
+            ('["ab0", "ab1"]', ', "2001:db8:f9::"', 2, "lost", (0,)),  # B has no route to it
+            ('["ab0", "out"]', "", 2, "lost", (1,)),
+            ('["ab1", "out"]', "", 2, "lost", (1,)),
+        ):
+            with self.subTest(via, more=more):
+                net = network_of(parse_toml(self.NET % (via, more), "net"), "net")
+                course = Courses(net).course(intent, path)
+                self.assertEqual((course.sid, course.cause, course.choices), (sid, cause, choices))
 
 
 class Names(unittest.TestCase):
