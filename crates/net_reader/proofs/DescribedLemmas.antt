@@ -46,7 +46,7 @@ is_address_from : (text : List ℕ) (a : ℕ) → address_of_text text ≡ Some 
 unfolding is_address
 is_address_from text a e = lt-ltb _ _ (address_below text a ((address_text_is text a).0 e))
 
-is_prefix_from : (p : PrefixValue) → IsPrefix p → is_prefix p ≡ true
+pub is_prefix_from : (p : PrefixValue) → IsPrefix p → is_prefix p ≡ true
 unfolding is_prefix is_address
 is_prefix_from p h = and_from _ _ (le-leb _ _ h.0) (and_from _ _ (lt-ltb _ _ h.1) (eq-eqb _ _ h.2))
 
@@ -79,7 +79,7 @@ yields_prefix p k d =
     yields_behind (λ q. is_prefix q ≡ true) (text_in p d) _
     (λ text. yields_or_fault (λ q. is_prefix q ≡ true) (fault_at p kinds.BadAddress) (prefix_of_text text) (prefix_text text))
 
-abbrev IsOfFamily : FamilyPrefix → Type 0
+abbrev pub IsOfFamily : FamilyPrefix → Type 0
 IsOfFamily q = is_prefix_of q.family q.prefix ≡ true
 
 family_given : (text : List ℕ) (six four : Option PrefixValue) → prefix_of_text text ≡ six → prefix4_of_text text ≡ four
@@ -96,7 +96,7 @@ family_given text None None other is q e = absurd (none≢some q e)
     none≢some : (y : FamilyPrefix) → None ≡ Some y → ⊥
     none≢some y e = cc
 
-yields_family : (p : FaultPlace) (k : Key) (d : Data) → Yields IsOfFamily (family_prefix_in p k d)
+pub yields_family : (p : FaultPlace) (k : Key) (d : Data) → Yields IsOfFamily (family_prefix_in p k d)
 yields_family p k d =
     yields_behind IsOfFamily (text_in p d) _
     (λ text. yields_or_fault IsOfFamily (fault_at p kinds.BadAddress) (family_prefix_of text)

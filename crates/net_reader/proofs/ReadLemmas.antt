@@ -17,7 +17,7 @@ use Rattle.text_faults.specs.TextReading.{Gives}
 use Rattle.toml_reader.specs.TomlReading.{◌>>=◌, or_fault, document_of}
 use Rattle.net_syntax.specs.declared.description.Description.{Description}
 use Rattle.net_syntax.specs.DescriptionText.{description_in, net_place}
-use Rattle.net_reader.specs.Joining.{node_names, link_names, policy_names, joined_block, joined}
+use Rattle.net_reader.specs.Joining.{node_names, link_names, policy_names, joined_block, joined_node, joined_link, joined_policy, joined}
 use Rattle.net_reader.specs.Standings.{standing_of, standings_of}
 use Rattle.net_reader.specs.StandingsTerms.{HaveTheirKeys}
 use Rattle.net_reader.specs.NetworkReading.{judged_network, net_in}
@@ -31,30 +31,37 @@ use Rattle.net_reader.proofs.ExactLemmas.{well_from, judging_alike}
 text_fits : (text : List ℕ) → Yields Fits (description_in text)
 text_fits text = yields_behind Fits (or_fault (fault_at net_place kinds.NotToml) (document_of text)) _ description_fits
 
-said_fits : (text : List ℕ) (said : Description) → description_in text ≡ Ok said → Fits said
+pub said_fits : (text : List ℕ) (said : Description) → description_in text ≡ Ok said → Fits said
 said_fits text said is = yielded Fits (description_in text) said (text_fits text) is
 
 pub said_in_range : (text : List ℕ) (said : Description) → description_in text ≡ Ok said → InRange (joined said)
 said_in_range text said is = in_range said (said_fits text said is)
 
-pub said_few : (text : List ℕ) (said : Description) → description_in text ≡ Ok said
+pub few_in_range : (said : Description) → InRange (joined said)
     → (length said.nodes < 2 ^ 32) × (length said.links < 2 ^ 32) × (length said.policies < 2 ^ 32) × (length said.sids < 2 ^ 32)
-said_few text said is =
-    let fits = said_fits text said is in
-    let nodes : length said.nodes ≤ MAX_NODES = leb-true _ _ (and_parts _ _ fits.nodes).0 in
-    let links : length said.links ≤ MAX_LINKS = leb-true _ _ (and_parts _ _ fits.links).0 in
-    let policies : length said.policies ≤ MAX_POLICIES = leb-true _ _ (and_parts _ _ fits.policies).0 in
-    let sids : length said.sids ≤ MAX_SIDS = leb-true _ _ (and_parts _ _ fits.sids).0 in
-    (omega (arith, nodes), omega (arith, links), omega (arith, policies), omega (arith, sids))
+few_in_range said range =
+    let nodes : length (joined said).nodes ≤ MAX_NODES = leb-true _ _ (and_parts _ _ range.nodes).0 in
+    let links : length (joined said).links ≤ MAX_LINKS = leb-true _ _ (and_parts _ _ range.links).0 in
+    let policies : length (joined said).policies ≤ MAX_POLICIES = leb-true _ _ (and_parts _ _ range.policies).0 in
+    let sids : length (joined said).sids ≤ MAX_SIDS = leb-true _ _ (and_parts _ _ range.sids).0 in
+    let node_count = length-map said.nodes joined_node in
+    let link_count = length-map said.links (joined_link (node_names said)) in
+    let policy_count = length-map said.policies joined_policy in
+    let sid_count = as_many (node_names said) (link_names said) (policy_names said) (map joined_block said.blocks) 0 said.sids in
+    (omega (arith, nodes, node_count), omega (arith, links, link_count), omega (arith, policies, policy_count), omega (arith, sids, sid_count))
 
 -- ---- what is read
 
+pub said_judged : (said : Description) (r : Result Network (OrNoMemory TextFault))
+    → Gives (λ _. tt) r (judging (joined said) (standings_of said)) → IfOk r (λ net. net ≡ joined said)
+    → Gives (λ net. net) r (judged_network said)
+said_judged said (Ok net) fine same = ap (λ u. ◌>>=◌ u (λ v. Ok (joined said))) fine ∙ ap Ok (sym same)
+said_judged said (Err why) first same = λ fault other. ap (λ u. ◌>>=◌ u (λ v. Ok (joined said))) (first fault other)
+
 pub read_judged : (text : List ℕ) (said : Description) (r : Result Network (OrNoMemory TextFault)) → description_in text ≡ Ok said
-    → Gives (λ _. tt) r (judging (joined said) (standings_of said)) → IfOk r (λ net. net ≡ joined said) → Gives (λ net. net) r (net_in text)
-read_judged text said (Ok net) is fine same =
-    ap (λ d. ◌>>=◌ d judged_network) is ∙ ap (λ u. ◌>>=◌ u (λ v. Ok (joined said))) fine ∙ ap Ok (sym same)
-read_judged text said (Err why) is first same = λ fault other.
-    ap (λ d. ◌>>=◌ d judged_network) is ∙ ap (λ u. ◌>>=◌ u (λ v. Ok (joined said))) (first fault other)
+    → Gives (λ net. net) r (judged_network said) → Gives (λ net. net) r (net_in text)
+read_judged text said (Ok net) is given = ap (λ d. ◌>>=◌ d judged_network) is ∙ given
+read_judged text said (Err why) is given = λ fault other. ap (λ d. ◌>>=◌ d judged_network) is ∙ given fault other
 
 pub read_refused : (text : List ℕ) (fault : TextFault) → description_in text ≡ Err fault → net_in text ≡ Err fault
 read_refused text fault is = ap (λ d. ◌>>=◌ d judged_network) is
@@ -66,6 +73,8 @@ built_whole built (Ok net) whole same = ap (λ (n : Network). n.hidden) same ∙
 built_whole built (Err why) whole same = tt
 
 pub ruleset reading = (read_judged, read_refused)
+
+pub ruleset judging_said = (said_judged)
 
 -- ---- laws
 

@@ -2,14 +2,30 @@
 
 ghost use Rattle.std.specs.Prelude.{◌≡◌, [], IfOk};
 ghost use Rattle.text_faults.specs.TextReading.{Gives};
-ghost use Rattle.net_reader.specs.NetworkReading.{net_in};
+ghost use Rattle.net_model.specs.NetworkJudgingTerms.{InRange};
+ghost use Rattle.net_reader.specs.Joining.{joined};
+ghost use Rattle.net_reader.specs.NetworkReading.{judged_network, net_in};
 
 use crate::joined_parts::join;
 use crate::standings::standings;
 use net_model::Net;
-use net_syntax::read_description;
+use net_syntax::{Description, read_description};
 use std::alloc::Global;
 use text_faults::NetFault;
+
+/// The network of what is described, or the first fault of its parts, the tables block, node, link,
+/// route, policy and sid in this order, as `net_model::Net::build` says them. `NoMemory` may come at
+/// any time.
+#[tactic(auto, using(crate::proofs::ReadLemmas::judging_said))]
+pub fn judged_net(alloc: Global, said: &Description) -> Result<Net, NetFault>
+    requires { InRange (joined said.now) }
+    ensures judged { Gives (λ net. net) result (judged_network said.now) }
+    ensures whole { IfOk result (λ net. net.hidden ≡ []) }
+{
+    let standings = standings(alloc, said.sids.as_slice())?;
+    let parts = join(alloc, said)?;
+    Net::build(alloc, parts, standings.as_slice())
+}
 
 /// The network that a description's text gives, or its first fault.
 ///
@@ -24,7 +40,5 @@ pub fn read_net(alloc: Global, text: &[u8]) -> Result<Net, NetFault>
     ensures whole { IfOk result (λ net. net.hidden ≡ []) }
 {
     let said = read_description(alloc, text)?;
-    let standings = standings(alloc, said.sids.as_slice())?;
-    let parts = join(alloc, &said)?;
-    Net::build(alloc, parts, standings.as_slice())
+    judged_net(alloc, &said)
 }
