@@ -16,8 +16,10 @@ use Rattle.shortest_paths.specs.Walks.{IsLink, IsNetwork}
 use Rattle.shortest_paths.specs.Routes.{AreRoutes}
 use Rattle.planned_routes.specs.declared.destination.Destination.{Destination}
 use Rattle.planned_routes.specs.declared.owners.Owner.{Owner}
-use Rattle.planned_routes.specs.PlannedRoutes.{IsMetric, metric_at, weighed, weighed_from, weighed_links}
-use Rattle.planned_routes.specs.Owners.{same_key, nodes_with, grouped}
+use Rattle.planned_routes.specs.PlannedRoutes.{metric_at, weighed, weighed_from, weighed_links}
+use Rattle.planned_routes.specs.PlannedRoutesTerms.{IsMetric}
+use Rattle.planned_routes.specs.Owners.{same_key}
+use Rattle.planned_routes.specs.Grouping.{nodes_with, grouped}
 use Rattle.planned_routes.proofs.OwnersByPrefix.{are_nodes_with, group_means}
 
 none_some : (n : ℕ) → Path (Option ℕ) None (Some n) → ⊥

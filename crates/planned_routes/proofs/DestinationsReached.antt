@@ -7,7 +7,8 @@ use Rattle.net_model.specs.declared.parts.Route.{Route}
 use Rattle.net_model.proofs.PublicLaws.{get_from_contains, contains_from_get}
 use Rattle.shortest_paths.specs.declared.links.Link as path
 use Rattle.shortest_paths.specs.declared.routes.Route as way
-use Rattle.shortest_paths.specs.Routes.{IsFirstHop, IsRoute, AreRoutes}
+use Rattle.shortest_paths.specs.Routes.{IsRoute, AreRoutes}
+use Rattle.shortest_paths.specs.LeastWalks.{IsFirstHop}
 use Rattle.planned_routes.specs.declared.destination.Destination.{Destination}
 use Rattle.planned_routes.specs.Destinations.{LeadsLeast, HasWay, LeadToAll}
 use Rattle.planned_routes.specs.Entering.{entry, entries, entering}

@@ -9,7 +9,8 @@ use Rattle.shortest_paths.specs.declared.routes.Route as way
 use Rattle.planned_routes.specs.declared.destination.Destination.{Destination}
 use Rattle.planned_routes.specs.declared.owners.Owner.{Owner}
 use Rattle.planned_routes.specs.PlannedRoutes.{metric_at, weighed, weighed_from}
-use Rattle.planned_routes.specs.Owners.{same_key, nodes_with, destination_of, grouped}
+use Rattle.planned_routes.specs.Owners.{same_key}
+use Rattle.planned_routes.specs.Grouping.{nodes_with, destination_of, grouped}
 use Rattle.planned_routes.specs.Entering.{entry, entries, entering}
 
 -- one more member of what is wanted

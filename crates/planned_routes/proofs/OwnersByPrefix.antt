@@ -9,7 +9,8 @@ use Rattle.net_model.proofs.PublicLaws.{same_family_from, same_prefix_value, con
 use Rattle.planned_routes.specs.declared.destination.Destination.{Destination}
 use Rattle.planned_routes.specs.declared.owners.Owner.{Owner}
 use Rattle.planned_routes.specs.PlannedRoutes.{Has, AreNodesWith}
-use Rattle.planned_routes.specs.Owners.{same_key, nodes_with, destination_of, grouped}
+use Rattle.planned_routes.specs.Owners.{same_key}
+use Rattle.planned_routes.specs.Grouping.{nodes_with, destination_of, grouped}
 use Rattle.planned_routes.proofs.SameRoutes.{family_means}
 
 -- ---- keys

@@ -3,14 +3,12 @@ use Rattle.std.proofs.Common.{◌≡◌, ℕ, ◌↔◌, inl, inr, List, [], ◌
 use Rattle.net_model.specs.declared.parts.Route.{Route}
 use Rattle.net_model.proofs.PublicLaws.{contains_none}
 use Rattle.shortest_paths.specs.declared.links.Link as path
-use Rattle.shortest_paths.specs.Walks.{IsWalk}
-use Rattle.shortest_paths.specs.NextHops.{BeginsLeast}
-use Rattle.shortest_paths.specs.Routes.{IsFirstHop}
+use Rattle.shortest_paths.specs.LeastWalks.{IsWalk, BeginsLeast, IsFirstHop}
 use Rattle.planned_routes.specs.declared.destination.Destination.{Destination}
 use Rattle.planned_routes.specs.declared.owners.Owner.{Owner}
 use Rattle.planned_routes.specs.PlannedRoutes.{Has, AreNodesWith, IsPlanned, HasRoute, ArePlanned}
 use Rattle.planned_routes.specs.Destinations.{LeadsTo, LeadsLeast, LeadToAll}
-use Rattle.planned_routes.specs.Owners.{nodes_with, destination_of, grouped}
+use Rattle.planned_routes.specs.Grouping.{nodes_with, destination_of, grouped}
 use Rattle.planned_routes.proofs.OwnersByPrefix.{are_nodes_with, group_means, all_grouped}
 
 -- ---- the same targets

@@ -6,7 +6,7 @@ use Rattle.std.specs.List.Sorted.{IsStrictlyIncreasing}
 use Rattle.net_model.specs.declared.parts.Route.{Route}
 use Rattle.net_model.specs.NetworkRules.{same_route}
 use Rattle.shortest_paths.specs.declared.links.Link as path
-use Rattle.shortest_paths.specs.Routes.{IsFirstHop}
+use Rattle.shortest_paths.specs.LeastWalks.{IsFirstHop}
 use Rattle.planned_routes.specs.declared.destination.Destination.{Destination}
 
 -- the route's table and prefix are the destination's

@@ -1,6 +1,6 @@
 -- Need not be believed: helps proofs and other laws.
 -- Routes of a network along shortest paths.
-use Rattle.std.specs.Prelude.{◌≡◌, ℕ, ◌+◌, ◌<◌, ◌≤◌, ◌↔◌, false, List, [], ◌∷◌, ◌++◌, length, slice_index_or, Option, Some, None, All, Contains}
+use Rattle.std.specs.Prelude.{◌≡◌, ℕ, ◌+◌, ◌<◌, ◌↔◌, false, List, [], ◌∷◌, ◌++◌, length, slice_index_or, Option, Some, None, All, Contains}
 use Rattle.std.specs.List.{AllPairs}
 use Rattle.std.specs.List.Sorted.{IsStrictlyIncreasing}
 use Rattle.v6_addr.specs.Address.{PrefixValue}
@@ -9,7 +9,7 @@ use Rattle.net_model.specs.declared.parts.Link.{Link}
 use Rattle.net_model.specs.declared.parts.Route.{Route}
 use Rattle.net_model.specs.NetworkRules.{same_route}
 use Rattle.shortest_paths.specs.declared.links.Link as path
-use Rattle.shortest_paths.specs.Routes.{IsFirstHop}
+use Rattle.shortest_paths.specs.LeastWalks.{IsFirstHop}
 use Rattle.planned_routes.specs.declared.owners.Owner.{Owner}
 
 -- ---- links with metrics
@@ -30,10 +30,6 @@ weighed_from n metrics (l ∷ ls) = weighed l (metric_at metrics n) ∷ weighed_
 
 abbrev pub weighed_links : List (Option ℕ) → List Link → List path.Link
 weighed_links metrics links = weighed_from 0 metrics links
-
--- a link that is up has a metric of 32 bits, which is not 0
-abbrev pub IsMetric : Option ℕ → Type 0
-IsMetric metric = (m : ℕ) → metric ≡ Some m → (1 ≤ m) × (m ≤ 4294967295)
 
 -- ---- routes
 

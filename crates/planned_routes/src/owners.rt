@@ -2,7 +2,8 @@
 
 ghost use Rattle.std.specs.Prelude.{◌≡◌, [], IfOk};
 ghost use Rattle.net_model.specs.NetworkJudging.{stands_before};
-ghost use Rattle.planned_routes.specs.Owners.{destination_of, grouped, nodes_with, same_key};
+ghost use Rattle.planned_routes.specs.Owners.{same_key};
+ghost use Rattle.planned_routes.specs.Grouping.{destination_of, grouped, nodes_with};
 
 use crate::destination::Destination;
 use base::{NoMemory, Seq};

@@ -1,7 +1,8 @@
 //! The routes to prefixes, beside those that are there.
 
 ghost use Rattle.std.specs.Prelude.{◌≡◌, ◌<◌, ◌^◌, All, IfOk, length};
-ghost use Rattle.planned_routes.specs.PlannedRoutes.{ArePlanned, IsMetric, weighed_links};
+ghost use Rattle.planned_routes.specs.PlannedRoutes.{ArePlanned, weighed_links};
+ghost use Rattle.planned_routes.specs.PlannedRoutesTerms.{IsMetric};
 
 use crate::entering::{enter, originators};
 use crate::owners::{Owner, group};

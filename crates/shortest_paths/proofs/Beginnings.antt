@@ -1,8 +1,9 @@
 -- The next hops of a node are the links with which its least walks begin.
 use Rattle.std.proofs.Common.{◌≡◌, ℕ, ◌+◌, ◌≤◌, ◌↔◌, List, ◌∷◌, Option, Some, None, Contains, refl, ◌∙◌, ap, subst, arith}
 use Rattle.shortest_paths.specs.declared.links.Link.{Link}
-use Rattle.shortest_paths.specs.Walks.{IsWalk, cost, IsDistance, at, AreDistances}
-use Rattle.shortest_paths.specs.NextHops.{LeadsOn, BeginsLeast}
+use Rattle.shortest_paths.specs.Walks.{IsDistance, at, AreDistances}
+use Rattle.shortest_paths.specs.LeastWalks.{IsWalk, cost, BeginsLeast}
+use Rattle.shortest_paths.specs.NextHops.{LeadsOn}
 
 module _ (links : List Link) (distances : List (Option ℕ)) (targets : List ℕ) (are : AreDistances links targets distances) where
   pub distance_at : (node d : ℕ) → at distances node ≡ Some d → IsDistance links targets node (Some d)

@@ -2,7 +2,8 @@
 use Rattle.std.proofs.Common.{◌≡◌, ℕ, ◌+◌, ◌≤◌, ◌⊎◌, inl, inr, List, [], ◌∷◌, length, Option, Some, None, Contains, refl, sym, ◌∙◌, ap, subst, arith}
 use Rattle.std.proofs.lemmas.List.Elements.{All-contains}
 use Rattle.shortest_paths.specs.declared.links.Link.{Link}
-use Rattle.shortest_paths.specs.Walks.{IsLink, IsNetwork, IsWalk, cost, IsDistance, at, AreDistances}
+use Rattle.shortest_paths.specs.Walks.{IsLink, IsNetwork, IsDistance, at, AreDistances}
+use Rattle.shortest_paths.specs.LeastWalks.{IsWalk, cost}
 use Rattle.shortest_paths.specs.NextHops.{LeadsOn, Forwards}
 use Rattle.shortest_paths.proofs.Lists.{some_same}
 

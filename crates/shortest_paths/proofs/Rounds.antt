@@ -7,7 +7,8 @@ use Rattle.std.proofs.lemmas.List.Elements.{All-contains, Contains-append_left, 
 use Rattle.std.proofs.lemmas.List.Sums.{sum_by-set, count_by-le-length}
 use Rattle.shortest_paths.specs.declared.links.Link.{Link}
 use Rattle.shortest_paths.specs.declared.nearest.Nearest.{Nearest}
-use Rattle.shortest_paths.specs.Walks.{IsLink, IsNetwork, IsWalk, cost, HasWalk, IsDistance, at, AreDistances}
+use Rattle.shortest_paths.specs.Walks.{IsLink, IsNetwork, HasWalk, IsDistance, at, AreDistances}
+use Rattle.shortest_paths.specs.LeastWalks.{IsWalk, cost}
 use Rattle.shortest_paths.specs.Settling.{Entries, AtMost, is_settled, open_count, IsNearest, NoneIsOpen, Relaxes, AreStarts, SettlesSoFar}
 use Rattle.shortest_paths.proofs.Lists.{some_same, none_some}
 use Rattle.shortest_paths.proofs.Lowering.{at_most, still}

@@ -4,9 +4,9 @@ use Rattle.std.proofs.lemmas.List.Elements.{All-contains}
 use Rattle.std.proofs.lemmas.Option.{slice_get-get_or}
 use Rattle.shortest_paths.specs.declared.links.Link.{Link}
 use Rattle.shortest_paths.specs.declared.routes.Route.{Route}
-use Rattle.shortest_paths.specs.Walks.{IsLink, IsNetwork, IsWalk, cost, IsDistance}
-use Rattle.shortest_paths.specs.NextHops.{BeginsLeast}
-use Rattle.shortest_paths.specs.Routes.{Destinations, IsFirstHop, IsRoute, AreRoutes, Takes, Follows}
+use Rattle.shortest_paths.specs.Walks.{IsLink, IsNetwork, IsDistance}
+use Rattle.shortest_paths.specs.LeastWalks.{IsWalk, cost, BeginsLeast, IsFirstHop}
+use Rattle.shortest_paths.specs.Routes.{Destinations, IsRoute, AreRoutes, Takes, Follows}
 use Rattle.shortest_paths.proofs.Lists.{some_same}
 
 -- the number of a link

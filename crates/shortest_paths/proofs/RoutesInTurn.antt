@@ -8,8 +8,9 @@ use Rattle.std.proofs.lemmas.Option.{slice_get_within, get_or_from_slice_get}
 use Rattle.shortest_paths.specs.declared.links.Link.{Link}
 use Rattle.shortest_paths.specs.declared.routes.Route.{Route}
 use Rattle.shortest_paths.specs.Walks.{IsLink, IsNetwork, AreDistances}
-use Rattle.shortest_paths.specs.NextHops.{IsNextHop, AreNextHops, BeginsLeast}
-use Rattle.shortest_paths.specs.Routes.{Destinations, IsFirstHop, IsRoute, IsBefore, ComesBefore, AreRoutes}
+use Rattle.shortest_paths.specs.NextHops.{IsNextHop, AreNextHops}
+use Rattle.shortest_paths.specs.LeastWalks.{BeginsLeast, IsFirstHop}
+use Rattle.shortest_paths.specs.Routes.{Destinations, IsRoute, IsBefore, ComesBefore, AreRoutes}
 use Rattle.shortest_paths.specs.RoutesTerms.{PlansSoFar}
 use Rattle.shortest_paths.proofs.Lists.{some_same, contains_none}
 use Rattle.shortest_paths.proofs.Beginnings.{begins, leads}

@@ -1,3 +1,4 @@
+pub mod LeastWalks
 pub mod Walks
 pub mod NextHops
 pub mod Routes

@@ -1,9 +1,9 @@
 -- Need not be believed: helps proofs and other laws.
 -- Next hops, and forwarding from hop to hop.
-use Rattle.std.specs.Prelude.{◌≤◌, ◌≡◌, ℕ, ◌+◌, ◌↔◌, List, [], ◌∷◌, slice_get, Option, Some, Contains}
+use Rattle.std.specs.Prelude.{◌≡◌, ℕ, ◌+◌, ◌↔◌, List, [], ◌∷◌, slice_get, Option, Some, Contains}
 use Rattle.std.specs.List.Sorted.{IsStrictlyIncreasing}
 use Rattle.shortest_paths.specs.declared.links.Link.{Link}
-use Rattle.shortest_paths.specs.Walks.{at, cost, IsWalk}
+use Rattle.shortest_paths.specs.Walks.{at}
 
 -- a link from a node whose metric and the distance of its far end are the distance of the node
 pub record LeadsOn (distances : List (Option ℕ)) (node : ℕ) (link : Link) : Type 0 where
@@ -28,9 +28,3 @@ abbrev pub Forwards : List Link → List (Option ℕ) → ℕ → List Link → 
 Forwards links distances node [] last = node ≡ last
 Forwards links distances node (link ∷ way) last =
     Contains links link × (on : LeadsOn distances node link) × Forwards links distances on.far way last
-
--- a link with which a walk from a node to a target begins that costs no more than any other walk from there
-pub record BeginsLeast (links : List Link) (targets : List ℕ) (node : ℕ) (link : Link) : Type 0 where
-  pub rest : List Link
-  pub is : IsWalk links targets node (link ∷ rest)
-  pub least : (other : List Link) → IsWalk links targets node other → cost (link ∷ rest) ≤ cost other

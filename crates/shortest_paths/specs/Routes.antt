@@ -5,15 +5,11 @@ use Rattle.std.specs.List.{AllPairs}
 use Rattle.std.specs.List.Sorted.{IsStrictlyIncreasing}
 use Rattle.shortest_paths.specs.declared.links.Link.{Link}
 use Rattle.shortest_paths.specs.declared.routes.Route.{Route}
-use Rattle.shortest_paths.specs.NextHops.{BeginsLeast}
+use Rattle.shortest_paths.specs.LeastWalks.{IsFirstHop}
 
 -- for each destination the nodes that originate it
 abbrev pub Destinations : Type 0
 Destinations = List (List ℕ)
-
--- the number of a link with which a least walk begins
-abbrev pub IsFirstHop : List Link → List ℕ → ℕ → ℕ → Type 0
-IsFirstHop links targets node number = (link : Link) × (slice_get links number ≡ Some link) × BeginsLeast links targets node link
 
 -- via exactly the links with which the node's least walks to the originators begin, and there is one
 pub record IsRoute (links : List Link) (destinations : Destinations) (route : Route) : Type 0 where

@@ -4,7 +4,8 @@ use Rattle.std.specs.Prelude.{◌≡◌, ℕ, List, slice_get, Some, All}
 use Rattle.std.specs.List.{AllPairs}
 use Rattle.shortest_paths.specs.declared.links.Link.{Link}
 use Rattle.shortest_paths.specs.declared.routes.Route.{Route}
-use Rattle.shortest_paths.specs.Routes.{Destinations, IsFirstHop, IsRoute, HasRoute, IsBefore, ComesBefore}
+use Rattle.shortest_paths.specs.Routes.{Destinations, IsRoute, HasRoute, IsBefore, ComesBefore}
+use Rattle.shortest_paths.specs.LeastWalks.{IsFirstHop}
 
 -- those before a destination and a node
 pub record PlansSoFar (links : List Link) (destinations : Destinations) (destination node : ℕ) (routes : List Route) : Type 0 where

@@ -1,7 +1,8 @@
 -- Need not be believed: helps proofs and other laws.
--- Walks along links to a target, and distances.
-use Rattle.std.specs.Prelude.{◌≡◌, ℕ, ◌+◌, ◌<◌, ◌≤◌, List, [], ◌∷◌, length, slice_index_or, Option, Some, None, All, Contains}
+-- Networks of links, and the distances of their nodes.
+use Rattle.std.specs.Prelude.{◌≡◌, ℕ, ◌<◌, ◌≤◌, List, length, slice_index_or, Option, Some, None, All}
 use Rattle.shortest_paths.specs.declared.links.Link.{Link}
+use Rattle.shortest_paths.specs.LeastWalks.{IsWalk, cost}
 
 -- a link from one of so many nodes, to one of them or out of the network
 pub record IsLink (nodes : ℕ) (link : Link) : Type 0 where
@@ -15,17 +16,6 @@ pub record IsNetwork (nodes : ℕ) (links : List Link) : Type 0 where
   pub few_nodes : nodes ≤ 256
   pub few_links : length links ≤ 4096
   pub each : All (IsLink nodes) links
-
--- a walk from a node to a target: links of the network, each from where the last led
-abbrev pub IsWalk : List Link → List ℕ → ℕ → List Link → Type 0
-IsWalk links targets node [] = Contains targets node
-IsWalk links targets node (link ∷ walk) =
-    Contains links link × (link.from ≡ node) × (far : ℕ) × (link.to ≡ Some far) × IsWalk links targets far walk
-
--- what a walk costs: the sum of its links' metrics
-abbrev pub cost : List Link → ℕ
-cost [] = 0
-cost (link ∷ walk) = link.metric + cost walk
 
 -- some walk from a node to a target costs so much
 abbrev pub HasWalk : List Link → List ℕ → ℕ → ℕ → Type 0

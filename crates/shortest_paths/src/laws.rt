@@ -1,8 +1,9 @@
 //! Laws of the definitions, each the contract of a function that does nothing.
 
 ghost use Rattle.std.specs.Prelude.{◌≡◌, ◌+◌, ◌≤◌, ◌⊎◌, ◌↔◌, ◌∷◌, List, ℕ, length, slice_get, Option, Some, Contains};
-ghost use Rattle.shortest_paths.specs.Walks.{AreDistances, IsDistance, IsNetwork, at, cost};
-ghost use Rattle.shortest_paths.specs.NextHops.{BeginsLeast, Forwards, LeadsOn};
+ghost use Rattle.shortest_paths.specs.Walks.{AreDistances, IsDistance, IsNetwork, at};
+ghost use Rattle.shortest_paths.specs.LeastWalks.{cost, BeginsLeast};
+ghost use Rattle.shortest_paths.specs.NextHops.{Forwards, LeadsOn};
 ghost use Rattle.shortest_paths.specs.Routes.{AreRoutes, Destinations, Follows, Takes};
 ghost use Rattle.shortest_paths.specs.declared.links.Link.{Link};
 ghost use Rattle.shortest_paths.specs.declared.routes.Route.{Route};

@@ -1,5 +1,5 @@
 use Rattle.std.proofs.Common.{◌≡◌, [], ◌++◌, drop, take}
-use Rattle.planned_routes.specs.Owners.{grouped}
+use Rattle.planned_routes.specs.Grouping.{grouped}
 use Rattle.planned_routes.proofs.owners.group.Given as goal
 
 abbrev pub invariant-loop-n : goal.invariant-loop-n

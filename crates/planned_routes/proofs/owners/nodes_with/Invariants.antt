@@ -1,5 +1,5 @@
 use Rattle.std.proofs.Common.{◌≡◌, ◌++◌, drop}
-use Rattle.planned_routes.specs.Owners.{nodes_with}
+use Rattle.planned_routes.specs.Grouping.{nodes_with}
 use Rattle.planned_routes.proofs.owners.nodes_with.Given as goal
 
 abbrev pub invariant-loop-owner : goal.invariant-loop-owner

@@ -8,7 +8,7 @@ use Rattle.shortest_paths.specs.Walks.{IsNetwork}
 use Rattle.shortest_paths.specs.Routes.{AreRoutes}
 use Rattle.planned_routes.specs.declared.destination.Destination.{Destination}
 use Rattle.planned_routes.specs.PlannedRoutes.{ArePlanned, weighed_links}
-use Rattle.planned_routes.specs.Owners.{grouped}
+use Rattle.planned_routes.specs.Grouping.{grouped}
 use Rattle.planned_routes.specs.Entering.{entering, entries}
 use Rattle.planned_routes.proofs.Asked.{network_is, originators_in, originators_few, routes_within}
 use Rattle.planned_routes.proofs.DestinationsReached.{lead_to_all}

@@ -4,7 +4,7 @@ use Rattle.std.proofs.lemmas.List.{nil_from_length}
 use Rattle.std.proofs.lemmas.Option.{slice_get-get_or}
 use Rattle.shortest_paths.specs.declared.routes.Route.{Route}
 use Rattle.shortest_paths.specs.NextHops.{AreNextHops}
-use Rattle.shortest_paths.specs.Routes.{IsFirstHop}
+use Rattle.shortest_paths.specs.LeastWalks.{IsFirstHop}
 use Rattle.shortest_paths.specs.RoutesTerms.{PlansSoFar}
 use Rattle.shortest_paths.proofs.RoutesInTurn.{route_is, no_first, plans_yes, plans_no, plans_same}
 use Rattle.shortest_paths.proofs.routes.add_routes.Goals as goal
