@@ -1,0 +1,9 @@
+pub mod PlanLoops
+pub mod PlanYields
+pub mod PlanRead
+pub mod CableTurns
+pub mod LinksFit
+pub mod BaseMet
+pub mod MetricsMet
+pub mod OwnersMet
+pub mod RoutesFit

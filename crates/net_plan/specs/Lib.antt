@@ -1,0 +1,7 @@
+pub mod CableLinks
+pub mod BaseNetwork
+pub mod LinkMetrics
+pub mod PlanOwners
+pub mod ExitRoutes
+pub mod PlannedNetwork
+pub mod PlanRanges
