@@ -1,4 +1,3 @@
--- Need not be believed: neither program stands on it yet.
 -- What is said of a legal list that somebody else made, by the lists that `compile` chooses from.
 use Rattle.std.specs.Prelude.{◌≡◌, ◌↔◌, ℕ, ◌*◌, ◌<◌, ◌≤◌, Bool, IsTrue, List, length, Result, Ok, Err}
 use Rattle.net_model.specs.Network.{Network}

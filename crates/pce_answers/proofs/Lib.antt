@@ -5,3 +5,4 @@ pub mod FoundLists
 pub mod Refusals
 pub mod PacketTraces
 pub mod Replying
+pub mod ListJudgements

@@ -1,2 +1,4 @@
 pub mod NetAnswers
 pub mod NetAnswersTerms
+pub mod JudgeAnswers
+pub mod JudgeAnswersTerms

@@ -115,7 +115,7 @@ fn intent_reply(alloc: Global, held: &HeldNet, intent: &Intent, asked: bool) -> 
 }
 
 /// The reply to an intent that is not read.
-fn fault_reply(alloc: Global, fault: IntentFault) -> Reply
+pub(crate) fn fault_reply(alloc: Global, fault: IntentFault) -> Reply
     ensures { IsOr (Err (errors.Refused (why_of (refusals.Intent fault)))) result }
 {
     match why_refused(alloc, &Refusal::Intent(fault)) {

@@ -32,6 +32,7 @@ use Rattle.pce_protocol.specs.declared.reply.ReplyError.TheVariants as errors
 use Rattle.pce_protocol.specs.Requests.{request_of, reply_id_of}
 use Rattle.pce_protocol.specs.Replies.{reply_text}
 use Rattle.pce_answers.specs.NetAnswers.{why_of, held_of, IsCompileReply, IsTraceReply}
+use Rattle.pce_answers.specs.JudgeAnswers.{IsJudgeReply}
 use Rattle.pce_engine.specs.declared.limits.TheConstants.{MAX_NETWORKS, MAX_TEXT}
 use Rattle.pce_engine.specs.declared.networks.Holding.{Holding}
 
@@ -129,7 +130,7 @@ LoadsText load before reply behind =
     (given : Result (List ℕ) ReplyError) × Gives load.network before.files given behind.files
     × Holds load.name (loaded load.name before.held given) before.held reply behind.held
 
--- ---- what isn't done: routes aren't found by plans, and lists aren't judged
+-- ---- what isn't done: routes aren't found by plans
 
 abbrev pub IsBadField : Field → PceState → Result Answer ReplyError → PceState → Type 0
 IsBadField field before reply behind = (reply ≡ Err (errors.Request (faults.BadField field))) × (behind ≡ before)
@@ -174,7 +175,8 @@ Does (requests.Drop name) before reply behind =
     Drops name (held_as name before.held) before.held reply behind.held × (behind.files ≡ before.files)
 Does (requests.Compile compile) before reply behind =
     IsOf (held_as compile.network before.held) (λ net. IsCompileReply net compile.intent compile.certificate) reply × (behind ≡ before)
-Does (requests.Judge judge) before reply behind = IsBadField fields.Do before reply behind
+Does (requests.Judge judge) before reply behind =
+    IsOf (held_as judge.network before.held) (λ net. IsJudgeReply net judge.intent judge.list) reply × (behind ≡ before)
 Does (requests.Trace trace) before reply behind =
     IsOf (held_as trace.network before.held) (λ net. IsTraceReply net trace.node trace.packet trace.choices) reply × (behind ≡ before)
 

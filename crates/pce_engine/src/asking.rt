@@ -1,12 +1,13 @@
 //! What is asked of a network that is held.
 
 ghost use Rattle.pce_answers.specs.NetAnswers.{IsCompileReply, IsTraceReply};
+ghost use Rattle.pce_answers.specs.JudgeAnswers.{IsJudgeReply};
 ghost use Rattle.pce_engine.specs.EngineTerms.{IsAsked};
 
 use crate::lookups::held_as;
 use crate::networks::Networks;
-use pce_answers::{compile_answer, trace_answer};
-use pce_protocol::{Compile, Reply, Trace};
+use pce_answers::{compile_answer, judge_answer, trace_answer};
+use pce_protocol::{Compile, Judge, Reply, Trace};
 use std::alloc::Global;
 
 /// Compiles an intent.
@@ -16,6 +17,17 @@ pub(crate) fn compile(alloc: Global, networks: &Networks, compile: &Compile) -> 
 {
     match held_as(alloc, networks, &compile.network) {
         Ok(held) => compile_answer(alloc, held, compile.intent.as_bytes(), compile.certificate),
+        Err(error) => Err(error),
+    }
+}
+
+/// Judges a list.
+pub(crate) fn judge(alloc: Global, networks: &Networks, judge: &Judge) -> Reply
+    ensures { IsAsked judge.now.network networks.now
+        (λ net. IsJudgeReply net judge.now.intent judge.now.list) result }
+{
+    match held_as(alloc, networks, &judge.network) {
+        Ok(held) => judge_answer(alloc, held, judge.intent.as_bytes(), judge.list.as_slice()),
         Err(error) => Err(error),
     }
 }

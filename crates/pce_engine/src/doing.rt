@@ -9,16 +9,16 @@ ghost use Rattle.pce_protocol.specs.declared.request.Request.TheVariants as requ
 ghost use Rattle.pce_protocol.specs.declared.request.RequestFault.{RequestFault as Fault};
 ghost use Rattle.pce_engine.specs.EngineTerms.{IsDone, IsReplied, Starves};
 
-use crate::asking::{compile, trace};
+use crate::asking::{compile, judge, trace};
 use crate::copying::{copy_name, faulty};
-use crate::done::{Change, Done, bad_field};
+use crate::done::{Change, Done};
 use crate::leaving::leave_out;
 use crate::loading::load;
 use crate::lookups::held_as;
 use crate::networks::Networks;
 use base::NoMemory;
 use net_model::Name;
-use pce_protocol::{Answer, Field, ReplyError, Request, RequestError};
+use pce_protocol::{Answer, ReplyError, Request, RequestError};
 use srx_edge::Files;
 use std::alloc::Global;
 use text_faults::OrNoMemory;
@@ -50,7 +50,7 @@ fn done_by<F: Files>(alloc: Global, networks: &Networks, files: &mut F, request:
         Request::Without(request) => leave_out(alloc, networks, request),
         Request::Drop(name) => release(alloc, networks, name),
         Request::Compile(request) => Done::replied(compile(alloc, networks, request)),
-        Request::Judge(_) => bad_field(Field::Do),
+        Request::Judge(request) => Done::replied(judge(alloc, networks, request)),
         Request::Trace(request) => Done::replied(trace(alloc, networks, request)),
     }
 }
