@@ -8,10 +8,11 @@ from dataclasses import dataclass
 from typing import Any
 
 from .command import Fault
-from .description import MOST_MTU, Network
+from .description import MOST_MTU, Network, Sid
 from .engine import BadRequest, Compiled, Engine, EngineError, Refused
 from .failures import Failure
 from .intent import Intent
+from .items import Prefix
 from .judged import REFUSED, Judging, Situation, Verdict
 from .lists_file import OneList
 from .loose import legs_of
@@ -103,6 +104,24 @@ class Case:
         }  # fmt: skip
 
 
+@dataclass(frozen=True, slots=True)
+class _Untouched:
+    """The verdict of the model on a list that holds in the whole network, and on what it stands: the links that some choice
+    crosses, the prefixes of its SIDs, the intent's functions. Where these stay it is the same, as each look-up on the way is.
+    """
+
+    verdict: Verdict
+    links: frozenset[str]
+    prefixes: frozenset[Prefix]
+    functions: frozenset[str]
+
+    def stays(self, down: frozenset[str], gone: Sequence[Sid]) -> bool:
+        """Whether links that are down, and the SIDs that are gone with them, are others."""
+        return self.links.isdisjoint(down) and not any(
+            sid.prefix in self.prefixes or sid.title in self.functions for sid in gone
+        )
+
+
 class Failing:
     """Intents in a network whose parts fail, one after the other."""
 
@@ -116,6 +135,7 @@ class Failing:
         self.ends = [ends_at(self.whole, one.intent) for one in intents]
         self.targets = Targets(self.whole) if with_traffic else None
         self.engine: Engine | None = None
+        self.untouched: list[_Untouched | None] = [None for _ in intents]
 
     def probe(self) -> Iterator[str]:
         """What the engine can't do, and what is static, each in a line. It is asked once, before processes
@@ -126,6 +146,9 @@ class Failing:
             if self.planned.plan:
                 self.can_again = _has(engine, "plan", "load", **{"as": "none", "network": "", "plan": ""})
             self._load(engine)
+            if not self.judging.engine_can:
+                whole = Situation(engine, WHOLE, lambda: self.whole)
+                self.untouched = [self._in_whole(whole, one) for one in self.intents]
         if not self.judging.engine_can:
             yield CANT_JUDGE
         if self.planned.plan is None:
@@ -135,6 +158,16 @@ class Failing:
             yield CANT_AGAIN
         if static := len(self.planned.static.routes):
             yield f"{self.planned.path} has {static} routes: they are static, and none of them is found again"
+
+    def _in_whole(self, whole: Situation, one: Named) -> _Untouched | None:
+        """What the model says of a list in the whole network; nothing where it doesn't hold, or pushes headers on the way."""
+        verdict = self._judged(whole, one)
+        course = verdict.course
+        if not verdict.holds or course is None or course.has_pushed or one.installed is None:
+            return None
+        prefixes = frozenset(prefix for _, prefix in one.installed.path)
+        functions = frozenset(step.function for step in one.intent.steps if step.function)
+        return _Untouched(verdict, frozenset(course.links), prefixes, functions)
 
     def begin(self) -> Engine:
         """Starts an engine that holds the whole network, in the process that asks for cases."""
@@ -155,7 +188,12 @@ class Failing:
         """The cases of a failure, one for each intent."""
         assert self.engine is not None
         once, after = self._situations(self.engine, failure)
-        return [self._case(one, end, failure, once, after) for one, end in zip(self.intents, self.ends)]
+        gone = [sid for sid in self.whole.sids if sid.links and once.down.issuperset(sid.links)]
+        found = []
+        for one, end, whole in zip(self.intents, self.ends, self.untouched):
+            known = whole.verdict if whole and whole.stays(once.down, gone) else None
+            found.append(self._case(one, end, failure, once, after, known))
+        return found
 
     def _situations(self, engine: Engine, failure: Failure) -> tuple[Situation, Situation]:
         """The network at once and after routing; where routes are static they are one."""
@@ -171,13 +209,15 @@ class Failing:
             engine.load(AFTER, network=self.planned.text(after.net))
         return once, after
 
-    def _case(self, one: Named, end: str, failure: Failure, once: Situation, after: Situation) -> Case:
-        """An intent in a failure."""
+    def _case(
+        self, one: Named, end: str, failure: Failure, once: Situation, after: Situation, known: Verdict | None
+    ) -> Case:
+        """An intent in a failure, with the verdict at once where that is known."""
         for what, node in (("headend", one.intent.headend), ("last function's node", end)):
             if node in failure.nodes:
                 gone = Verdict(REFUSED, "", why=f"its {what} {node} fails")
                 return Case(Outcome.LEFT_OUT, f"left out: its {what} {node} fails", gone, gone)
-        at_once = self._judged(once, one)
+        at_once = known or self._judged(once, one)
         then = at_once if once is after else self._judged(after, one)
         traffic = self._traffic(one, once, at_once), self._traffic(one, after, then)
         case = self._outcome(one, after, at_once, then, traffic)

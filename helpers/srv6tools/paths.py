@@ -1,6 +1,7 @@
 """Shortest paths over the links of a network, by metrics, and the equal next hops on them."""
 
 import heapq
+import math
 from collections.abc import Iterable, Mapping
 
 from .description import Link, Network
@@ -39,12 +40,10 @@ class Topology:
         They come in the order of the description; a node without a way has none.
         """
         far = self.distances(owners)
-        return {
-            node: [
-                link.name
-                for link, metric in links
-                if node in far and link.end in far and far[link.end] + metric == far[node]
-            ]
-            for node, links in self.out.items()
-            if node not in owners
-        }
+        found: dict[str, list[str]] = {}
+        for node, links in self.out.items():
+            if node not in owners:
+                own = far.get(node)
+                ways = () if own is None else links
+                found[node] = [link.name for link, metric in ways if far.get(link.end or "", math.inf) + metric == own]
+        return found

@@ -9,7 +9,7 @@ from collections.abc import Sequence
 from dataclasses import dataclass
 from typing import NamedTuple
 
-from .description import Network, Node, Sid
+from .description import Network, Node, Route, Sid
 from .intent import Step
 from .items import Prefix
 
@@ -62,46 +62,62 @@ class Table:
 
     def __init__(self) -> None:
         # by bits behind the prefix, and by those of the prefix
-        self._rows: dict[int, dict[int, tuple[int, Sid | Node | Via]]] = {}
+        self._rows: dict[int, dict[int, Sid | Node | Route]] = {}
         self._shifts: list[int] = []
 
-    def enter(self, prefix: Prefix, rank: int, entry: Sid | Node | Via) -> None:
-        """Of equal prefixes the one with the greater rank holds."""
-        shift = 128 - prefix.prefixlen
-        if shift not in self._rows:
-            self._rows[shift] = {}
+    def enter(self, key: tuple[int, int], entry: Sid | Node | Route) -> None:
+        """Of equal prefixes the entry that comes first holds; `key` has the bits behind a prefix, and its own."""
+        shift, bits = key
+        rows = self._rows.get(shift)
+        if rows is None:
+            rows = self._rows[shift] = {}
             self._shifts = sorted(self._rows)
-        rows = self._rows[shift]
-        key = int(prefix.network_address) >> shift
-        if key not in rows or rows[key][0] < rank:
-            rows[key] = rank, entry
+        rows.setdefault(bits, entry)
 
-    def look_up(self, address: int) -> Found:
+    def look_up(self, address: int) -> Sid | Node | Route | None:
         """The entry for an address."""
         for shift in self._shifts:
             if found := self._rows[shift].get(address >> shift):
-                return found[1]
+                return found
         return None
 
 
 class Tables:
-    """The tables of IPv6 of all nodes."""
+    """The tables of IPv6 of all nodes; each is made where it is looked up first."""
 
     def __init__(self, net: Network) -> None:
-        self._tables: dict[tuple[str, int], Table] = {}
+        self._tables: dict[tuple[str, int], Table | None] = {}
+        self._nodes = net.nodes
+        self._sids: dict[str, list[Sid]] = {}
+        self._routes: dict[tuple[str, int], list[Route]] = {}
+        # of the prefix of a route, by its identity: many routes share it, and the routes are kept
+        self._keys: dict[int, tuple[int, int]] = {}
         for sid in net.sids:
-            self._enter(sid.node, 0, sid.prefix, 2, sid)
-        for node in net.nodes.values():
-            self._enter(node.name, 0, node.prefix, 1, node)
+            self._sids.setdefault(sid.node, []).append(sid)
         for route in net.routes:
-            if route.prefix.version == 6:
-                via = Via(route.via, route.prefix)
-                self._enter(route.node, route.table, route.prefix, 0, via)
+            self._routes.setdefault((route.node, route.table), []).append(route)
 
-    def _enter(
-        self, node: str, table: int, prefix: Prefix, rank: int, entry: Sid | Node | Via
-    ) -> None:
-        self._tables.setdefault((node, table), Table()).enter(prefix, rank, entry)
+    def _made(self, name: str, number: int) -> Table | None:
+        """A table of a node; None where nothing is in it. On one prefix a SID comes before the node's address, and that
+        before routes.
+        """
+        table, routes = Table(), self._routes.get((name, number), ())
+        if number == 0:
+            for sid in self._sids.get(name, ()):
+                table.enter(_key_of(sid.prefix), sid)
+            if node := self._nodes.get(name):
+                table.enter((0, int(node.address)), node)
+        elif not routes:
+            return None
+        keys = self._keys
+        for route in routes:
+            prefix = route.prefix
+            key = keys.get(id(prefix))
+            if key is None:
+                key = keys[id(prefix)] = _key_of(prefix)
+            if prefix.version == 6:
+                table.enter(key, route)
+        return table
 
     def found_at(self, place: Place, address: int) -> Found:
         """What a packet meets at a place: its links, or what the table has for its destination,
@@ -109,8 +125,18 @@ class Tables:
         """
         if place.via:
             return place.via
-        rows = self._tables.get((place.node, place.table))
-        return rows.look_up(address) if rows and address not in MULTICAST else None
+        key = place.node, place.table
+        if key not in self._tables:
+            self._tables[key] = self._made(*key)
+        table = self._tables[key]
+        found = table.look_up(address) if table and address not in MULTICAST else None
+        return Via(found.via, found.prefix) if isinstance(found, Route) else found
+
+
+def _key_of(prefix: Prefix) -> tuple[int, int]:
+    """How many bits are behind a prefix, and its own."""
+    shift = 128 - prefix.prefixlen
+    return shift, int(prefix.network_address) >> shift
 
 
 class Stop(enum.Enum):

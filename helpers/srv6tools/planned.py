@@ -10,7 +10,7 @@ from typing import Any
 
 from .description import TABLES, Network, Route, network_of
 from .files import parse_toml, read_text
-from .items import Prefix, items_of
+from .items import items_of
 from .paths import Topology
 from .plan import make_links, read_plan
 from .routes import Routes, locators_of
@@ -77,7 +77,9 @@ class Planned:
                 sids.append(row | {"links": list(sid.links)} if sid.links else row)
         tables: dict[str, Any] = {table: self._root[table] for table in TABLES if table != "route"}
         front = compact_text(tables | {"sid": sids})
-        rows = ",\n".join(map(_route_text, net.routes))
+        prefixes = {id(route.prefix): route.prefix for route in net.routes}  # many routes share one
+        texts = {key: quoted(str(prefix)) for key, prefix in prefixes.items()}
+        rows = ",\n".join(_route_text(route, texts[id(route.prefix)]) for route in net.routes)
         return f"{front}route=[\n{rows}\n]\n" if rows else front
 
 
@@ -101,9 +103,7 @@ def _left(row: Any, links: tuple[str, ...], down: frozenset[str], key: str) -> A
     return row._replace(**{key: up}) if isinstance(row, Route) else dataclasses.replace(row, **{key: up})
 
 
-@functools.lru_cache(65_536)
-def _prefix_text(prefix: Prefix) -> str:
-    return quoted(str(prefix))
+_node_text = functools.lru_cache(65_536)(quoted)
 
 
 @functools.lru_cache(65_536)
@@ -111,6 +111,6 @@ def _links_text(via: tuple[str, ...]) -> str:
     return "[" + ",".join(map(quoted, via)) + "]"
 
 
-def _route_text(route: Route) -> str:
+def _route_text(route: Route, prefix: str) -> str:
     table = f",table={route.table}" if route.table else ""
-    return f"{{node={quoted(route.node)}{table},prefix={_prefix_text(route.prefix)},via={_links_text(route.via)}}}"
+    return f"{{node={_node_text(route.node)}{table},prefix={prefix},via={_links_text(route.via)}}}"

@@ -3,7 +3,7 @@
 import argparse
 import sys
 import tempfile
-from collections.abc import Iterator, Sequence
+from collections.abc import Iterator, Mapping, Sequence
 from dataclasses import dataclass
 from ipaddress import IPv6Address, IPv6Network
 from pathlib import Path
@@ -38,24 +38,34 @@ class Routes:
 
     def __init__(self, net: Network) -> None:
         self.net = net
-        self.there = {(route.node, route.table, route.prefix) for route in net.routes}
+        # the nodes that have a route, by its table and prefix
+        self.there: dict[tuple[int, Prefix], set[str]] = {}
+        for route in net.routes:
+            self.there.setdefault((route.table, route.prefix), set()).add(route.node)
         self.added: list[Route] = []
         self.kept = 0
         self.cut: list[Route] = []  # with more than 64 links
         self.without: dict[Prefix, list[str]] = {}  # nodes without a way to a prefix
 
-    def enter(self, node: str, table: int, prefix: Prefix, via: Sequence[str]) -> None:
-        """Adds a route, if the description has none of its node, table and prefix."""
-        if (node, table, prefix) in self.there:
-            self.kept += 1
-        elif not via:
-            self.without.setdefault(prefix, []).append(node)
-        else:
-            route = Route(node, table, prefix, tuple(via[:MOST_LINKS]))
-            self.there.add((node, table, prefix))
-            self.added.append(route)
-            if len(via) > MOST_LINKS:
-                self.cut.append(route)
+    def enter(self, table: int, prefix: Prefix, ways: Mapping[str, Sequence[str]]) -> None:
+        """Adds the routes of nodes to a prefix, where the description has none of the node, table and prefix."""
+        there = self.there.setdefault((table, prefix), set())
+        for node, via in ways.items():
+            if node in there:
+                self.kept += 1
+            elif not via:
+                self.without.setdefault(prefix, []).append(node)
+            else:
+                route = Route(node, table, prefix, tuple(via[:MOST_LINKS]))
+                there.add(node)
+                self.added.append(route)
+                if len(via) > MOST_LINKS:
+                    self.cut.append(route)
+
+    @property
+    def count(self) -> int:
+        """How many routes there are."""
+        return sum(map(len, self.there.values()))
 
     def out(self, sites: Sequence[Site]) -> None:
         """The routes by which nodes send to their sites; of one prefix they are equal next hops."""
@@ -64,7 +74,7 @@ class Routes:
             for prefix in site.prefixes:
                 links.setdefault((site.node, site.table, prefix), {})[site.link] = None
         for (node, table, prefix), via in links.items():
-            self.enter(node, table, prefix, list(via))
+            self.enter(table, prefix, {node: list(via)})
 
     def to(self, locators: Sequence[Locator], topology: Topology) -> None:
         """The routes to locators, at each node that isn't one of the locator's own."""
@@ -72,8 +82,7 @@ class Routes:
         for locator in locators:
             if locator.nodes not in known:
                 known[locator.nodes] = topology.next_links(locator.nodes)
-            for node, via in known[locator.nodes].items():
-                self.enter(node, locator.table, locator.prefix, via)
+            self.enter(locator.table, locator.prefix, known[locator.nodes])
 
     def in_order(self) -> list[Route]:
         """What is added: node by node as in the description, table by table."""
@@ -179,7 +188,7 @@ def missing(routes: Routes) -> Iterator[str]:
 
 def _missing_tables(routes: Routes) -> Iterator[str]:
     """SIDs that look up in a table that has no route of their family."""
-    there = {(node, table, prefix.version) for node, table, prefix in routes.there}
+    there = {(node, table, prefix.version) for (table, prefix), nodes in routes.there.items() for node in nodes}
     for sid in routes.net.sids:
         families = TABLE_FAMILIES.get(sid.behaviour, ()) if sid.table else ()
         for family in families:
@@ -192,7 +201,7 @@ def _nested(routes: Routes) -> Iterator[str]:
     """SIDs with the prefix of a route strictly inside, which `compile` refuses."""
     lengths = sorted({sid.prefix.prefixlen for sid in routes.net.sids})
     sids = {sid.prefix: sid for sid in routes.net.sids}
-    seen = {prefix for _, _, prefix in routes.there if prefix.version == 6}
+    seen = {prefix for (_, prefix), nodes in routes.there.items() if nodes and prefix.version == 6}
     for prefix in sorted(seen):
         for length in lengths:
             outer = prefix.supernet(new_prefix=length) if length < prefix.prefixlen else None
@@ -248,9 +257,10 @@ def fill(path: str | Path, plan_path: str | Path | None = None, compact: bool = 
         routes, locators = Routes(net), locators_of(net, plan)
         routes.out(plan.sites)
         routes.to(locators, Topology(net, made.metrics, plan.metric))
-    if len(routes.there) > MOST_ROUTES:
-        raise Fault(f"{len(routes.there)} routes, and a description has at most {MOST_ROUTES}")
-    with progress("routes", f"writing {len(routes.there)} routes"):
+    count = routes.count
+    if count > MOST_ROUTES:
+        raise Fault(f"{count} routes, and a description has at most {MOST_ROUTES}")
+    with progress("routes", f"writing {count} routes"):
         items = [route_item(route) for route in routes.in_order()]
         result = result_text(root, text, {"link": made.added, "route": items}, compact)
     if (size := len(result.encode())) > FILE_LIMIT:

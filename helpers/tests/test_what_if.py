@@ -149,6 +149,24 @@ class Against(ToolCase):
         self.assertEqual(len(some), 10)
         self.assertGreater(self.try_all(planned, INTENTS, some), 10)
 
+    def test_what_no_failure_touches_is_judged_alike(self):
+        """The verdicts at once that stand over from the whole network are those of the network without each link."""
+        planned = Planned(BASE, PLAN)
+        intents = named(INTENTS, planned)
+        failing = Failing(planned, intents, False, False)
+        list(failing.probe())
+        failing.begin()
+        self.addCleanup(failing.engine.close)
+        known, none = failing.untouched, [None for _ in intents]
+        if not failing.judging.engine_can:
+            self.assertTrue(all(known))
+        for link in planned.whole.links.values():
+            failure, found = Failure("set", link.name, (link.name,)), []
+            for failing.untouched in (known, none):
+                found.append(failing.cases(failure))
+            with self.subTest(link.name):
+                self.assertEqual(*found)
+
     def test_networks_with_static_routes(self):
         """Plain and compressed SIDs, binding SIDs, nested functions, loose steps, equal next hops."""
         for net in ("m2", "compressed", "policy", "nested"):
