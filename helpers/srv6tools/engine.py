@@ -9,14 +9,12 @@ A request that gives nothing raises the error of its name, as `NotFlat`. An engi
 """
 
 import json
-import os
-import shutil
 import subprocess
 from collections.abc import Iterable, Sequence
 from dataclasses import dataclass
 from typing import Any, Self
 
-from .program import REPOSITORY
+from .program import find_program
 
 
 class EngineError(Exception):
@@ -119,12 +117,7 @@ def find_engine() -> str:
     """The path of the program: $SRV6_PCE, else the one that the repository built, else the one on
     PATH.
     """
-    if named := os.environ.get("SRV6_PCE"):
-        return named
-    built = REPOSITORY / "crates" / "srv6_pce" / "out" / "srv6_pce"
-    if built.is_file() and os.access(built, os.X_OK):
-        return str(built)
-    if there := shutil.which("srv6-pce"):
+    if there := find_program("srv6-pce"):
         return there
     raise EngineEnded("no program srv6-pce: build it, or set SRV6_PCE to its path")
 

@@ -97,15 +97,20 @@ def routes_in(content: bytes, name: str, family: int) -> Iterator[LinuxRoute | U
             yield Unread(number, str(fault))
 
 
-def rules_in(content: bytes, name: str, family: int = 6) -> Iterator[LinuxRule | Unread]:
-    """The rules of the JSON of `ip`."""
+def objects_in(content: bytes, name: str, what: str, command: str) -> list[dict[str, Any]]:
+    """The objects of the list that a command of `ip` wrote, of what it lists."""
     try:
         listed = json.loads(decoded(content, name))
     except (ValueError, RecursionError):
-        raise Fault(f"{name}: no JSON, as `ip -6 -j rule` writes it") from None
+        raise Fault(f"{name}: no JSON, as `{command}` writes it") from None
     if not isinstance(listed, list) or not all(isinstance(one, dict) for one in listed):
-        raise Fault(f"{name}: no list of rules, as `ip -6 -j rule` writes it")
-    for number, values in enumerate(listed, 1):
+        raise Fault(f"{name}: no list of {what}, as `{command}` writes it")
+    return listed
+
+
+def rules_in(content: bytes, name: str, family: int = 6) -> Iterator[LinuxRule | Unread]:
+    """The rules of the JSON of `ip`."""
+    for number, values in enumerate(objects_in(content, name, "rules", "ip -6 -j rule"), 1):
         try:
             yield _rule(number, values, family)
         except ValueError as fault:

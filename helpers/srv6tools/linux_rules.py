@@ -3,14 +3,12 @@
 from __future__ import annotations
 
 import dataclasses
-import json
 from collections.abc import Iterable, Iterator, Sequence
 from dataclasses import dataclass, field
 from typing import Any
 
 from .command import Fault
-from .files import decoded
-from .ip_json import LinuxRoute, LinuxRule, Prefix, Unread, table_of
+from .ip_json import LinuxRoute, LinuxRule, Prefix, Unread, objects_in, table_of
 from .linux import LOCAL_TABLE, MAIN_TABLE
 
 
@@ -118,13 +116,7 @@ class Vrfs:
 
 def vrfs_in(content: bytes, name: str) -> Vrfs:
     """The VRFs in the JSON of `ip -d -j link`."""
-    try:
-        listed = json.loads(decoded(content, name))
-    except (ValueError, RecursionError):
-        raise Fault(f"{name}: no JSON, as `ip -d -j link` writes it") from None
-    if not isinstance(listed, list) or not all(isinstance(one, dict) for one in listed):
-        raise Fault(f"{name}: no list of interfaces, as `ip -d -j link` writes it")
-    found = Vrfs()
+    found, listed = Vrfs(), objects_in(content, name, "interfaces", "ip -d -j link")
     for one in listed:
         info = _object(one.get("linkinfo"))
         if info.get("info_kind") == "vrf":

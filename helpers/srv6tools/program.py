@@ -23,16 +23,17 @@ class Answer:
     err: str
 
 
-def find_program() -> str | None:
-    """The path of the program: $SRV6, else the one that the repository built, else the one on
-    PATH.
+def find_program(name: str = "srv6") -> str | None:
+    """The path of the program srv6, or of srv6-pce: $SRV6 or $SRV6_PCE, else the one that the
+    repository built, else the one on PATH.
     """
-    if named := os.environ.get("SRV6"):
+    crate = name.replace("-", "_")
+    if named := os.environ.get(crate.upper()):
         return named
-    built = REPOSITORY / "crates" / "srv6" / "out" / "srv6"
+    built = REPOSITORY / "crates" / crate / "out" / crate
     if built.is_file() and os.access(built, os.X_OK):
         return str(built)
-    return shutil.which("srv6")
+    return shutil.which(name)
 
 
 def the_program() -> str:

@@ -4,6 +4,7 @@ from __future__ import annotations
 
 import argparse
 import re
+from collections.abc import Container
 from ipaddress import IPv6Address, IPv6Network
 
 from .items import address_of, prefix_of
@@ -44,21 +45,20 @@ def place_word(text: str) -> str:
 
 def substitutes_word(text: str) -> IPv6Network:
     """The prefix of the addresses that stand in for others."""
-    try:
-        prefix = prefix_of(text)
-    except ValueError:
-        raise argparse.ArgumentTypeError(f"{text!r} is no prefix") from None
-    if prefix.version != 6 or prefix.prefixlen > 112:
-        raise argparse.ArgumentTypeError(f"{text!r} is no IPv6 prefix of at most 112 bits")
-    return prefix
+    return _prefix_word(text, range(113), "IPv6 prefix of at most 112 bits")
 
 
 def block_word(text: str) -> IPv6Network:
     """A block."""
+    return _prefix_word(text, BLOCK_LENGTHS, f"block of {', '.join(map(str, BLOCK_LENGTHS))} bits")
+
+
+def _prefix_word(text: str, lengths: Container[int], what: str) -> IPv6Network:
+    """A prefix of IPv6 that has one of these lengths."""
     try:
         prefix = prefix_of(text)
     except ValueError:
         raise argparse.ArgumentTypeError(f"{text!r} is no prefix") from None
-    if prefix.version != 6 or prefix.prefixlen not in BLOCK_LENGTHS:
-        raise argparse.ArgumentTypeError(f"{text!r} is no block of {', '.join(map(str, BLOCK_LENGTHS))} bits")
+    if prefix.version != 6 or prefix.prefixlen not in lengths:
+        raise argparse.ArgumentTypeError(f"{text!r} is no {what}")
     return prefix

@@ -6,6 +6,7 @@ import resource
 import select
 import signal
 import subprocess
+import sys
 import threading
 import time
 from collections.abc import Iterator
@@ -51,8 +52,9 @@ def started(**more) -> Iterator[subprocess.Popen]:
 
 def said_within(engine: subprocess.Popen, seconds: float) -> bytes:
     """What it says next, nothing where it says nothing for so long."""
-    there, _, _ = select.select([engine.stdout], [], [], seconds)
-    return os.read(engine.stdout.fileno(), MIB) if there else b""
+    asked = select.poll()
+    asked.register(engine.stdout, select.POLLIN)
+    return os.read(engine.stdout.fileno(), MIB) if asked.poll(1000 * seconds) else b""
 
 
 class InTime(ToolCase):
@@ -91,9 +93,9 @@ class Input(InTime):
 
     def test_a_client_that_is_killed_ends_the_input(self):
         with started() as engine:
-            held = os.dup(engine.stdin.fileno())
-            writer = subprocess.Popen(["sh", "-c", 'printf %s "$0" >&3; kill -9 $$', ASK[:7]], pass_fds=[3], preexec_fn=lambda: os.dup2(held, 3))
-            os.close(held)
+            script = "import os, sys; os.write(int(sys.argv[1]), sys.argv[2].encode()); os.kill(os.getpid(), 9)"
+            into = engine.stdin.fileno()
+            writer = subprocess.Popen([sys.executable, "-c", script, str(into), ASK[:7]], pass_fds=[into])
             engine.stdin.close()
             self.assertEqual(writer.wait(SECONDS), -signal.SIGKILL)
             self.assertEqual(engine.stdout.read(), BAD_JSON)
