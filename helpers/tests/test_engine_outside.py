@@ -176,7 +176,9 @@ class Killed(InTime):
     """What a client and the tools over it are told of an engine that is killed."""
 
     def test_between_requests(self):
-        for end in (signal.SIGKILL, signal.SIGTERM, signal.SIGINT):
+        # a shell's work in the background ignores SIGINT, and so does what it starts
+        ends = [end for end in (signal.SIGKILL, signal.SIGTERM, signal.SIGINT) if signal.getsignal(end) is not signal.SIG_IGN]
+        for end in ends:
             with self.subTest(end), Engine() as engine:
                 engine.version()
                 os.kill(engine._process.pid, end)
